@@ -1,0 +1,17 @@
+//! What every other crate speaks of: byte texts, places in a file, fuel, and want of memory.
+#![tactic(auto)]
+
+mod construct;
+mod fuel;
+mod memory;
+mod place;
+mod text;
+
+pub use construct::Construct;
+pub use fuel::{Fuel, Spent};
+pub use memory::NoMemory;
+pub use place::{Place, Span};
+pub use text::Text;
+
+#[cfg(test)]
+mod tests;

@@ -1,0 +1,33 @@
+use super::*;
+use std::test::Fail;
+
+#[test]
+fn a_text_grows_and_is_compared_by_its_bytes(rt: HostRuntime) -> Result<(), Fail> {
+    let mut text = Text::from_slice(rt.alloc(), b"ab")?;
+    text.add(b"c")?;
+    let other = Text::from_vec(text.copy(rt.alloc())?.into_vec());
+    assert!(rt; text == other);
+    assert!(rt; Text::new(rt.alloc()) < text);
+    assert_eq!(rt; other.bytes(), b"abc".as_slice());
+    Ok(())
+}
+
+#[test]
+fn fuel_is_taken_whole_or_not_at_all(rt: HostRuntime) {
+    let mut fuel = Fuel::new(3);
+    assert!(rt; fuel.spend(2).is_ok());
+    assert!(rt; fuel.spend(2) == Err(Spent));
+    assert_eq!(rt; fuel.left(), 1);
+}
+
+#[test]
+fn copies_are_equal(rt: HostRuntime) -> Result<(), Fail> {
+    let place = Place {
+        file: Text::from_slice(rt.alloc(), b"Makefile")?,
+        line: 2,
+    };
+    assert!(rt; place.copy(rt.alloc())? == place);
+    let construct = Construct::Letter(Text::from_slice(rt.alloc(), b"ls")?, b'l');
+    assert!(rt; construct.copy(rt.alloc())? == construct);
+    Ok(())
+}
