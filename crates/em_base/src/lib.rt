@@ -5,12 +5,14 @@ mod construct;
 mod fuel;
 mod memory;
 mod place;
+mod seq;
 mod text;
 
 pub use construct::Construct;
 pub use fuel::{Fuel, Spent};
 pub use memory::NoMemory;
 pub use place::{Place, Span};
+pub use seq::Seq;
 pub use text::Text;
 
 #[cfg(test)]

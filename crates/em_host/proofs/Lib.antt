@@ -1,0 +1,3 @@
+pub mod Counts
+mod Named
+pub mod Telling

@@ -1,0 +1,17 @@
+//! The outside: files under names, and one output.
+#![tactic(auto)]
+
+mod faults;
+mod host;
+mod mem;
+mod no;
+mod real;
+mod table;
+
+pub use host::Host;
+pub use mem::MemHost;
+pub use no::HostNo;
+pub use real::RealHost;
+
+#[cfg(test)]
+mod tests;

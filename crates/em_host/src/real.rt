@@ -1,0 +1,179 @@
+//! The real outside: the system's files and standard output.
+ghost use Rattle.std.specs.Prelude.{◌≡◌, None};
+
+use crate::faults::faults_after;
+use crate::host::Host;
+use crate::no::HostNo;
+use std::alloc::Global;
+use std::fs::{File, OpenFile};
+use std::io::{Error, ErrorKind, Read, Write};
+use std::marker::Model;
+use std::path::{Path, PathBuf};
+use std::rt::Files;
+use std::{fs, io, str};
+
+/// How many reads or writes one call makes at most. One that needs more fails.
+const MOST_TURNS: u64 = 4_294_967_296;
+
+/// How many bytes one read asks for.
+const PIECE_SIZE: usize = 65_536;
+
+/// How many names are tried for a new file.
+const MOST_NAMES: u32 = 1_000;
+
+/// The system's files, and standard output. Contracts see how many calls have failed.
+///
+/// A name is a path of the system, in UTF-8: any other name fails. A file is replaced by a new file
+/// in the same folder that is renamed over it, so the old one stands whole until the new one does.
+/// The new file has the permissions that the system gives to new files.
+#[derive(Drop)]
+pub struct RealHost<R> {
+    rt: R,
+    faults: u64,
+}
+
+impl<R> Model for RealHost<R> {
+    ghost use Rattle.std.specs.Prelude.{ℕ};
+
+    ghost Value = { ℕ };
+
+    ghost view = { λ h. h.faults };
+}
+
+impl<R> RealHost<R> {
+    /// The outside that this runtime reaches, of which no call has failed.
+    pub fn new(rt: R) -> RealHost<R>
+        ensures { result ≡ 0 }
+    {
+        RealHost { rt, faults: 0 }
+    }
+}
+
+/// Nothing is told of what files hold or what was printed.
+impl<R: Files + Print + Drop + Send> Host for RealHost<R> {
+    ghost told = { λ _. None };
+
+    ghost faults = { λ faults. faults };
+
+    fn take(&mut self, alloc: Global, name: &[u8]) -> Result<Option<Vec<u8>>, HostNo> {
+        let answer = take_file(&self.rt, alloc, name);
+        self.faults = faults_after(self.faults, &answer);
+        answer
+    }
+
+    fn replace(&mut self, alloc: Global, name: &[u8], bytes: &[u8]) -> Result<(), HostNo> {
+        let answer = replace_file(&self.rt, alloc, name, bytes);
+        self.faults = faults_after(self.faults, &answer);
+        answer
+    }
+
+    fn print(&mut self, bytes: &[u8]) -> Result<(), HostNo> {
+        let answer = write_whole(&mut io::writer(&self.rt), bytes);
+        self.faults = faults_after(self.faults, &answer);
+        answer
+    }
+}
+
+/// The name as a path.
+fn path_of(name: &[u8]) -> Result<&str, HostNo> {
+    str::from_utf8(name).map_err(|_| HostNo::Failed)
+}
+
+/// The bytes of a file, or None where the system says that there is no such file.
+fn take_file<R: Files>(rt: &R, alloc: Global, name: &[u8]) -> Result<Option<Vec<u8>>, HostNo> {
+    match fs::open(rt, path_of(name)?) {
+        Ok(mut file) => Ok(Some(read_whole(alloc, &mut file)?)),
+        Err(e) => {
+            if e.kind() == ErrorKind::NotFound {
+                Ok(None)
+            } else {
+                Err(HostNo::from(e))
+            }
+        }
+    }
+}
+
+/// Makes the file these bytes. On Err it is as before, and no other file was touched.
+fn replace_file<R: Files>(rt: &R, alloc: Global, name: &[u8], bytes: &[u8]) -> Result<(), HostNo> {
+    let path = path_of(name)?;
+    let (mut file, new) = create_beside(rt, alloc, path)?;
+    let filled = fill(&mut file, bytes);
+    drop(file);
+    let moved = filled.and_then(|()| Ok(fs::rename(rt, new.as_path(), path)?));
+    if moved.is_err() {
+        // Nothing more can be done about a new file that can't be removed either.
+        let _ = fs::remove_file(rt, new.as_path());
+    }
+    moved
+}
+
+/// A new file in the folder of this path, with its own path. No file that is there is touched.
+fn create_beside<R: Files>(
+    rt: &R,
+    alloc: Global,
+    path: &str,
+) -> Result<(R::File, PathBuf), HostNo> {
+    for number in 0..MOST_NAMES {
+        let name = format!(in alloc; ".emake-new-{number}")?;
+        let new = Path::new(path).with_file_name(alloc, name.as_str())?;
+        match File::create_new(rt, new.as_path()) {
+            Ok(file) => return Ok((file, new)),
+            Err(e) => {
+                if e.kind() != ErrorKind::AlreadyExists {
+                    return Err(HostNo::from(e));
+                }
+            }
+        }
+    }
+    Err(HostNo::Failed)
+}
+
+/// Writes the bytes to a new file, and sees them kept.
+fn fill<F: Write + OpenFile>(file: &mut F, bytes: &[u8]) -> Result<(), HostNo> {
+    write_whole(file, bytes)?;
+    file.sync_all()?;
+    Ok(())
+}
+
+/// Everything that is left to read.
+fn read_whole(alloc: Global, from: &mut impl Read) -> Result<Vec<u8>, HostNo> {
+    let mut piece = vec![in alloc; 0u8; PIECE_SIZE]?;
+    let mut whole = Vec::new(alloc);
+    for _ in 0..MOST_TURNS {
+        match from.read(&mut piece) {
+            Ok(0) => return Ok(whole),
+            Ok(n) => whole.extend_from_slice(&piece[..n])?,
+            Err(e) => go_on_after(e)?,
+        }
+    }
+    Err(HostNo::Failed)
+}
+
+/// Writes all of the bytes. On Err a front of them was written.
+fn write_whole(to: &mut impl Write, bytes: &[u8]) -> Result<(), HostNo> {
+    let mut rest = bytes;
+    for _ in 0..MOST_TURNS {
+        if rest.is_empty() {
+            break;
+        }
+        match to.write(rest) {
+            Ok(0) => return Err(HostNo::Failed),
+            Ok(n) => rest = &rest[n..],
+            Err(e) => go_on_after(e)?,
+        }
+    }
+    if rest.is_empty() {
+        Ok(())
+    } else {
+        Err(HostNo::Failed)
+    }
+}
+
+/// Only a read or write that a signal interrupted is tried again.
+fn go_on_after(e: Error) -> Result<(), HostNo> {
+    if e.kind() == ErrorKind::Interrupted {
+        Ok(())
+    } else {
+        Err(HostNo::from(e))
+    }
+}
