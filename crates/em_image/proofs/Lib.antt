@@ -1,0 +1,11 @@
+pub mod Steps
+pub mod Digits
+pub mod Names
+pub mod Fields
+pub mod Nodes
+pub mod Order
+pub mod Chain
+pub mod Whole
+pub mod Laws
+pub mod Loop
+pub mod Written

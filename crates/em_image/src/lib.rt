@@ -1,0 +1,20 @@
+//! The text of a tree: reading it, with the first fault and its place, and writing it.
+#![tactic(auto)]
+
+mod cursor;
+mod header;
+mod law;
+mod lines;
+mod no;
+mod numbers;
+mod parts;
+mod reading;
+mod writing;
+
+pub use law::{one_tree_of_a_text, the_test_tells_paths};
+pub use no::{ImageNo, Which};
+pub use reading::read_image;
+pub use writing::write_image;
+
+#[cfg(test)]
+mod tests;

@@ -1,0 +1,77 @@
+//! The line of a node.
+ghost use Rattle.std.specs.Prelude.{◌≡◌, IfOk};
+ghost use Rattle.em_path.specs.Paths.{IsPath};
+ghost use Rattle.em_image.specs.Image.{limits};
+ghost use Rattle.em_image.specs.Parts.{Gives, seen, skip, stamp_at, size_at, path_at};
+ghost use Rattle.em_image.specs.Reading.{header_at};
+ghost use Rattle.em_image.specs.Headers.{header_of};
+
+use crate::cursor::Cursor;
+use crate::header::Header;
+use crate::no::{ImageNo, Which};
+use crate::numbers::number;
+use crate::parts::{fixed, line, skipped};
+use em_path::Path;
+use std::alloc::Global;
+
+/// The greatest stamp that an image may have.
+pub const MAX_STAMP: u64 = 1 << 62;
+
+/// The most bytes that a file may have.
+pub const MAX_FILE: u64 = 16_777_216;
+
+/// Takes a stamp between blanks.
+#[tactic(auto, unfolding(crate::specs::Parts::stamp_at))]
+fn stamp(cursor: Cursor) -> Result<(u64, Cursor), ImageNo>
+    ensures { Gives (λ x. (x.0, seen x.1)) result (stamp_at limits (seen cursor.entry)) }
+{
+    let cursor = fixed(cursor, b' ')?;
+    let (stamp, cursor) = number(cursor, Which::Stamp, MAX_STAMP)?;
+    let cursor = fixed(cursor, b' ')?;
+    Ok((stamp, cursor))
+}
+
+/// Takes of a file the number of its bytes and a blank, and of a directory nothing.
+#[tactic(auto, unfolding(crate::specs::Parts::size_at))]
+fn size(cursor: Cursor, is_file: bool) -> Result<(Option<u64>, Cursor), ImageNo>
+    ensures { Gives (λ x. (x.0, seen x.1)) result (size_at limits is_file (seen cursor.entry)) }
+{
+    if !is_file {
+        return Ok((None, cursor));
+    }
+    let (size, cursor) = number(cursor, Which::File, MAX_FILE)?;
+    let cursor = fixed(cursor, b' ')?;
+    Ok((Some(size), cursor))
+}
+
+/// Takes the text of a path, and the newline behind it.
+#[tactic(auto, unfolding(crate::specs::Parts::path_at))]
+fn path(alloc: Global, cursor: Cursor) -> Result<(Path, Cursor), ImageNo>
+    ensures { Gives (λ x. (x.0, seen x.1)) result (path_at (seen cursor.entry)) }
+{
+    let (text, after) = line(cursor)?;
+    match Path::from_text(alloc, text)? {
+        None => Err(ImageNo::Path { at: cursor.at }),
+        Some(path) => Ok((path, skipped(after, 1))),
+    }
+}
+
+/// Takes the line of a node behind its letter.
+#[tactic(auto, unfolding(crate::specs::Reading::header_at))]
+pub fn header(alloc: Global, cursor: Cursor, is_file: bool) -> Result<(Header, Cursor), ImageNo>
+    ensures { Gives (λ x. (header_of x.0, seen x.1)) result (header_at limits is_file (seen cursor.entry)) }
+{
+    let (stamp, cursor) = stamp(cursor)?;
+    let (size, cursor) = size(cursor, is_file)?;
+    let place = cursor.at;
+    let (path, cursor) = path(alloc, cursor)?;
+    Ok((
+        Header {
+            stamp,
+            size,
+            path,
+            place,
+        },
+        cursor,
+    ))
+}

@@ -1,0 +1,169 @@
+//! Reading an image from the left.
+ghost use Rattle.std.specs.Prelude.{◌≡◌, ◌-◌, ℕ, IfOk, Ok, None};
+ghost use Rattle.std.specs.FinMap as map;
+ghost use Rattle.em_path.specs.Paths.{root_text, parent_text};
+ghost use Rattle.em_tree.specs.declared.node.Node.TheVariants as node;
+ghost use Rattle.em_tree.specs.Trees.{Table};
+ghost use Rattle.em_image.specs.Image.{IsImage, limits, broken};
+ghost use Rattle.em_image.specs.Parts.{Gives, seen};
+ghost use Rattle.em_image.specs.Reading.{has_dir, root_at, body_at, node_at, nodes_at, reading};
+
+use crate::cursor::{Cursor, Mark};
+use crate::header::Header;
+use crate::lines::header;
+use crate::no::{ImageNo, Which};
+use crate::parts::{end, fixed, mark, skipped, text};
+use em_base::NoMemory;
+use em_path::Path;
+use em_tree::{Body, Kind, Node, Tree};
+use std::alloc::Global;
+
+/// The most bytes that an image may have.
+pub const MAX_IMAGE: usize = 67_108_864;
+
+/// The most nodes that an image may have.
+pub const MAX_NODES: usize = 100_000;
+
+/// Takes the first node, which is the directory `/`, and gives its stamp.
+#[tactic(auto, unfolding(crate::specs::Reading::root_at))]
+fn root(alloc: Global, cursor: Cursor) -> Result<(u64, Cursor), ImageNo>
+    ensures { Gives (λ x. (x.0, seen x.1)) result (root_at limits (seen cursor.entry)) }
+{
+    let (mark, after) = mark(cursor)?;
+    let is_file = match mark {
+        Mark::End => return Err(ImageNo::Form { at: cursor.at }),
+        Mark::Dir => false,
+        Mark::File => true,
+    };
+    let (header, after) = header(alloc, after, is_file)?;
+    if is_file || header.path.text() != b"/".as_slice() {
+        return Err(ImageNo::Parent { at: header.place });
+    }
+    Ok((header.stamp, after))
+}
+
+/// Takes of a file its bytes and a newline, and of a directory nothing. The bytes are copied once.
+#[tactic(auto, unfolding(crate::specs::Reading::body_at))]
+fn body(
+    alloc: Global,
+    cursor: Cursor,
+    stamp: u64,
+    size: Option<u64>,
+) -> Result<(Node, Cursor), ImageNo>
+    ensures { Gives (λ x. (x.0, seen x.1)) result (body_at stamp size (seen cursor.entry)) }
+{
+    let Some(size) = size else {
+        return Ok((Node::Dir { stamp }, cursor));
+    };
+    let size = size as usize;
+    if cursor.rest.len() < size {
+        return Err(ImageNo::Short { at: end(cursor) });
+    }
+    let bytes = &cursor.rest[..size];
+    let after = fixed(skipped(cursor, size), b'\n')?;
+    let body = Body::from_slice(alloc, bytes)?;
+    Ok((Node::File { body, stamp }, after))
+}
+
+/// Whether the parent of a path is a directory of the tree.
+fn has_parent(alloc: Global, tree: &Tree, path: &Path) -> Result<bool, NoMemory>
+    ensures { IfOk result (λ b. b ≡ has_dir tree.now (parent_text path.now)) }
+{
+    match path.parent(alloc) {
+        Err(_) => Err(NoMemory),
+        Ok(None) => Ok(false),
+        Ok(Some(parent)) => Ok(tree.kind(&parent) == Kind::Dir),
+    }
+}
+
+/// Takes a node behind the path `last`, where `tree` was read.
+#[tactic(auto, unfolding(crate::specs::Reading::node_at))]
+fn node<'a>(
+    alloc: Global,
+    tree: &Tree,
+    last: &Path,
+    cursor: Cursor<'a>,
+    is_file: bool,
+) -> Result<(Path, Node, Cursor<'a>), ImageNo>
+    ensures { Gives (λ x. ((x.0, x.1), seen x.2)) result (node_at limits is_file last.now tree.now (seen cursor.entry)) }
+{
+    let (header, after) = header(alloc, cursor, is_file)?;
+    let Header {
+        stamp,
+        size,
+        path,
+        place,
+    } = header;
+    if !last.cmp(&path).is_lt() {
+        return Err(ImageNo::Order { at: place });
+    }
+    if !has_parent(alloc, tree, &path)? {
+        return Err(ImageNo::Parent { at: place });
+    }
+    let (node, after) = body(alloc, after, stamp, size)?;
+    Ok((path, node, after))
+}
+
+/// Takes the nodes behind the root, and the `.` of the end.
+fn nodes(alloc: Global, root_stamp: u64, cursor: Cursor) -> Result<(Tree, Cursor), ImageNo>
+    ensures { Gives (λ x. (x.0, seen x.1)) result (nodes_at limits (limits.nodes - 1) root_text (map.insert map.empty root_text (node.Dir root_stamp)) (seen cursor.entry)) }
+{
+    let mut tree = Tree::new(alloc, root_stamp)?;
+    let mut last = Path::root();
+    let mut here = cursor;
+    for _ in 1..MAX_NODES {
+        let (mark, after) = mark(here)?;
+        let is_file = match mark {
+            Mark::End => return Ok((tree, after)),
+            Mark::Dir => false,
+            Mark::File => true,
+        };
+        let (path, node, after) = node(alloc, &tree, &last, after, is_file)?;
+        last = path.copy()?;
+        tree.set(path, node)?;
+        here = after;
+    }
+    let (mark, after) = mark(here)?;
+    match mark {
+        Mark::End => Ok((tree, after)),
+        _ => Err(ImageNo::Limit {
+            which: Which::Nodes,
+            at: here.at,
+        }),
+    }
+}
+
+/// The tree of the whole input.
+#[tactic(auto, unfolding(crate::specs::Reading::reading))]
+fn whole(alloc: Global, bytes: &[u8]) -> Result<Tree, ImageNo>
+    ensures { Gives (λ t. t) result (reading limits bytes.now) }
+{
+    if bytes.len() > MAX_IMAGE {
+        return Err(ImageNo::Limit {
+            which: Which::Image,
+            at: 67_108_864,
+        });
+    }
+    let start = Cursor { at: 0, rest: bytes };
+    let cursor = text(start, b"EMTREE 1\n")?;
+    let (stamp, cursor) = root(alloc, cursor)?;
+    let (tree, cursor) = nodes(alloc, stamp, cursor)?;
+    let cursor = fixed(cursor, b'\n')?;
+    if !cursor.rest.is_empty() {
+        return Err(ImageNo::Rest { at: cursor.at });
+    }
+    Ok(tree)
+}
+
+/// The tree whose text this is. The first fault from the left is the error; what each is and its place is said at `ImageNo`.
+/// Each file's bytes are copied once.
+pub fn read_image(alloc: Global, bytes: &[u8]) -> Result<Tree, ImageNo>
+    // The bytes are the tree's text, and the tree breaks no limit.
+    ensures found { IfOk result (λ t. IsImage bytes.now t × (broken limits t ≡ None)) }
+    // A text of a tree that breaks no limit is read as that tree, unless memory runs out.
+    ensures only { (t : Table) → IsImage bytes.now t → broken limits t ≡ None → Gives (λ u. u) result (Ok t) }
+    // Which fault it is, and where.
+    ensures exact { Gives (λ t. t) result (reading limits bytes.now) }
+{
+    whole(alloc, bytes)
+}

@@ -1,0 +1,157 @@
+use super::*;
+use em_tree::Tree;
+use std::test::Fail;
+
+const SAMPLE: [u8; 50] = *b"EMTREE 1\nd 1 /\nf 1 15 /Makefile\nall:\n\t@echo hi\n\n.\n";
+
+fn fault(rt: &HostRuntime, bytes: &[u8]) -> Option<ImageNo> {
+    read_image(rt.alloc(), bytes).err()
+}
+
+#[test]
+fn an_image_is_read_and_written_again(rt: HostRuntime) -> Result<(), Fail> {
+    let tree = read_image(rt.alloc(), &SAMPLE)?;
+    assert_eq!(rt; tree.count(), 2);
+    let text = write_image(rt.alloc(), &tree)?;
+    assert_eq!(rt; text.bytes(), SAMPLE.as_slice());
+    one_tree_of_a_text();
+    the_test_tells_paths();
+    Ok(())
+}
+
+#[test]
+fn the_least_image_and_the_latest_stamp_are_read(rt: HostRuntime) -> Result<(), Fail> {
+    let least = read_image(rt.alloc(), b"EMTREE 1\nd 0 /\n.\n")?;
+    assert_eq!(rt; least.count(), 1);
+    let late = read_image(rt.alloc(), b"EMTREE 1\nd 4611686018427387904 /\n.\n")?;
+    assert_eq!(rt; late.base(), 1 << 62);
+    Ok(())
+}
+
+#[test]
+fn each_fault_has_its_place(rt: HostRuntime) {
+    let stamp = Which::Stamp;
+    let file = Which::File;
+    let rows: [(&[u8], ImageNo); 18] = [
+        (
+            b"EMTREE 1\nd 0 /\nf 01 0 /a\n\n.\n",
+            ImageNo::Number { at: 17 },
+        ),
+        (b"EMTREE 1\nd  /\n.\n", ImageNo::Number { at: 11 }),
+        (
+            b"EMTREE 1\nd 0 /\nf 0 0 /b\n\nf 0 0 /a\n\n.\n",
+            ImageNo::Order { at: 31 },
+        ),
+        (
+            b"EMTREE 1\nd 0 /\nd 0 /a\nd 0 /a\n.\n",
+            ImageNo::Order { at: 26 },
+        ),
+        (b"EMTREE 1\nd 0 /\nd 0 /\n.\n", ImageNo::Order { at: 19 }),
+        (
+            b"EMTREE 1\nd 0 /\nf 0 0 /a/b\n\n.\n",
+            ImageNo::Parent { at: 21 },
+        ),
+        (
+            b"EMTREE 1\nd 0 /\nf 0 0 /a\n\nd 0 /a/b\n.\n",
+            ImageNo::Parent { at: 29 },
+        ),
+        (b"EMTREE 1\nf 0 0 /\n\n.\n", ImageNo::Parent { at: 15 }),
+        (b"EMTREE 1\nd 0 /a\n.\n", ImageNo::Parent { at: 13 }),
+        (b"EMTREE 1\nd 0 /\nd 0 /a/\n.\n", ImageNo::Path { at: 19 }),
+        (b"EMTREE 2\nd 0 /\n.\n", ImageNo::Form { at: 7 }),
+        (b"EMTREE 1\n.\n", ImageNo::Form { at: 9 }),
+        (
+            b"EMTREE 1\nd 0 /\nl 0 1 /a\nb\n.\n",
+            ImageNo::Form { at: 15 },
+        ),
+        (
+            b"EMTREE 1\nd 0 /\nf 0 1 /a\nbc.\n",
+            ImageNo::Form { at: 25 },
+        ),
+        (b"EMTREE 1\nd 0 /\n.\nx", ImageNo::Rest { at: 17 }),
+        (
+            b"EMTREE 1\nd 4611686018427387905 /\n.\n",
+            ImageNo::Limit {
+                which: stamp,
+                at: 11,
+            },
+        ),
+        (
+            b"EMTREE 1\nd 99999999999999999999999999 /\n.\n",
+            ImageNo::Limit {
+                which: stamp,
+                at: 11,
+            },
+        ),
+        (
+            b"EMTREE 1\nd 0 /\nf 0 16777217 /a\n",
+            ImageNo::Limit {
+                which: file,
+                at: 19,
+            },
+        ),
+    ];
+    for (bytes, no) in rows {
+        assert_eq!(rt; fault(&rt, bytes), Some(no));
+    }
+}
+
+#[test]
+fn a_cut_image_is_short_at_its_end(rt: HostRuntime) {
+    for n in 0..50 {
+        let at = n as u32;
+        assert_eq!(rt; fault(&rt, &SAMPLE[..n]), Some(ImageNo::Short { at }));
+    }
+}
+
+#[test]
+fn a_byte_of_zeros_is_refused_or_kept(rt: HostRuntime) -> Result<(), Fail> {
+    for n in 0..50 {
+        let mut bytes = SAMPLE;
+        bytes[n] = 0;
+        if let Ok(tree) = read_image(rt.alloc(), &bytes) {
+            let text = write_image(rt.alloc(), &tree)?;
+            assert_eq!(rt; text.bytes(), bytes.as_slice());
+        }
+    }
+    Ok(())
+}
+
+#[test]
+fn a_late_stamp_is_not_written(rt: HostRuntime) -> Result<(), Fail> {
+    let tree = Tree::new(rt.alloc(), (1 << 62) + 1)?;
+    let which = Which::Stamp;
+    assert_eq!(rt;
+        write_image(rt.alloc(), &tree).err(),
+        Some(ImageNo::Limit { which, at: 0 })
+    );
+    Ok(())
+}
+
+/// The text of an image with the root and `count` directories below it.
+fn directories(rt: &HostRuntime, count: u32) -> Result<Vec<u8>, Fail> {
+    let mut text = Vec::from_slice(rt.alloc(), b"EMTREE 1\nd 0 /\n")?;
+    for i in 0..count {
+        let line = format!(in rt.alloc(); "d 0 /{i:06}\n")?;
+        text.extend_from_slice(line.as_bytes())?;
+    }
+    text.extend_from_slice(b".\n")?;
+    Ok(text)
+}
+
+#[test]
+fn the_hundred_thousandth_node_is_the_last(rt: HostRuntime) -> Result<(), Fail> {
+    let full = directories(&rt, 99_999)?;
+    let tree = read_image(rt.alloc(), &full)?;
+    assert_eq!(rt; write_image(rt.alloc(), &tree)?.bytes(), full.as_slice());
+    let over = directories(&rt, 100_000)?;
+    let which = Which::Nodes;
+    assert_eq!(rt;
+        fault(&rt, &over),
+        Some(ImageNo::Limit {
+            which,
+            at: 1_200_003
+        })
+    );
+    Ok(())
+}

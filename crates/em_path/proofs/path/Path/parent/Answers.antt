@@ -1,0 +1,28 @@
+use Rattle.std.proofs.Common.{◌≡◌, ◌<◌, Some, sym, ap, subst, ◌∙◌, take, List, ℕ, arith}
+use Rattle.em_path.specs.Paths.{IsPath, parent_text, root_text}
+use Rattle.em_path.proofs.Spelling.{root_parent, parent_is, parent_is_path, path_begins, IsLastSlash}
+use Rattle.em_path.proofs.path.Path.parent.Goals as goal
+
+pub returns-then-at-eq0-clause-ok : goal.returns-then-at-eq0-clause-ok
+returns-then-at-eq0-clause-ok c =
+    let t = c.text-text.result.now in
+    let at = c.last_slash-at in
+    let is = root_parent t at.result c.if-text-eq1.false record { bound = at.ensures.bound; found = at.ensures.found; after = at.ensures.after } c.if-at-eq0.true in
+    ap (λ p. Some p) c.root.ensures.text ∙ subst (λ (q : List ℕ). Some root_text ≡ parent_text q) c.text-text.ensures.text is
+
+pub invariant_of-result : goal.invariant_of-result
+invariant_of-result c =
+    let t = c.text-text.result.now in
+    let at = c.last_slash-at in
+    let path : IsPath t = subst IsPath (sym c.text-text.ensures.text) c.text-text.ensures.path in
+    let after : 0 < at.result = omega arith in
+    subst IsPath (sym c.in_ok-copy_from_slice.ensures) (parent_is_path t at.result path c.if-text-eq1.false record { bound = at.ensures.bound; found = at.ensures.found; after = at.ensures.after } (path_begins t path).1 after)
+
+pub returns-clause-ok : goal.returns-clause-ok
+returns-clause-ok c =
+    let t = c.text-text.result.now in
+    let at = c.last_slash-at in
+    let path : IsPath t = subst IsPath (sym c.text-text.ensures.text) c.text-text.ensures.path in
+    let after : 0 < at.result = omega arith in
+    let is = parent_is t at.result c.if-text-eq1.false record { bound = at.ensures.bound; found = at.ensures.found; after = at.ensures.after } (path_begins t path).1 after in
+    ap (λ p. Some p) c.in_ok-copy_from_slice.ensures ∙ subst (λ (q : List ℕ). Some (take at.result t) ≡ parent_text q) c.text-text.ensures.text is

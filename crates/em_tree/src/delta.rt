@@ -1,0 +1,89 @@
+//! Changes of a tree.
+ghost use Rattle.std.specs.Prelude.{◌≡◌, IfOk, OnOk, OnErr, length, slice_get, option_copied, option_map, Some, None};
+ghost use Rattle.std.specs.FinMap as map;
+
+use crate::map::PathMap;
+use crate::node::Node;
+use em_base::NoMemory;
+use em_path::Path;
+use std::alloc::Global;
+use std::collections::btree_map::Iter;
+use std::marker::Model;
+
+/// What paths become: a node, or absent. Contracts see the finite map.
+#[derive(Drop)]
+pub struct Delta {
+    pub(crate) named: PathMap<Option<Node>>,
+}
+
+impl Model for Delta {
+    ghost use Rattle.std.specs.Prelude.{ℕ, List, IsSome};
+    ghost use Rattle.std.specs.FinMap as map;
+    ghost use Rattle.std.specs.Coded.{coded_ℕ, coded_list, coded_option};
+    ghost use Rattle.em_path.specs.Paths.{IsPath};
+    ghost use Rattle.em_tree.specs.contracts.node.Node as node;
+    ghost use Rattle.em_tree.specs.Trees.{Changes};
+
+    ghost Value = { Changes };
+
+    ghost coded = { map.code (coded_list coded_ℕ) (coded_option node.the_row.coded) };
+
+    ghost view = { λ d. d.named };
+}
+
+impl Delta {
+    /// No changes.
+    pub fn new(alloc: Global) -> Delta
+        ensures { result ≡ map.empty }
+    {
+        Delta {
+            named: PathMap::new(alloc),
+        }
+    }
+
+    /// What a path becomes; `None` exactly where it isn't named.
+    pub fn get(&self, p: &Path) -> Option<&Option<Node>>
+        ensures { option_copied result ≡ map.get self.now p.now }
+    {
+        self.named.get(p)
+    }
+
+    /// How many paths are named.
+    pub fn len(&self) -> usize
+        ensures { result ≡ map.len self.now }
+    {
+        self.named.len()
+    }
+
+    /// The i-th named path, from 0, in byte order, with what it becomes; `None` exactly where there are not so many. It costs i steps.
+    pub fn at(&self, i: usize) -> Option<(&Path, &Option<Node>)>
+        ensures { option_map (λ c. (c.0.now, c.1.now)) result ≡ slice_get (map.entries self.now) i }
+    {
+        self.named.at(i)
+    }
+
+    /// The named paths in byte order, each with what it becomes.
+    pub fn changes(&self) -> Iter<'_, Path, Option<Node>>
+        ensures { result ≡ map.entries self.now }
+    {
+        self.named.iter()
+    }
+
+    /// Makes a path a node, or absent for `None`.
+    pub fn set(&mut self, p: Path, n: Option<Node>) -> Result<(), NoMemory>
+        ensures ok { OnOk result (self.new ≡ map.insert self.old p n) }
+        ensures err { OnErr result (self.new ≡ self.old) }
+    {
+        self.named.insert(p, n)?;
+        Ok(())
+    }
+
+    /// An equal delta.
+    pub fn copy(&self) -> Result<Delta, NoMemory>
+        ensures { IfOk result (λ d. d ≡ self.now) }
+    {
+        Ok(Delta {
+            named: self.named.clone()?,
+        })
+    }
+}

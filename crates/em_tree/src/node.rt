@@ -1,0 +1,130 @@
+//! What stands at a path.
+ghost use Rattle.std.specs.Prelude.{◌≡◌, IfOk, nat_eq, Some};
+ghost use Rattle.em_tree.specs.Trees.{kind_of, stamp_in};
+ghost use Rattle.std.specs.Cmp.Lexicographic.{pointwise, nat_list_eq_equiv};
+ghost use Rattle.std.specs.Cmp.{partial_equiv_from_equiv};
+
+use bytes::Bytes;
+use em_base::NoMemory;
+use std::alloc::{AllocError, Global};
+use std::marker::Model;
+
+/// What kind of node stands at a path.
+#[derive(Clone, Copy, Debug, PartialEq, Eq)]
+pub enum Kind {
+    Absent,
+    File,
+    Dir,
+}
+
+/// The bytes of a file. Contracts see the list of its bytes; a copy shares them.
+#[derive(Debug, Drop)]
+pub struct Body {
+    shared: Bytes,
+}
+
+impl Model for Body {
+    ghost use Rattle.std.specs.Prelude.{List, ℕ};
+
+    ghost Value = { List ℕ };
+
+    ghost view = { λ b. b.shared };
+}
+
+impl Body {
+    /// A body of these bytes.
+    pub fn from_slice(alloc: Global, bytes: &[u8]) -> Result<Body, NoMemory>
+        ensures { IfOk result (λ b. b ≡ bytes.now) }
+    {
+        Ok(Body {
+            shared: Bytes::copy_from_slice(alloc, bytes)?,
+        })
+    }
+
+    /// The bytes.
+    pub fn bytes(&self) -> &[u8]
+        ensures { result.now ≡ self.now }
+    {
+        self.shared.as_slice()
+    }
+
+    /// An equal body, over the same bytes.
+    pub fn copy(&self) -> Result<Body, NoMemory>
+        ensures { IfOk result (λ b. b ≡ self.now) }
+    {
+        Ok(self.clone()?)
+    }
+}
+
+impl Clone for Body {
+    ghost is_clone = { λ b copy. copy ≡ b };
+
+    fn clone(&self) -> Result<Body, AllocError> {
+        Ok(Body {
+            shared: self.shared.clone()?,
+        })
+    }
+}
+
+impl PartialEq for Body {
+    ghost eq = { pointwise nat_eq };
+
+    ghost laws = { partial_equiv_from_equiv nat_list_eq_equiv };
+
+    fn eq(&self, other: &Self) -> bool {
+        self.shared == other.shared
+    }
+}
+
+impl Eq for Body {
+    ghost laws = { nat_list_eq_equiv };
+}
+
+/// A file with its bytes, or a directory. The stamp is the number of the change that made or touched it.
+#[derive(Debug, Drop, PartialEq, Eq)]
+pub enum Node {
+    File { body: Body, stamp: u64 },
+    Dir { stamp: u64 },
+}
+
+impl Node {
+    /// File or directory.
+    pub fn kind(&self) -> Kind
+        ensures { result ≡ kind_of (Some self.now) }
+    {
+        match self {
+            Node::File { .. } => Kind::File,
+            Node::Dir { .. } => Kind::Dir,
+        }
+    }
+
+    /// The number of the change that made or touched it.
+    pub fn stamp(&self) -> u64
+        ensures { result ≡ stamp_in self.now }
+    {
+        match self {
+            Node::File { stamp, .. } | Node::Dir { stamp } => *stamp,
+        }
+    }
+
+    /// An equal node, over the same bytes.
+    pub fn copy(&self) -> Result<Node, NoMemory>
+        ensures { IfOk result (λ n. n ≡ self.now) }
+    {
+        Ok(self.clone()?)
+    }
+}
+
+impl Clone for Node {
+    ghost is_clone = { λ n copy. copy ≡ n };
+
+    fn clone(&self) -> Result<Node, AllocError> {
+        Ok(match self {
+            Node::File { body, stamp } => Node::File {
+                body: body.clone()?,
+                stamp: *stamp,
+            },
+            Node::Dir { stamp } => Node::Dir { stamp: *stamp },
+        })
+    }
+}

@@ -1,0 +1,5 @@
+pub mod NameLemmas
+pub mod FitLemmas
+pub mod Laid
+pub mod Deliveries
+pub mod Ends

@@ -1,0 +1,11 @@
+pub mod Words
+pub mod Messages
+pub mod Effects
+pub mod Fits
+pub mod Serial
+pub mod Turns
+pub mod Delivery
+pub mod Loops
+pub mod Closing
+pub mod Endings
+pub mod Headline

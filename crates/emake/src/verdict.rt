@@ -1,0 +1,30 @@
+//! How a build that the host and memory let end has ended.
+ghost use Rattle.std.specs.Prelude.{◌≡◌};
+ghost use Rattle.emake.specs.Closing.{code_of};
+
+/// How a build ended that the host and memory let end.
+#[derive(Clone, Copy, Debug, PartialEq, Eq)]
+pub enum Verdict {
+    /// The goal is made.
+    Done,
+    /// Something was refused before the build, a line failed, a rule is missing, or the new image breaks a limit.
+    Faulty,
+    /// A job met a construct that is refused.
+    Refused,
+    /// A job's fuel was spent.
+    Spent,
+}
+
+impl Verdict {
+    /// The exit status: 0, 2, 4 or 5.
+    pub fn code(self) -> u8
+        ensures { result ≡ code_of self }
+    {
+        match self {
+            Verdict::Done => 0,
+            Verdict::Faulty => 2,
+            Verdict::Refused => 4,
+            Verdict::Spent => 5,
+        }
+    }
+}
