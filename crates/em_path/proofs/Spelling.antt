@@ -2,8 +2,12 @@
 --     components-path_text      a path's text has the components that it spells
 --     path_text-components      a text that begins with `/` is spelled by what stands between its slashes
 --     IsPath-spelled            what makes a path of components
-use Rattle.std.proofs.Common.{◌≡◌, ◌≢◌, ℕ, ◌+◌, ◌-◌, ◌<◌, ◌≤◌, ◌==◌, Bool, true, false, cond, eqb, List, [], ◌∷◌, ◌++◌, length, drop, take, All, get_or, refl, sym, ap, subst, ◌∙◌, arith, rules, ltb, zero, suc, Some, slice_get, length-append, length-drop, length-take, add-one, drop-cons, take-append-drop, get_or-drop, take_at}
+use Rattle.std.proofs.Common.{◌≡◌, ◌≢◌, ℕ, ◌+◌, ◌-◌, ◌<◌, ◌≤◌, ◌==◌, Bool, true, false, cond, eqb, List, [], ◌∷◌, ◌++◌, length, drop, take, All, get_or, refl, sym, ap, subst, ◌∙◌, arith, rules, ltb, zero, suc, Some, None, slice_get, length-append, length-drop, length-take, add-one, drop-cons, take-append-drop, get_or-drop, take_at}
 use Rattle.std.specs.Bool.{MatchBool, IsTrue}
+use Rattle.std.specs.declared.cmp.Ordering.{Ordering}
+use Rattle.std.specs.Ordering.{nat_cmp, ordering_then}
+use Rattle.std.specs.Cmp.{tied_itself, nat_cmp_total}
+use Rattle.std.specs.Cmp.Lexicographic.{slice_cmp}
 use Rattle.std.specs.Prelude.{◌↔◌, if◌then◌else◌}
 use Rattle.std.specs.List.{AllWithin, HoldsAt, slice_split, onto_first, flat_map, join_with_byte, AllByRecursion}
 use Rattle.std.proofs.Math.Seq.{take-length}
@@ -95,9 +99,10 @@ all_answer xs false h = (λ e. cc, λ a. absurd (h.2 [] (a h.0 [] h.1)))
 pub path_answer : (text : List ℕ) (x : ℕ) (t : List ℕ) → text ≡ x ∷ t → x ≡ 47 → 1 ≤ length t → length text ≤ 1024 → length (parts t) ≤ 64 → (r : Bool) → IsTrue r ↔ All IsComponent (parts t) → IsTrue r ↔ IsPath text
 path_answer text x t is slash some long deep r h =
     let e : text ≡ 47 ∷ t = cc in
-    let n : t ≢ [] = λ z. let k = ap length z in omega arith in
-    ( λ p. subst IsPath (sym e) (IsPath-parts t n (subst (λ (l : List ℕ). length l ≤ 1024) e long) deep (h.0 p))
-    , λ p. h.1 (parts-IsPath t n (subst IsPath e p)) )
+    let n : t ≢ [] = λ z. let k = ap length z in omega arith in (
+      λ p. subst IsPath (sym e) (IsPath-parts t n (subst (λ (l : List ℕ). length l ≤ 1024) e long) deep (h.0 p)),
+      λ p. h.1 (parts-IsPath t n (subst IsPath e p)),
+    )
 
 text_begins : (cs : List (List ℕ)) → (1 ≤ length (path_text cs)) × (get_or (path_text cs) 0 0 ≡ 47)
 text_begins [] = (omega arith, refl)
@@ -113,7 +118,7 @@ front_by : (b : Bool) (p : List ℕ) (cs : List (List ℕ)) → p ≡ path_text 
 front_by true p cs e n = refl
 front_by false p cs e n = flat-filled_is cs n ∙ sym e
 
-path_text-push : (cs : List (List ℕ)) (x : List ℕ) → path_text (cs ++ x ∷ []) ≡ flat_map behind cs ++ 47 ∷ x
+pub path_text-push : (cs : List (List ℕ)) (x : List ℕ) → path_text (cs ++ x ∷ []) ≡ flat_map behind cs ++ 47 ∷ x
 path_text-push [] x = ap (λ r. 47 ∷ r) (append-nil x)
 path_text-push (c ∷ cs) x = flat_map-append behind (c ∷ cs) (x ∷ []) ∙ ap (λ r. flat_map behind (c ∷ cs) ++ (47 ∷ r)) (append-nil x)
 
@@ -247,3 +252,54 @@ root_is_path = record { spelled = refl; names = λ k d l. absurd (omega arith); 
 
 pub IsPath-under_root : (x : List ℕ) → IsComponent x → length x ≤ 1023 → IsPath (47 ∷ x)
 IsPath-under_root x h l = subst IsPath (child_of_root x) (child_is_path root_text x root_is_path h (omega arith) (omega (arith, ap length (child_of_root x))))
+
+-- ---- a path that has a parent is a child of it
+
+pub split_last : {X : Type 0} (c : X) (cs : List X) → (x : X) × ((c ∷ cs) ≡ take (length cs) (c ∷ cs) ++ x ∷ []) × (slice_get (c ∷ cs) (length cs) ≡ Some x)
+split_last c [] = (c, refl, refl)
+split_last c (d ∷ ds) = let r = split_last d ds in (r.0, ap (λ xs. c ∷ xs) r.1, r.2)
+
+pub holds_last : {X : Type 0} (P : X → Type 0) (xs : List X) (x : X) → AllByRecursion P (xs ++ x ∷ []) → P x
+holds_last P [] x h = h.0
+holds_last P (y ∷ ys) x h = holds_last P ys x h.1
+
+-- the last component, and what it says of the path
+pub record IsChild (k p x : List ℕ) : Type 0 where
+  pub last : last_of k ≡ Some x
+  pub name : IsComponent x
+  pub text : k ≡ child_text p x
+
+pub one_less : (n : ℕ) → suc n - 1 ≡ n
+one_less n = omega arith
+
+as_child_of : (k p : List ℕ) (cs : List (List ℕ)) → components k ≡ cs → All IsComponent cs → k ≡ path_text cs → parent_of cs ≡ Some p → (x : List ℕ) × IsChild k p x
+as_child_of k p [] e names text up = absurd (let z : None ≡ Some p = up in cc)
+as_child_of k p (c ∷ cs) e names text up =
+    let s = split_last c cs in
+    let front = take (length cs) (c ∷ cs) in
+    let is : path_text front ≡ p = cc in
+    let inner : components p ≡ front = ap components (sym is) ∙ components-path_text front (All-take IsComponent (length cs) (c ∷ cs) names) in (
+      s.0,
+      record {
+        last = ap (λ (ds : List (List ℕ)). slice_get ds (length ds - 1)) e ∙ ap (slice_get (c ∷ cs)) (one_less (length cs)) ∙ s.2;
+        name = holds_last IsComponent front s.0 (recursion_from_All IsComponent (front ++ s.0 ∷ []) (subst (λ (ds : List (List ℕ)). All IsComponent ds) s.1 names));
+        text = text ∙ ap path_text (s.1 ∙ ap (λ (ds : List (List ℕ)). ds ++ s.0 ∷ []) (sym inner));
+      },
+    )
+
+pub as_child : (k p : List ℕ) → IsPath k → parent_text k ≡ Some p → (x : List ℕ) × IsChild k p x
+as_child k p path up = as_child_of k p (components k) refl path.names path.spelled up
+
+-- children of one path stand in the order of their names
+after_same : (a : ℕ) (r : Ordering) → ordering_then (nat_cmp a a) r ≡ r
+after_same a r = ap (λ o. ordering_then o r) (tied_itself nat_cmp_total a)
+
+order_behind : (f x y : List ℕ) → slice_cmp nat_cmp (f ++ x) (f ++ y) ≡ slice_cmp nat_cmp x y
+order_behind [] x y = refl
+order_behind (a ∷ f) x y = after_same a (slice_cmp nat_cmp (f ++ x) (f ++ y)) ∙ order_behind f x y
+
+pub order_child : (p x y : List ℕ) → slice_cmp nat_cmp (child_text p x) (child_text p y) ≡ slice_cmp nat_cmp x y
+order_child p x y =
+    ap (λ (t : List ℕ). slice_cmp nat_cmp t (child_text p y)) (path_text-push (components p) x)
+    ∙ ap (slice_cmp nat_cmp (flat_map behind (components p) ++ 47 ∷ x)) (path_text-push (components p) y)
+    ∙ order_behind (flat_map behind (components p)) (47 ∷ x) (47 ∷ y)

@@ -3,6 +3,10 @@
 
 mod name;
 mod path;
+mod read;
 
 pub use name::is_component;
 pub use path::{Path, PathNo};
+
+#[cfg(test)]
+mod tests;

@@ -1,12 +1,14 @@
 //! A path in a tree.
-ghost use Rattle.std.specs.Prelude.{◌≡◌, ◌+◌, ◌<◌, ◌≤◌, ◌∷◌, ◌↔◌, ◌==◌, ◌⊎◌, if◌then◌else◌, nat_eq, refl, length, Some, IfOk, IfSome, IfErr, IsNone, IsErrOf, option_copied};
+ghost use Rattle.std.specs.Prelude.{◌≡◌, ◌+◌, ◌<◌, ◌≤◌, ◌∷◌, ◌↔◌, ◌==◌, ◌⊎◌, if◌then◌else◌, nat_eq, refl, length, Some, None, All, IfOk, IfSome, IfErr, IsNone, IsErrOf, option_copied};
 ghost use Rattle.std.specs.Ordering.{nat_cmp};
 ghost use Rattle.std.specs.Cmp.Lexicographic.{pointwise, slice_cmp, nat_list_eq_equiv, nat_list_cmp_total, texts_ties, texts_po};
 ghost use Rattle.std.specs.Cmp.{partial_equiv_from_equiv};
-ghost use Rattle.em_path.specs.Paths.{IsComponent, IsPath, root_text, child_text, components, last_of, parent_text};
+ghost use Rattle.em_path.specs.Paths.{IsComponent, IsPath, root_text, child_text, components, last_of, parent_text, path_text};
+ghost use Rattle.em_path.specs.Reading.{read_fault, resolved_text, name_fault_of, limit_fault};
 ghost use Rattle.em_path.specs.declared.path.PathNo.TheVariants.{NoMemory};
 
 use crate::name::{depth, front, is_path, joined, last_slash};
+use crate::read::{name_fault, resolved};
 use bytes::Bytes;
 use em_base::NoMemory;
 use std::alloc::{AllocError, AllocFailed, Global};
@@ -131,6 +133,38 @@ impl Path {
         Ok(Some(Path {
             spelled: Bytes::copy_from_slice(alloc, &text[..at])?,
         }))
+    }
+
+    /// The path that a name says, read against a working directory: repeated and trailing slashes are dropped, `.` and
+    /// `..` are resolved in the text, and `..` at the root is the root. The errors are the first of `PathNo` that applies;
+    /// `TooLong` and `TooDeep` speak of the result.
+    pub fn read(alloc: Global, cwd: &Path, name: &[u8]) -> Result<Path, PathNo>
+        ensures ok { IfOk result (λ p. (read_fault cwd.now name.now ≡ None) × (p ≡ resolved_text cwd.now name.now)) }
+        ensures err { IfErr result (λ e. (e ≡ PathNo.NoMemory) ⊎ (read_fault cwd.now name.now ≡ Some e)) }
+        ensures named { (e : PathNo) → name_fault_of name.now ≡ Some e → IsErrOf result e }
+    {
+        if let Some(fault) = name_fault(name) {
+            return Err(fault);
+        }
+        Path::within(resolved(alloc, cwd.text(), name)?)
+    }
+
+    /// The path of this text, if it is within the limits.
+    fn within(text: Vec<u8>) -> Result<Path, PathNo>
+        requires spelled { text.items ≡ path_text (components text.items) }
+        requires names { All IsComponent (components text.items) }
+        ensures ok { IfOk result (λ p. (limit_fault text.items ≡ None) × (p ≡ text.items)) }
+        ensures err { IfErr result (λ e. (e ≡ PathNo.NoMemory) ⊎ (limit_fault text.items ≡ Some e)) }
+    {
+        if text.len() > 1024 {
+            return Err(PathNo::TooLong);
+        }
+        if depth(text.as_slice()) > 64 {
+            return Err(PathNo::TooDeep);
+        }
+        Ok(Path {
+            spelled: Bytes::from_vec(text)?,
+        })
     }
 
     #[tactic(auto, using(crate::proofs::Spelling::child_spelled, crate::proofs::Spelling::child_depth, crate::proofs::Spelling::child_is_path))]

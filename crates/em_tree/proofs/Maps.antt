@@ -3,7 +3,7 @@
 --     entries_is      the finite map has the entries, in their order
 --     put_is, taken_is      what `insert` and `remove` leave
 use Rattle.std.proofs.Common.{◌≡◌, ℕ, Bool, true, false, cond, ◌&&◌, List, [], ◌∷◌, Option, Some, None, refl, sym, ap, subst, ◌∙◌, length, slice_get, option_map, ◌<◌, ◌≢◌, ◌++◌, arith, Result, Ok, Err}
-use Rattle.std.specs.Prelude.{T, ◌↔◌, IsSome, IfSome, MatchOption, OnErr}
+use Rattle.std.specs.Prelude.{T, ◌↔◌, IsSome, IfSome, MatchOption, OnErr, OnOk}
 use Rattle.std.specs.declared.cmp.Ordering.{Ordering}
 use Rattle.std.specs.declared.cmp.Ordering.TheVariants.{Less, Equal, Greater}
 use Rattle.std.specs.Cmp.Lexicographic.{slice_cmp, nat_list_cmp_total}
@@ -43,12 +43,12 @@ module _ {K X : Type 0} {R : K → K → Ordering} (o : IsTotalOrder R) where
 
     pub put_is : (m n : BTreeMap K X) (k : K) (v : X) → Updates R m n k (Some v) → from_entries {R = R} n.entries ≡ insert (from_entries {R = R} m.entries) k v
     put_is m n k v u = same_map o same (from_entries n.entries) (insert (from_entries m.entries) k v) (λ q.
-      sym (found n.entries q) ∙ u.0 q ∙ ap (cond (eq_by_cmp R k q) (Some v)) (found m.entries q) ∙ ap (λ b. cond b (Some v) (get (from_entries {R = R} m.entries) q)) ((eq_by_cmp_equiv o).symm k q)
+        sym (found n.entries q) ∙ u.0 q ∙ ap (cond (eq_by_cmp R k q) (Some v)) (found m.entries q) ∙ ap (λ b. cond b (Some v) (get (from_entries {R = R} m.entries) q)) ((eq_by_cmp_equiv o).symm k q)
         ∙ sym (get-insert o (from_entries m.entries) k v q))
 
     pub taken_is : (m n : BTreeMap K X) (k : K) → Updates R m n k None → from_entries {R = R} n.entries ≡ remove (from_entries {R = R} m.entries) k
     taken_is m n k u = same_map o same (from_entries n.entries) (remove (from_entries m.entries) k) (λ q.
-      sym (found n.entries q) ∙ u.0 q ∙ ap (cond (eq_by_cmp R k q) None) (found m.entries q) ∙ ap (λ b. cond b None (get (from_entries {R = R} m.entries) q)) ((eq_by_cmp_equiv o).symm k q)
+        sym (found n.entries q) ∙ u.0 q ∙ ap (cond (eq_by_cmp R k q) None) (found m.entries q) ∙ ap (λ b. cond b None (get (from_entries {R = R} m.entries) q)) ((eq_by_cmp_equiv o).symm k q)
         ∙ sym (get-remove o (from_entries m.entries) k q))
 
 -- ---- at paths, which are in byte order of their texts
@@ -94,3 +94,7 @@ module _ {X : Type 0} where
 pub at_err : {T E : Type 0} (r : Result T E) {P : Type 0} → P → OnErr r P
 at_err (Ok x) p = tt
 at_err (Err e) p = p
+
+pub ok_then : {T E : Type 0} (r : Result T E) {P Q : Type 0} → OnOk r P → (P → Q) → OnOk r Q
+ok_then (Ok x) p f = f p
+ok_then (Err e) p f = tt

@@ -13,7 +13,7 @@ use Rattle.em_tree.specs.declared.node.Node.TheVariants.{File, Dir}
 use Rattle.em_tree.specs.Trees.{Table, Changes, IsTree, kind_of, changed, changed_all, laid_over}
 use Rattle.em_tree.proofs.Maps.{order, exact}
 
-changed_all-push : (es : List (List ℕ × Option Node)) (p : List ℕ) (c : Option Node) (t : Table) → changed_all (es ++ (p, c) ∷ []) t ≡ changed_all es (changed t p c)
+pub changed_all-push : (es : List (List ℕ × Option Node)) (p : List ℕ) (c : Option Node) (t : Table) → changed_all (es ++ (p, c) ∷ []) t ≡ changed_all es (changed t p c)
 changed_all-push [] p c t = refl
 changed_all-push (e ∷ es) p c t = ap (λ (s : Table). changed s e.0 e.1) (changed_all-push es p c t)
 
@@ -52,5 +52,5 @@ pub IsTree-root : (s : ℕ) → IsTree (insert empty root_text (Dir s))
 IsTree-root s = record {
   root = ap kind_of (in_root s root_text);
   paths = λ p h. subst IsPath (sym (at_root s p h)) root_is_path;
-  parents = λ p q h e. absurd (no_parent p q (at_root s p h) e)
+  parents = λ p q h e. absurd (no_parent p q (at_root s p h) e);
 }

@@ -1,1 +1,5 @@
 pub mod Trees
+pub mod Index
+pub mod Steps
+pub mod Names
+pub mod Answers

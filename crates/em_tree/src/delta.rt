@@ -1,6 +1,12 @@
 //! Changes of a tree.
 ghost use Rattle.std.specs.Prelude.{◌≡◌, IfOk, OnOk, OnErr, length, slice_get, option_copied, option_map, Some, None};
 ghost use Rattle.std.specs.FinMap as map;
+ghost use Rattle.em_tree.specs.contracts.node.NodePartialEq.TheImpl as nodes;
+ghost use Rattle.em_tree.specs.contracts.node.NodeEq.TheImpl.Laws as node_eq_laws;
+ghost use Rattle.std.specs.Prelude.{nat_eq, ◌&&◌};
+ghost use Rattle.std.specs.Option.{option_eq};
+ghost use Rattle.std.specs.Cmp.{partial_equiv_from_equiv, on_equiv, and_equiv};
+ghost use Rattle.std.specs.Cmp.Lexicographic.{pointwise, nat_list_eq_equiv, lists_equiv, options_equiv};
 
 use crate::map::PathMap;
 use crate::node::Node;
@@ -86,4 +92,18 @@ impl Delta {
             named: self.named.clone()?,
         })
     }
+}
+
+impl PartialEq for Delta {
+    ghost eq = { λ d e. pointwise (λ p q. pointwise nat_eq p.0 q.0 && option_eq nodes.ghosts.eq p.1 q.1) (map.entries d) (map.entries e) };
+
+    ghost laws = { partial_equiv_from_equiv (on_equiv map.entries (lists_equiv (and_equiv (on_equiv (λ p. p.0) nat_list_eq_equiv) (on_equiv (λ p. p.1) (options_equiv node_eq_laws.laws-law))))) };
+
+    fn eq(&self, other: &Self) -> bool {
+        self.named == other.named
+    }
+}
+
+impl Eq for Delta {
+    ghost laws = { on_equiv map.entries (lists_equiv (and_equiv (on_equiv (λ p. p.0) nat_list_eq_equiv) (on_equiv (λ p. p.1) (options_equiv node_eq_laws.laws-law)))) };
 }

@@ -1,6 +1,8 @@
 //! Finite maps from paths, in byte order of their texts.
-ghost use Rattle.std.specs.Prelude.{◌≡◌, ◌++◌, [], ◌∷◌, IfOk, OnOk, OnErr, MatchOption, None, slice_get, option_copied, option_map};
+ghost use Rattle.std.specs.Prelude.{◌≡◌, IfOk, OnOk, OnErr, None, nat_eq, ◌&&◌, slice_get, option_copied, option_map};
 ghost use Rattle.std.specs.FinMap as map;
+ghost use Rattle.std.specs.Cmp.{partial_equiv_from_equiv, on_per, and_per, on_equiv, and_equiv};
+ghost use Rattle.std.specs.Cmp.Lexicographic.{pointwise, nat_list_eq_equiv, lists_per, lists_equiv};
 
 use em_path::Path;
 use std::alloc::{AllocError, Global};
@@ -20,12 +22,16 @@ impl<V> Model for PathMap<V> {
     ghost use Rattle.std.specs.Ordering.{nat_cmp};
     ghost use Rattle.std.specs.Cmp.Lexicographic.{slice_cmp};
     ghost use Rattle.std.specs.Coded.{coded_ℕ, coded_list};
+    ghost use Rattle.std.specs.List.Sorted.{IsStrictlySortedBy};
+    ghost use Rattle.std.specs.Map.{keys_of};
 
     ghost Value = { map.FinMap (slice_cmp nat_cmp) V };
 
     ghost coded = { map.code (coded_list coded_ℕ) V.code };
 
     ghost view = { λ m. map.from_entries m.held.entries };
+
+    ghost invariant = { λ m. IsStrictlySortedBy (slice_cmp nat_cmp) (keys_of m.held.entries) };
 }
 
 impl<V> PathMap<V> {
@@ -79,16 +85,6 @@ impl<V: Drop> PathMap<V> {
     {
         self.held.remove(p);
     }
-
-    /// Takes the last entry out.
-    pub(crate) fn pop_last(&mut self) -> Option<(Path, V)>
-        ensures { MatchOption result (map.entries self.old ≡ []) (λ e. map.entries self.old ≡ map.entries self.new ++ e ∷ []) }
-    {
-        if self.held.len() == 0 {
-            return None;
-        }
-        self.held.pop_last()
-    }
 }
 
 impl<V: Clone> Clone for PathMap<V> {
@@ -99,4 +95,18 @@ impl<V: Clone> Clone for PathMap<V> {
             held: self.held.clone()?,
         })
     }
+}
+
+impl<V: PartialEq> PartialEq for PathMap<V> {
+    ghost eq = { λ m n. pointwise (λ p q. pointwise nat_eq p.0 q.0 && V.eq p.1 q.1) (map.entries m) (map.entries n) };
+
+    ghost laws = { on_per map.entries (lists_per (and_per (on_per (λ p. p.0) (partial_equiv_from_equiv nat_list_eq_equiv)) (on_per (λ p. p.1) V.laws))) };
+
+    fn eq(&self, other: &Self) -> bool {
+        self.held == other.held
+    }
+}
+
+impl<V: Eq> Eq for PathMap<V> {
+    ghost laws = { on_equiv map.entries (lists_equiv (and_equiv (on_equiv (λ p. p.0) nat_list_eq_equiv) (on_equiv (λ p. p.1) V.Eq.laws))) };
 }

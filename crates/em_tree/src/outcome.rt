@@ -1,5 +1,9 @@
 //! How jobs end.
 ghost use Rattle.std.specs.Prelude.{◌≡◌, ◌++◌, [], ◌∷◌, length, IfOk, OnOk, OnErr, slice_get, option_copied};
+ghost use Rattle.em_tree.specs.contracts.outcome.OutcomePartialEq.TheImpl as outcome;
+ghost use Rattle.em_tree.specs.contracts.outcome.OutcomeEq.TheImpl.Laws as outcome_eq_laws;
+ghost use Rattle.std.specs.Cmp.{partial_equiv_from_equiv};
+ghost use Rattle.std.specs.Cmp.Lexicographic.{pointwise, lists_equiv};
 
 use em_base::{Construct, NoMemory, Place, Text};
 use std::alloc::Global;
@@ -133,4 +137,18 @@ impl Outcomes {
         }
         Ok(Outcomes { held })
     }
+}
+
+impl PartialEq for Outcomes {
+    ghost eq = { pointwise outcome.ghosts.eq };
+
+    ghost laws = { partial_equiv_from_equiv (lists_equiv outcome_eq_laws.laws-law) };
+
+    fn eq(&self, other: &Self) -> bool {
+        self.as_slice() == other.as_slice()
+    }
+}
+
+impl Eq for Outcomes {
+    ghost laws = { lists_equiv outcome_eq_laws.laws-law };
 }

@@ -1,23 +1,37 @@
 //! Trees.
-ghost use Rattle.std.specs.Prelude.{◌≡◌, ◌≤◌, [], ◌∷◌, IfOk, OnOk, OnErr, Some, length, option_copied, option_map, slice_get};
+ghost use Rattle.std.specs.Prelude.{◌≡◌, ◌≤◌, [], ◌∷◌, IfOk, OnOk, OnErr, Some, length, option_copied, option_map, slice_get, unwrap_or, IsTrue, ◌↔◌};
+ghost use Rattle.em_tree.specs.Names.{children_of, names_of};
 ghost use Rattle.std.specs.FinMap as map;
 ghost use Rattle.em_path.specs.Paths.{root_text};
-ghost use Rattle.em_tree.specs.Trees.{IsTree, kind_of, stamp_of, base_of, greatest, laid_over, changed};
+ghost use Rattle.em_tree.specs.Trees.{IsTree, kind_of, stamp_of, content_of, base_of, laid_over};
 ghost use Rattle.em_tree.specs.declared.node.Node.TheVariants as node;
+ghost use Rattle.em_tree.specs.contracts.node.NodePartialEq.TheImpl as nodes;
+ghost use Rattle.em_tree.specs.contracts.node.NodePartialEq.TheImpl.Laws as node_laws;
+ghost use Rattle.em_tree.specs.contracts.node.NodeEq.TheImpl.Laws as node_eq_laws;
+ghost use Rattle.std.specs.Prelude.{nat_eq, ◌&&◌};
+ghost use Rattle.std.specs.Cmp.{partial_equiv_from_equiv, on_per, and_per, on_equiv, and_equiv};
+ghost use Rattle.std.specs.Cmp.Lexicographic.{pointwise, nat_list_eq_equiv, lists_per, lists_equiv};
 
 use crate::delta::Delta;
+use crate::index::{Children, Place, put, put_new};
+use crate::lay::lay_on;
 use crate::map::PathMap;
-use crate::node::{Kind, Node};
+use crate::names::{NameList, collect_names, same_names};
+use crate::node::{Body, Kind, Node};
 use em_base::NoMemory;
 use em_path::Path;
-use std::alloc::{AllocError, Global};
-use std::collections::btree_map::Iter;
+use std::alloc::Global;
+use std::collections::btree_set::Iter;
+use std::collections::{BTreeMap, btree_map};
 use std::marker::Model;
 
 /// A finite map from paths to nodes in which the root is a directory and the parent of every other path is one.
+/// Its nodes stand in byte order of their paths, and an index beside them has the paths right under each directory.
 #[derive(Drop)]
 pub struct Tree {
+    alloc: Global,
     nodes: PathMap<Node>,
+    children: Children,
 }
 
 impl Model for Tree {
@@ -26,6 +40,7 @@ impl Model for Tree {
     ghost use Rattle.std.specs.Coded.{coded_ℕ, coded_list};
     ghost use Rattle.em_tree.specs.contracts.node.Node as node;
     ghost use Rattle.em_tree.specs.Trees.{Table, IsTree};
+    ghost use Rattle.em_tree.specs.Index.{IsIndex};
 
     ghost Value = { Table };
 
@@ -33,7 +48,7 @@ impl Model for Tree {
 
     ghost view = { λ t. t.nodes };
 
-    ghost invariant = { λ t. IsTree t.nodes };
+    ghost invariant = { λ t. IsTree t.nodes × IsIndex t.children t.nodes };
 }
 
 impl Tree {
@@ -42,8 +57,20 @@ impl Tree {
         ensures { IfOk result (λ t. t ≡ map.insert map.empty root_text (node.Dir root_stamp)) }
     {
         let mut nodes = PathMap::new(alloc);
-        nodes.insert(Path::root(), Node::Dir { stamp: root_stamp })?;
-        Ok(Tree { nodes })
+        let mut children = BTreeMap::new(alloc);
+        let root = Place::new(alloc, &Path::root())?;
+        put_new(
+            &mut nodes,
+            &mut children,
+            alloc,
+            &root,
+            Node::Dir { stamp: root_stamp },
+        )?;
+        Ok(Tree {
+            alloc,
+            nodes,
+            children,
+        })
     }
 
     /// The node at a path; `None` exactly where it is absent.
@@ -70,9 +97,16 @@ impl Tree {
         ensures stamp { result ≡ stamp_of (map.get self.now p.now) }
         ensures tree { IsTree self.now }
     {
+        self.get(p).map(|n| n.stamp())
+    }
+
+    /// The bytes of a file; `None` where the path is none.
+    pub(crate) fn content(&self, p: &Path) -> Option<&Body>
+        ensures { option_copied result ≡ content_of (map.get self.now p.now) }
+    {
         match self.get(p) {
-            Some(n) => Some(n.stamp()),
-            None => None,
+            Some(Node::File { body, .. }) => Some(body),
+            _ => None,
         }
     }
 
@@ -104,10 +138,48 @@ impl Tree {
     }
 
     /// The nodes in byte order of their paths.
-    pub fn nodes(&self) -> Iter<'_, Path, Node>
+    pub fn nodes(&self) -> btree_map::Iter<'_, Path, Node>
         ensures { result ≡ map.entries self.now }
     {
         self.nodes.iter()
+    }
+
+    /// The paths right under a path, in byte order; `None` only where there is none.
+    fn under(&self, p: &Path) -> Option<Iter<'_, Path>>
+        ensures children { unwrap_or result [] ≡ children_of self.now p.now }
+        ensures tree { IsTree self.now }
+    {
+        match self.children.get(p) {
+            Some(paths) => Some(paths.iter()),
+            None => None,
+        }
+    }
+
+    /// The names of a directory; `None` where the path is none.
+    pub(crate) fn names(&self, alloc: Global, p: &Path) -> Result<Option<NameList>, NoMemory>
+        ensures { IfOk result (λ r. r ≡ names_of self.now p.now) }
+    {
+        if self.kind(p) != Kind::Dir {
+            return Ok(None);
+        }
+        Ok(Some(match self.under(p) {
+            Some(paths) => collect_names(alloc, paths)?,
+            None => NameList::new(alloc),
+        }))
+    }
+
+    /// Whether the names of a directory are these.
+    pub(crate) fn has_names(&self, p: &Path, names: &Option<NameList>) -> bool
+        ensures { IsTrue result ↔ (names_of self.now p.now ≡ names.now) }
+    {
+        match (self.kind(p), names) {
+            (Kind::Dir, Some(list)) => match self.under(p) {
+                Some(paths) => same_names(paths, list.names()),
+                None => list.names().is_empty(),
+            },
+            (Kind::Dir, None) => false,
+            (_, list) => list.is_none(),
+        }
     }
 
     /// Puts a node at a path. The table with it must be a tree.
@@ -116,8 +188,7 @@ impl Tree {
         ensures ok { OnOk result (self.new ≡ map.insert self.old p n) }
         ensures err { OnErr result (self.new ≡ self.old) }
     {
-        self.nodes.insert(p, n)?;
-        Ok(())
+        put(&mut self.nodes, &mut self.children, self.alloc, p, n)
     }
 
     /// Makes each path that the delta names what it says; the others stay. The table then must be a tree.
@@ -126,10 +197,7 @@ impl Tree {
         ensures ok { OnOk result (self.new ≡ laid_over d.now self.old) }
         ensures err { OnErr result (self.new ≡ self.old) }
     {
-        let mut nodes = self.nodes.clone()?;
-        apply(&mut nodes, d.copy()?.named)?;
-        self.nodes = nodes;
-        Ok(())
+        lay_on(&mut self.nodes, &mut self.children, self.alloc, d)
     }
 
     /// An equal tree.
@@ -137,31 +205,23 @@ impl Tree {
         ensures { IfOk result (λ t. t ≡ self.now) }
     {
         Ok(Tree {
+            alloc: self.alloc,
             nodes: self.nodes.clone()?,
+            children: self.children.clone()?,
         })
     }
 }
 
-/// Makes the path the node, or absent.
-fn change(nodes: &mut PathMap<Node>, p: Path, becomes: Option<Node>) -> Result<(), AllocError>
-    ensures ok { OnOk result (nodes.new ≡ changed nodes.old p becomes) }
-{
-    match becomes {
-        Some(n) => nodes.insert(p, n),
-        None => {
-            nodes.remove(&p);
-            Ok(())
-        }
+impl PartialEq for Tree {
+    ghost eq = { λ s t. pointwise (λ p q. pointwise nat_eq p.0 q.0 && nodes.ghosts.eq p.1 q.1) (map.entries s) (map.entries t) };
+
+    ghost laws = { on_per map.entries (lists_per (and_per (on_per (λ p. p.0) (partial_equiv_from_equiv nat_list_eq_equiv)) (on_per (λ p. p.1) node_laws.laws-law))) };
+
+    fn eq(&self, other: &Self) -> bool {
+        self.nodes == other.nodes
     }
 }
 
-/// Makes the changes, the last one first.
-fn apply(nodes: &mut PathMap<Node>, changes: PathMap<Option<Node>>) -> Result<(), AllocError>
-    ensures { OnOk result (nodes.new ≡ laid_over changes nodes.old) }
-{
-    let mut rest = changes;
-    while let Some((p, becomes)) = rest.pop_last() {
-        change(nodes, p, becomes)?;
-    }
-    Ok(())
+impl Eq for Tree {
+    ghost laws = { on_equiv map.entries (lists_equiv (and_equiv (on_equiv (λ p. p.0) nat_list_eq_equiv) (on_equiv (λ p. p.1) node_eq_laws.laws-law))) };
 }

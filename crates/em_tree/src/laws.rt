@@ -1,0 +1,63 @@
+//! Laws of the definitions: each function's contract is the law, and its body is empty.
+ghost use Rattle.std.specs.Prelude.{◌≡◌, ℕ, List, Option, None, Some, slice_get, IsSome};
+ghost use Rattle.std.specs.FinMap as map;
+ghost use Rattle.em_path.specs.Paths.{IsPath, parent_text};
+ghost use Rattle.em_tree.specs.declared.node.Kind.TheVariants as kind;
+ghost use Rattle.em_tree.specs.declared.node.Node.{Node};
+ghost use Rattle.em_tree.specs.declared.state.State.{State};
+ghost use Rattle.em_tree.specs.declared.question.Question.{Question};
+ghost use Rattle.em_tree.specs.declared.question.Question.TheVariants as ask;
+ghost use Rattle.em_tree.specs.Trees.{Table, Changes, IsTree, kind_of, laid_over};
+ghost use Rattle.em_tree.specs.Answers.{answer};
+
+/// A path that a delta names becomes what it says.
+pub fn law_named_paths()
+    ensures { (d : Changes) (t : Table) (p : List ℕ) (c : Option Node) → map.get d p ≡ Some c → map.get (laid_over d t) p ≡ c }
+{}
+
+/// Laying a delta changes no other path.
+pub fn law_other_paths()
+    ensures { (d : Changes) (t : Table) (p : List ℕ) → map.get d p ≡ None → map.get (laid_over d t) p ≡ map.get t p }
+{}
+
+/// A delta laid twice is as once.
+pub fn law_laid_twice()
+    ensures { (d : Changes) (t : Table) → laid_over d (laid_over d t) ≡ laid_over d t }
+{}
+
+/// What is said of one path depends on that path alone.
+pub fn law_one_path()
+    ensures kind { (s t : State) (p : List ℕ) → map.get s.tree p ≡ map.get t.tree p → answer s (ask.Kind p) ≡ answer t (ask.Kind p) }
+    ensures stamp { (s t : State) (p : List ℕ) → map.get s.tree p ≡ map.get t.tree p → answer s (ask.Stamp p) ≡ answer t (ask.Stamp p) }
+    ensures content { (s t : State) (p : List ℕ) → map.get s.tree p ≡ map.get t.tree p → answer s (ask.Content p) ≡ answer t (ask.Content p) }
+    ensures outcome { (s t : State) (k : ℕ) → slice_get s.outcomes k ≡ slice_get t.outcomes k → answer s (ask.Outcome k) ≡ answer t (ask.Outcome k) }
+{}
+
+/// The names of a directory depend on its kind and on which children there are.
+pub fn law_children()
+    ensures { (s t : State) (p : List ℕ) → kind_of (map.get s.tree p) ≡ kind_of (map.get t.tree p)
+        → ((k : List ℕ) → parent_text k ≡ Some p → map.contains_key s.tree k ≡ map.contains_key t.tree k)
+        → answer s (ask.Names p) ≡ answer t (ask.Names p) }
+{}
+
+/// States that answer all questions alike are equal.
+pub fn law_all_answers()
+    ensures { (s t : State) → ((q : Question) → answer s q ≡ answer t q) → s ≡ t }
+{}
+
+/// A tree stays a tree where a node is put into a directory; a directory that is there must stay one.
+pub fn law_put()
+    ensures { (t : Table) (p above : List ℕ) (n : Node) → IsTree t → IsPath p → parent_text p ≡ Some above → kind_of (map.get t above) ≡ kind.Dir
+        → (kind_of (map.get t p) ≡ kind.Dir → kind_of (Some n) ≡ kind.Dir) → IsTree (map.insert t p n) }
+{}
+
+/// A tree stays a tree where the root's node is replaced by a directory.
+pub fn law_put_root()
+    ensures { (t : Table) (p : List ℕ) (n : Node) → IsTree t → parent_text p ≡ None → IsSome (map.get t p) → kind_of (Some n) ≡ kind.Dir → IsTree (map.insert t p n) }
+{}
+
+/// A tree stays a tree where a path goes that isn't the root and under which nothing stands.
+pub fn law_remove()
+    ensures { (t : Table) (p above : List ℕ) → IsTree t → parent_text p ≡ Some above
+        → ((k : List ℕ) → parent_text k ≡ Some p → map.get t k ≡ None) → IsTree (map.remove t p) }
+{}

@@ -1,0 +1,90 @@
+//! What can be asked, and what is answered.
+ghost use Rattle.std.specs.Prelude.{◌≡◌, IfOk};
+
+use crate::names::NameList;
+use crate::node::{Body, Kind};
+use crate::outcome::Outcome;
+use em_base::NoMemory;
+use em_path::Path;
+use std::alloc::Global;
+
+/// A question.
+#[derive(Debug, Drop, PartialEq, Eq)]
+pub enum Question {
+    /// What stands at the path?
+    Kind(Path),
+    /// Which stamp has it?
+    Stamp(Path),
+    /// Which bytes has the file?
+    Content(Path),
+    /// Which names has the directory?
+    Names(Path),
+    /// How did the job end?
+    Outcome(u32),
+}
+
+impl Question {
+    /// An equal question.
+    pub fn copy(&self) -> Result<Question, NoMemory>
+        ensures { IfOk result (λ q. q ≡ self.now) }
+    {
+        Ok(match self {
+            Question::Kind(p) => Question::Kind(p.copy()?),
+            Question::Stamp(p) => Question::Stamp(p.copy()?),
+            Question::Content(p) => Question::Content(p.copy()?),
+            Question::Names(p) => Question::Names(p.copy()?),
+            Question::Outcome(k) => Question::Outcome(*k),
+        })
+    }
+}
+
+/// An answer, of the kind of its question.
+#[derive(Debug, Drop, PartialEq, Eq)]
+pub enum Answer {
+    Kind(Kind),
+    /// `None` where the path is absent.
+    Stamp(Option<u64>),
+    /// `None` unless the path is a file.
+    Content(Option<Body>),
+    /// `None` unless the path is a directory.
+    Names(Option<NameList>),
+    /// `None` where the job has none.
+    Outcome(Option<Outcome>),
+}
+
+/// A question with an answer.
+#[derive(Debug, Drop, PartialEq, Eq)]
+pub struct Entry {
+    pub question: Question,
+    pub answer: Answer,
+}
+
+impl Answer {
+    /// An equal answer.
+    pub fn copy(&self, alloc: Global) -> Result<Answer, NoMemory>
+        ensures { IfOk result (λ a. a ≡ self.now) }
+    {
+        Ok(match self {
+            Answer::Kind(kind) => Answer::Kind(*kind),
+            Answer::Stamp(stamp) => Answer::Stamp(*stamp),
+            Answer::Content(Some(body)) => Answer::Content(Some(body.copy()?)),
+            Answer::Content(None) => Answer::Content(None),
+            Answer::Names(Some(names)) => Answer::Names(Some(names.copy(alloc)?)),
+            Answer::Names(None) => Answer::Names(None),
+            Answer::Outcome(Some(outcome)) => Answer::Outcome(Some(outcome.copy(alloc)?)),
+            Answer::Outcome(None) => Answer::Outcome(None),
+        })
+    }
+}
+
+impl Entry {
+    /// An equal entry.
+    pub fn copy(&self, alloc: Global) -> Result<Entry, NoMemory>
+        ensures { IfOk result (λ e. e ≡ self.now) }
+    {
+        Ok(Entry {
+            question: self.question.copy()?,
+            answer: self.answer.copy(alloc)?,
+        })
+    }
+}
