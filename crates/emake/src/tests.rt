@@ -6,6 +6,8 @@ use std::alloc::Global;
 use std::process::Abort;
 use std::test::Fail;
 
+mod big;
+mod projects;
 mod rows;
 
 /// A run of `emake`: what it printed, the image, if there is one, the status, and how many calls the host got.
