@@ -1,6 +1,11 @@
 use super::*;
 use em_tree::Tree;
+use std::alloc::Global;
+use std::process::Abort;
 use std::test::Fail;
+
+mod corpus;
+mod limits;
 
 const SAMPLE: [u8; 50] = *b"EMTREE 1\nd 1 /\nf 1 15 /Makefile\nall:\n\t@echo hi\n\n.\n";
 
@@ -154,4 +159,45 @@ fn the_hundred_thousandth_node_is_the_last(rt: HostRuntime) -> Result<(), Fail> 
         })
     );
     Ok(())
+}
+
+/// `ok` where the image is read and written again as it was, else what is said of it.
+fn verdict(alloc: Global, bytes: &[u8]) -> Result<String, Fail> {
+    match read_image(alloc, bytes) {
+        Ok(tree) => {
+            let text = write_image(alloc, &tree)?;
+            let same = text.bytes() == bytes;
+            Ok(String::from_str(alloc, if same { "ok" } else { "another text" })?)
+        }
+        Err(no) => Ok(format!(in alloc; "{no}")?),
+    }
+}
+
+/// Each image gets the verdict that stands beside it.
+fn check(rt: &impl Abort, alloc: Global, rows: &[(&[u8], &str)]) -> Result<(), Fail> {
+    for (bytes, wanted) in rows {
+        let given = verdict(alloc, bytes)?;
+        assert_eq!(rt; given.as_str(), *wanted);
+    }
+    Ok(())
+}
+
+#[test]
+fn the_first_half_of_the_corpus(rt: HostRuntime) -> Result<(), Fail> {
+    check(&rt, rt.alloc(), &corpus::PART_0)?;
+    check(&rt, rt.alloc(), &corpus::PART_1)?;
+    check(&rt, rt.alloc(), &corpus::PART_2)?;
+    check(&rt, rt.alloc(), &corpus::PART_3)?;
+    check(&rt, rt.alloc(), &corpus::PART_4)?;
+    check(&rt, rt.alloc(), &corpus::PART_5)
+}
+
+#[test]
+fn the_second_half_of_the_corpus(rt: HostRuntime) -> Result<(), Fail> {
+    check(&rt, rt.alloc(), &corpus::PART_6)?;
+    check(&rt, rt.alloc(), &corpus::PART_7)?;
+    check(&rt, rt.alloc(), &corpus::PART_8)?;
+    check(&rt, rt.alloc(), &corpus::PART_9)?;
+    check(&rt, rt.alloc(), &corpus::PART_10)?;
+    check(&rt, rt.alloc(), &corpus::PART_11)
 }
