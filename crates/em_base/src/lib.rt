@@ -3,7 +3,9 @@
 
 mod construct;
 mod fuel;
+pub mod laws;
 mod memory;
+mod numbers;
 mod place;
 mod seq;
 mod text;
@@ -11,6 +13,7 @@ mod text;
 pub use construct::Construct;
 pub use fuel::{Fuel, Spent};
 pub use memory::NoMemory;
+pub use numbers::number;
 pub use place::{Place, Span};
 pub use seq::Seq;
 pub use text::Text;

@@ -1,5 +1,6 @@
 //! Where something stands.
 ghost use Rattle.std.specs.Prelude.{◌≡◌, IfOk};
+ghost use Rattle.em_base.specs.Spans.{cut};
 
 use crate::memory::NoMemory;
 use crate::text::Text;
@@ -31,4 +32,15 @@ impl Place {
 pub struct Span {
     pub start: usize,
     pub end: usize,
+}
+
+impl Span {
+    /// The bytes of the span in a text; none of them lies beyond the text's end.
+    pub fn of<'a>(self, text: &'a [u8]) -> &'a [u8]
+        ensures { result.now ≡ cut text.now self }
+    {
+        let rest = &text[self.start.min(text.len())..];
+        let length = self.end.saturating_sub(self.start);
+        &rest[..length.min(rest.len())]
+    }
 }

@@ -31,3 +31,21 @@ fn copies_are_equal(rt: HostRuntime) -> Result<(), Fail> {
     assert!(rt; construct.copy(rt.alloc())? == construct);
     Ok(())
 }
+
+#[test]
+fn numbers_are_read_in_canonical_decimal(rt: HostRuntime) {
+    for (limit, text, wanted) in [
+        (64, b"0".as_slice(), Some(0)),
+        (64, b"7".as_slice(), Some(7)),
+        (64, b"64".as_slice(), Some(64)),
+        (64, b"65".as_slice(), None),
+        (64, b"01".as_slice(), None),
+        (64, b"+1".as_slice(), None),
+        (64, b"".as_slice(), None),
+        (64, b"1 ".as_slice(), None),
+        (u64::MAX, b"18446744073709551615".as_slice(), Some(u64::MAX)),
+        (u64::MAX, b"18446744073709551616".as_slice(), None),
+    ] {
+        assert!(rt; number(limit, text) == wanted);
+    }
+}

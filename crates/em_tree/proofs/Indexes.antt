@@ -1,19 +1,17 @@
 -- What one change does to an index.
 use Rattle.std.proofs.Common.{◌≡◌, ℕ, Bool, true, false, cond, not, ◌&&◌, ◌||◌, List, [], Option, Some, None, refl, sym, ap, subst, ◌∙◌}
 use Rattle.std.specs.Prelude.{IsSome, is_some}
-use Rattle.std.specs.Ordering.{nat_cmp, eq_by_cmp, is_eq}
+use Rattle.std.specs.Ordering.{eq_by_cmp, is_eq}
 use Rattle.std.specs.Cmp.{eq_by_cmp_equiv}
-use Rattle.std.specs.Cmp.Lexicographic.{slice_cmp, nat_list_cmp_total, texts_ties}
-use Rattle.std.specs.FinMap.{contains_key, get, insert, remove, empty, get-insert, get-remove, get-empty}
+use Rattle.std.specs.Cmp.Lexicographic.{nat_list_cmp_total, texts_ties}
+use Rattle.std.specs.FinMap.{FinMap, contains_key, get, insert, remove, empty, get-insert, get-remove, get-empty}
 use Rattle.std.specs.Map.{lookup}
 use Rattle.std.specs.BTreeMap.{is_at}
 use Rattle.em_path.specs.Paths.{parent_text}
-use Rattle.em_tree.specs.declared.node.Node.{Node}
-use Rattle.em_tree.specs.Trees.{Table}
 use Rattle.std.specs.BTreeMap as tree
 use Rattle.std.specs.BTreeSet as set
 use Rattle.em_tree.specs.Index.{Children, is_in, has_child, is_text, is_parent, IsIndex}
-use Rattle.em_tree.proofs.Maps.{order, exact}
+use Rattle.em_tree.proofs.Maps.{order}
 use Rattle.em_tree.proofs.Tables.{same_key}
 
 flip : (p q : List ℕ) → eq_by_cmp order p q ≡ eq_by_cmp order q p
@@ -101,13 +99,13 @@ parent_is p parent q e = ap (λ (o : Option (List ℕ)). is_text o q) e ∙ text
 pub no_parent : (p q : List ℕ) → parent_text p ≡ None → is_parent q p ≡ false
 no_parent p q e = ap (λ (o : Option (List ℕ)). is_text o q) e
 
-put_key : (t : Table) (p k : List ℕ) (n : Node) → contains_key (insert t p n) k ≡ is_some (cond (eq_by_cmp order k p) (Some n) (get t k))
+put_key : {X : Type 0} (t : FinMap order X) (p k : List ℕ) (n : X) → contains_key (insert t p n) k ≡ is_some (cond (eq_by_cmp order k p) (Some n) (get t k))
 put_key t p k n = ap is_some (get-insert nat_list_cmp_total t p n k)
 
-gone_key : (t : Table) (p k : List ℕ) → contains_key (remove t p) k ≡ is_some (cond (eq_by_cmp order k p) None (get t k))
+gone_key : {X : Type 0} (t : FinMap order X) (p k : List ℕ) → contains_key (remove t p) k ≡ is_some (cond (eq_by_cmp order k p) None (get t k))
 gone_key t p k = ap is_some (get-remove nat_list_cmp_total t p k)
 
-pub IsIndex-same : (m n : Children) (t : Table) → IsIndex m t → ((p k : List ℕ) → has_child n p k ≡ has_child m p k) → IsIndex n t
+pub IsIndex-same : {X : Type 0} (m n : Children) (t : FinMap order X) → IsIndex m t → ((p k : List ℕ) → has_child n p k ≡ has_child m p k) → IsIndex n t
 IsIndex-same m n t h e = record { exact = λ p k. e p k ∙ h.exact p k }
 
 both_or : (b x : Bool) → ((b && x) || (b && true)) ≡ (b && true)
@@ -121,7 +119,7 @@ none_or false true = refl
 none_or false false = refl
 
 -- a new path, which is listed
-pub IsIndex-new : (m n : Children) (t : Table) (p : List ℕ) (x : Node) → IsIndex m t
+pub IsIndex-new : {X : Type 0} (m n : Children) (t : FinMap order X) (p : List ℕ) (x : X) → IsIndex m t
     → ((q k : List ℕ) → has_child n q k ≡ (has_child m q k || (is_parent q p && eq_by_cmp order k p))) → IsIndex n (insert t p x)
 IsIndex-new m n t p x h e = record { exact = λ q k. e q k ∙ ap (λ b. b || (is_parent q p && eq_by_cmp order k p)) (h.exact q k) ∙ by_case q k (eq_by_cmp order k p) refl ∙ ap (λ b. is_parent q k && b) (sym (put_key t p k x)) }
   where
@@ -130,7 +128,7 @@ IsIndex-new m n t p x h e = record { exact = λ q k. e q k ∙ ap (λ b. b || (i
     by_case q k false c = none_or (is_parent q k && contains_key t k) (is_parent q p)
 
 -- a path that was there
-pub IsIndex-put : (m : Children) (t : Table) (p : List ℕ) (x : Node) → IsIndex m t → contains_key t p ≡ true → IsIndex m (insert t p x)
+pub IsIndex-put : {X : Type 0} (m : Children) (t : FinMap order X) (p : List ℕ) (x : X) → IsIndex m t → contains_key t p ≡ true → IsIndex m (insert t p x)
 IsIndex-put m t p x h there = record { exact = λ q k. h.exact q k ∙ by_case q k (eq_by_cmp order k p) refl ∙ ap (λ b. is_parent q k && b) (sym (put_key t p k x)) }
   where
     by_case : (q k : List ℕ) (c : Bool) → eq_by_cmp order k p ≡ c → (is_parent q k && contains_key t k) ≡ (is_parent q k && is_some (cond c (Some x) (get t k)))
@@ -153,7 +151,7 @@ and_false true = refl
 and_false false = refl
 
 -- what was listed for an absent path, taken out again
-pub IsIndex-back : (m n o : Children) (t : Table) (p : List ℕ) → IsIndex m t → get t p ≡ None
+pub IsIndex-back : {X : Type 0} (m n o : Children) (t : FinMap order X) (p : List ℕ) → IsIndex m t → get t p ≡ None
     → ((q k : List ℕ) → has_child n q k ≡ (has_child m q k || (is_parent q p && eq_by_cmp order k p)))
     → ((q k : List ℕ) → has_child o q k ≡ (has_child n q k && not (is_parent q p && eq_by_cmp order k p))) → IsIndex o t
 IsIndex-back m n o t p h absent e f = IsIndex-same m o t h (λ q k. f q k ∙ ap (λ b. b && not (is_parent q p && eq_by_cmp order k p)) (e q k) ∙ by_case q k (eq_by_cmp order k p) refl)
@@ -173,7 +171,7 @@ stays true false = refl
 stays false e = refl
 
 -- a path that goes, and from its list
-pub IsIndex-gone : (m n : Children) (t : Table) (p : List ℕ) → IsIndex m t
+pub IsIndex-gone : {X : Type 0} (m n : Children) (t : FinMap order X) (p : List ℕ) → IsIndex m t
     → ((q k : List ℕ) → has_child n q k ≡ (has_child m q k && not (is_parent q p && eq_by_cmp order k p))) → IsIndex n (remove t p)
 IsIndex-gone m n t p h e = record { exact = λ q k. e q k ∙ ap (λ b. b && not (is_parent q p && eq_by_cmp order k p)) (h.exact q k) ∙ by_case q k (eq_by_cmp order k p) refl ∙ ap (λ b. is_parent q k && b) (sym (gone_key t p k)) }
   where
@@ -181,5 +179,5 @@ IsIndex-gone m n t p h e = record { exact = λ q k. e q k ∙ ap (λ b. b && not
     by_case q k true c = subst (λ b. ((is_parent q k && contains_key t k) && not (b && true)) ≡ (is_parent q k && false)) (ap (is_parent q) (same_key k p c)) (gone (is_parent q k) (contains_key t k))
     by_case q k false c = stays (is_parent q k && contains_key t k) (is_parent q p)
 
-pub IsIndex-empty : (m : Children) → m.entries ≡ [] → IsIndex m empty
-IsIndex-empty m e = record { exact = λ p k. ap (λ (es : List (List ℕ × set.BTreeSet (List ℕ))). is_in (lookup (is_at (order p)) es) k) e ∙ sym (ap (λ (o : Option Node). is_parent p k && is_some o) (get-empty order k) ∙ and_false (is_parent p k)) }
+pub IsIndex-empty : (X : Type 0) (m : Children) → m.entries ≡ [] → IsIndex {X = X} m empty
+IsIndex-empty X m e = record { exact = λ p k. ap (λ (es : List (List ℕ × set.BTreeSet (List ℕ))). is_in (lookup (is_at (order p)) es) k) e ∙ sym (ap (λ (o : Option X). is_parent p k && is_some o) (get-empty order k) ∙ and_false (is_parent p k)) }

@@ -1,13 +1,12 @@
 -- The laws of tables, trees and answers.
-use Rattle.std.proofs.Common.{◌≡◌, ℕ, zero, suc, Bool, true, false, cond, ◌&&◌, List, [], ◌∷◌, Option, Some, None, slice_get, refl, sym, ap, subst, ◌∙◌}
-use Rattle.std.specs.Prelude.{IsSome, is_some, filter_map}
+use Rattle.std.proofs.Common.{◌≡◌, ℕ, suc, Bool, true, false, cond, ◌&&◌, List, [], ◌∷◌, Option, Some, None, slice_get, refl, sym, ap, subst, ◌∙◌}
+use Rattle.std.specs.Prelude.{IsSome, is_some}
 use Rattle.std.specs.Ordering.{eq_by_cmp}
 use Rattle.std.specs.Cmp.Lexicographic.{nat_list_cmp_total}
 use Rattle.std.specs.BTreeSet.{BTreeSet}
-use Rattle.std.specs.FinMap.{get, insert, remove, entries, contains_key, find, get-entries, get-insert, get-remove, empty, get-empty}
+use Rattle.std.specs.FinMap.{get, insert, remove, entries, contains_key, get-entries, get-insert, get-remove, empty, get-empty}
 use Rattle.std.proofs.lemmas.Map.Lookups.{btree_set_from_contains}
-use Rattle.em_path.specs.Paths.{IsPath, root_text, parent_text, last_of}
-use Rattle.em_tree.specs.declared.node.Kind.{Kind}
+use Rattle.em_path.specs.Paths.{IsPath, root_text, parent_text}
 use Rattle.em_tree.specs.declared.node.Kind.TheVariants as kind
 use Rattle.em_tree.specs.declared.node.Node.{Node}
 use Rattle.em_tree.specs.declared.node.Node.TheVariants.{File, Dir}
@@ -15,11 +14,10 @@ use Rattle.em_tree.specs.declared.outcome.Outcome.{Outcome}
 use Rattle.em_tree.specs.declared.state.State.{State}
 use Rattle.em_tree.specs.declared.question.Question.{Question}
 use Rattle.em_tree.specs.declared.question.Question.TheVariants as ask
-use Rattle.em_tree.specs.declared.question.Answer.{Answer}
 use Rattle.em_tree.specs.declared.question.Answer.TheVariants as told
 use Rattle.em_tree.specs.Trees.{Table, Changes, IsTree, kind_of, stamp_of, content_of, changed, laid_over}
 use Rattle.em_tree.specs.Index.{is_parent}
-use Rattle.em_tree.specs.Names.{children_of, in_dir}
+use Rattle.em_tree.specs.Names.{children_of}
 use Rattle.em_tree.specs.Answers.{answer}
 use Rattle.em_tree.proofs.Maps.{order, exact}
 use Rattle.em_tree.proofs.Tables.{same_key}

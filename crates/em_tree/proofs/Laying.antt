@@ -1,18 +1,18 @@
 -- How changes act on a table, one after another.
-use Rattle.std.proofs.Common.{◌≡◌, ◌≢◌, ◌<◌, ◌+◌, ℕ, zero, suc, Bool, true, false, cond, ◌&&◌, List, [], ◌∷◌, ◌++◌, Option, Some, None, length, take, get_or, refl, sym, ap, subst, ◌∙◌, arith}
-use Rattle.std.specs.Prelude.{T, IsSome, is_some, map, option_copied}
+use Rattle.std.proofs.Common.{◌≡◌, ◌<◌, ℕ, zero, suc, Bool, true, false, cond, ◌&&◌, List, [], ◌∷◌, ◌++◌, Option, Some, None, length, get_or, refl, sym, ap, subst, ◌∙◌, arith}
+use Rattle.std.specs.Prelude.{T, IsSome, is_some, option_copied}
 use Rattle.std.specs.Borrow.{Bor}
 use Rattle.em_tree.specs.declared.index.Place.{Place}
-use Rattle.std.specs.Ordering.{nat_cmp, eq_by_cmp, is_eq, is_lt}
+use Rattle.std.specs.Ordering.{eq_by_cmp, is_eq, is_lt}
 use Rattle.std.specs.declared.cmp.Ordering.{Ordering}
 use Rattle.std.specs.declared.cmp.Ordering.TheVariants.{Less, Equal, Greater}
 use Rattle.std.specs.Cmp.{eq_by_cmp_equiv, tied_itself}
-use Rattle.std.specs.Cmp.Lexicographic.{slice_cmp, nat_list_cmp_total}
-use Rattle.std.specs.FinMap.{get, insert, remove, entries, get-insert, get-remove, same_map, find, is_sorted}
+use Rattle.std.specs.Cmp.Lexicographic.{nat_list_cmp_total}
+use Rattle.std.specs.FinMap.{get, insert, remove, get-insert, get-remove, same_map, find, is_sorted}
 use Rattle.std.specs.FinMap.Entries.{below_all}
 use Rattle.em_tree.specs.declared.node.Node.{Node}
 use Rattle.em_tree.specs.declared.lay.Step.{Step}
-use Rattle.em_tree.specs.Trees.{Table, Changes, changed, changed_all, laid_over}
+use Rattle.em_tree.specs.Trees.{Table, changed, changed_all}
 use Rattle.em_tree.specs.Steps.{changes_of, removals, HasRoom}
 use Rattle.em_tree.proofs.Maps.{order, exact}
 use Rattle.em_tree.proofs.Tables.{same_key}

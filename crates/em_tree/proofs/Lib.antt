@@ -4,3 +4,4 @@ pub mod Indexes
 pub mod Laying
 pub mod Naming
 pub mod Lawful
+pub mod Pairs

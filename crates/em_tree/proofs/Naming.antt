@@ -2,18 +2,18 @@
 --     IsNameList-push      what `add` leaves
 --     children_are         what the index has at a path are the paths right under it
 --     IsNameList-names     the names of a tree's directory are a list of names
-use Rattle.std.proofs.Common.{◌≡◌, ◌<◌, ◌-◌, ◌+◌, ℕ, zero, suc, Bool, true, false, cond, ◌&&◌, List, [], ◌∷◌, ◌++◌, Option, Some, None, All, length, get_or, slice_get, map, refl, sym, ap, subst, ◌∙◌, arith}
-use Rattle.std.specs.Prelude.{T, IsSome, IfSome, is_some, filter_map}
+use Rattle.std.proofs.Common.{◌≡◌, ◌<◌, ◌-◌, ℕ, zero, suc, Bool, true, false, cond, ◌&&◌, List, [], ◌∷◌, ◌++◌, Option, Some, None, length, get_or, slice_get, map, refl, sym, ap, subst, ◌∙◌, arith}
+use Rattle.std.specs.Prelude.{T, IsSome, IfSome, filter_map}
 use Rattle.std.specs.declared.cmp.Ordering.{Ordering}
 use Rattle.std.specs.declared.cmp.Ordering.TheVariants.{Less, Equal, Greater}
-use Rattle.std.specs.Ordering.{is_eq, is_lt, eq_by_cmp}
+use Rattle.std.specs.Ordering.{is_lt}
 use Rattle.std.specs.Cmp.{eq_by_cmp_equiv}
 use Rattle.std.specs.Cmp.Lexicographic.{nat_list_cmp_total}
 use Rattle.std.specs.List.{AllByRecursion, filter, list_any, cons_option}
 use Rattle.std.specs.List.Sorted.{IsStrictlySortedBy}
 use Rattle.std.specs.BTreeMap.{is_at}
 use Rattle.std.specs.BTreeSet.{BTreeSet, contains}
-use Rattle.std.specs.FinMap.{get, keys, entries, entries_sorted, contains_key, contains_key-keys, is_sorted}
+use Rattle.std.specs.FinMap.{FinMap, get, keys, entries, entries_sorted, contains_key, contains_key-keys, is_sorted}
 use Rattle.std.specs.FinMap.Entries.{below_all}
 use Rattle.std.proofs.lemmas.List.{get_or_default}
 use Rattle.std.proofs.lemmas.List.Elements.{All-push, All-nil, recursion_from_All, All-from_recursion}
@@ -22,8 +22,7 @@ use Rattle.std.proofs.lemmas.Map.Views.{any-filter_same, list_any-from_Contains}
 use Rattle.std.proofs.lemmas.Map.Lookups.{btree_set_from_contains}
 use Rattle.std.proofs.lemmas.Slice.Eq.{bytes_eq-Decides}
 use Rattle.em_path.specs.Paths.{IsPath, IsComponent, child_text, parent_text, last_of}
-use Rattle.em_path.proofs.Spelling.{IsChild, as_child, order_child}
-use Rattle.em_tree.specs.declared.node.Node.{Node}
+use Rattle.em_path.proofs.Spelling.{as_child, order_child}
 use Rattle.em_tree.specs.Trees.{Table, IsTree}
 use Rattle.em_tree.specs.Index.{is_parent, is_text}
 use Rattle.em_tree.specs.Names.{IsNameList, last_name, children_of}
@@ -65,12 +64,12 @@ front_below : (x : List ℕ) (xs : List (List ℕ)) (y : List ℕ) (ys : List (L
 front_below x [] y ys h = h.0
 front_below x (z ∷ xs) y ys h = front_below x xs y ys h.1
 
-all_below : (xs : List (List ℕ)) (y : List ℕ) (ys : List (List ℕ)) → IsStrictlySortedBy order (xs ++ y ∷ ys) → AllByRecursion (λ x. order x y ≡ Less) xs
+pub all_below : (xs : List (List ℕ)) (y : List ℕ) (ys : List (List ℕ)) → IsStrictlySortedBy order (xs ++ y ∷ ys) → AllByRecursion (λ x. order x y ≡ Less) xs
 unfolding IsStrictlySortedBy
 all_below [] y ys s = tt
 all_below (x ∷ xs) y ys s = (front_below x xs y ys s.0, all_below xs y ys s.1)
 
-at_place : (P : List ℕ → Type 0) (xs : List (List ℕ)) (i : ℕ) → AllByRecursion P xs → IfSome (slice_get xs i) P
+pub at_place : (P : List ℕ → Type 0) (xs : List (List ℕ)) (i : ℕ) → AllByRecursion P xs → IfSome (slice_get xs i) P
 at_place P [] i h = tt
 at_place P (x ∷ xs) zero h = h.0
 at_place P (x ∷ xs) (suc i) h = at_place P xs i h.1
@@ -109,18 +108,18 @@ unfolding IsStrictlySortedBy
 sorted_keys [] h = tt
 sorted_keys (e ∷ es) h = (below_keys e.0 es (first_T (below_all order e.0 es) (is_sorted order es) h), sorted_keys es (second_T (below_all order e.0 es) (is_sorted order es) h))
 
-pub keys_rise : (t : Table) → IsStrictlySortedBy order (keys t)
+pub keys_rise : {X : Type 0} (t : FinMap order X) → IsStrictlySortedBy order (keys t)
 keys_rise t = sorted_keys (entries t) (entries_sorted t)
 
 -- ---- the paths right under one
 
-pub children_rise : (t : Table) (p : List ℕ) → IsStrictlySortedBy order (children_of t p)
+pub children_rise : {X : Type 0} (t : FinMap order X) (p : List ℕ) → IsStrictlySortedBy order (children_of t p)
 children_rise t p = IsStrictlySortedBy-filter order (is_parent p) (keys t) (keys_rise t)
 
-pub any_child : (t : Table) (p q : List ℕ) → list_any (is_at (order q)) (children_of t p) ≡ (is_parent p q && contains_key t q)
+pub any_child : {X : Type 0} (t : FinMap order X) (p q : List ℕ) → list_any (is_at (order q)) (children_of t p) ≡ (is_parent p q && contains_key t q)
 any_child t p q = any-filter_same (is_at (order q)) (is_parent p) (is_parent p q) (λ k e. ap (is_parent p) (sym (same_key q k e))) (keys t) ∙ ap (λ b. is_parent p q && b) (sym (contains_key-keys t q))
 
-pub children_are : (t : Table) (p : List ℕ) (s : BTreeSet (List ℕ)) → IsStrictlySortedBy order s.keys → ((k : List ℕ) → contains order s k ≡ (is_parent p k && contains_key t k)) → s.keys ≡ children_of t p
+pub children_are : {X : Type 0} (t : FinMap order X) (p : List ℕ) (s : BTreeSet (List ℕ)) → IsStrictlySortedBy order s.keys → ((k : List ℕ) → contains order s k ≡ (is_parent p k && contains_key t k)) → s.keys ≡ children_of t p
 children_are t p s rise e = let mine : BTreeSet (List ℕ) = record { keys = children_of t p } in btree_set_from_contains nat_list_cmp_total s mine rise (children_rise t p) (λ q. e q ∙ sym (any_child t p q)) exact
 
 -- ---- their names
@@ -191,5 +190,5 @@ unfolding IsStrictlySortedBy
 rising-none = tt
 
 -- where the index has nothing, nothing is there
-pub children_none : (t : Table) (p : List ℕ) → ((k : List ℕ) → false ≡ (is_parent p k && contains_key t k)) → [] ≡ children_of t p
+pub children_none : {X : Type 0} (t : FinMap order X) (p : List ℕ) → ((k : List ℕ) → false ≡ (is_parent p k && contains_key t k)) → [] ≡ children_of t p
 children_none t p e = let none : BTreeSet (List ℕ) = record { keys = [] } in children_are t p none rising-none e

@@ -3,13 +3,13 @@ use Rattle.std.proofs.Common.{◌≡◌, ℕ, Bool, true, false, cond, List, [],
 use Rattle.std.specs.Prelude.{IsSome}
 use Rattle.std.specs.declared.cmp.Ordering.{Ordering}
 use Rattle.std.specs.declared.cmp.Ordering.TheVariants.{Less, Equal, Greater}
-use Rattle.std.specs.Ordering.{nat_cmp, eq_by_cmp, is_eq}
-use Rattle.std.specs.Cmp.Lexicographic.{slice_cmp, nat_list_cmp_total}
-use Rattle.std.specs.FinMap.{FinMap, get, insert, remove, entries, empty, get-insert, get-remove, get-empty}
+use Rattle.std.specs.Ordering.{eq_by_cmp, is_eq}
+use Rattle.std.specs.Cmp.Lexicographic.{nat_list_cmp_total}
+use Rattle.std.specs.FinMap.{get, insert, entries, empty, get-insert, get-empty}
 use Rattle.em_path.specs.Paths.{IsPath, root_text, parent_text}
 use Rattle.em_path.proofs.Spelling.{root_is_path}
 use Rattle.em_tree.specs.declared.node.Node.{Node}
-use Rattle.em_tree.specs.declared.node.Node.TheVariants.{File, Dir}
+use Rattle.em_tree.specs.declared.node.Node.TheVariants.{Dir}
 use Rattle.em_tree.specs.Trees.{Table, Changes, IsTree, kind_of, changed, changed_all, laid_over}
 use Rattle.em_tree.proofs.Maps.{order, exact}
 

@@ -2,7 +2,7 @@
 --     Snapshot        a tree and outcomes, as contracts see a state
 --     answer s q      the answer to a question
 --     Agrees s es     the state answers each question as the entry says
-use Rattle.std.specs.Prelude.{◌≡◌, ℕ, List, [], ◌∷◌, slice_get}
+use Rattle.std.specs.Prelude.{◌≡◌, List, [], ◌∷◌, slice_get}
 use Rattle.std.specs.FinMap.{get}
 use Rattle.em_tree.specs.declared.state.State.{State}
 use Rattle.em_tree.specs.declared.question.Question.{Question}
@@ -20,6 +20,10 @@ answer s (ask.Content p) = told.Content (content_of (get s.tree p))
 answer s (ask.Names p) = told.Names (names_of s.tree p)
 answer s (ask.Outcome k) = told.Outcome (slice_get s.outcomes k)
 
+-- what answers each question as the entry says
+abbrev pub AgreesWith : (Question → Answer) → List Entry → Type 0
+AgreesWith o [] = Unit {0}
+AgreesWith o (e ∷ es) = (o e.question ≡ e.answer) × AgreesWith o es
+
 abbrev pub Agrees : State → List Entry → Type 0
-Agrees s [] = Unit {0}
-Agrees s (e ∷ es) = (answer s e.question ≡ e.answer) × Agrees s es
+Agrees s es = AgreesWith (answer s) es

@@ -1,6 +1,7 @@
 //! Changes of a tree.
-ghost use Rattle.std.specs.Prelude.{◌≡◌, IfOk, OnOk, OnErr, length, slice_get, option_copied, option_map, Some, None};
+ghost use Rattle.std.specs.Prelude.{◌≡◌, ◌≢◌, [], unwrap_or, IfOk, OnOk, OnErr, length, slice_get, option_copied, option_map, Some, None};
 ghost use Rattle.std.specs.FinMap as map;
+ghost use Rattle.em_tree.specs.Names.{children_of};
 ghost use Rattle.em_tree.specs.contracts.node.NodePartialEq.TheImpl as nodes;
 ghost use Rattle.em_tree.specs.contracts.node.NodeEq.TheImpl.Laws as node_eq_laws;
 ghost use Rattle.std.specs.Prelude.{nat_eq, ◌&&◌};
@@ -8,18 +9,23 @@ ghost use Rattle.std.specs.Option.{option_eq};
 ghost use Rattle.std.specs.Cmp.{partial_equiv_from_equiv, on_equiv, and_equiv};
 ghost use Rattle.std.specs.Cmp.Lexicographic.{pointwise, nat_list_eq_equiv, lists_equiv, options_equiv};
 
+use crate::index::{Children, Place, put, take_out};
 use crate::map::PathMap;
 use crate::node::Node;
 use em_base::NoMemory;
 use em_path::Path;
 use std::alloc::Global;
 use std::collections::btree_map::Iter;
+use std::collections::{BTreeMap, btree_set};
 use std::marker::Model;
 
-/// What paths become: a node, or absent. Contracts see the finite map.
+/// What paths become: a node, or absent. Contracts see the finite map; an index beside it has the named paths right under
+/// each directory.
 #[derive(Drop)]
 pub struct Delta {
-    pub(crate) named: PathMap<Option<Node>>,
+    alloc: Global,
+    named: PathMap<Option<Node>>,
+    children: Children,
 }
 
 impl Model for Delta {
@@ -29,12 +35,15 @@ impl Model for Delta {
     ghost use Rattle.em_path.specs.Paths.{IsPath};
     ghost use Rattle.em_tree.specs.contracts.node.Node as node;
     ghost use Rattle.em_tree.specs.Trees.{Changes};
+    ghost use Rattle.em_tree.specs.Index.{IsIndex};
 
     ghost Value = { Changes };
 
     ghost coded = { map.code (coded_list coded_ℕ) (coded_option node.the_row.coded) };
 
     ghost view = { λ d. d.named };
+
+    ghost invariant = { λ d. IsIndex d.children d.named };
 }
 
 impl Delta {
@@ -43,7 +52,9 @@ impl Delta {
         ensures { result ≡ map.empty }
     {
         Delta {
+            alloc,
             named: PathMap::new(alloc),
+            children: BTreeMap::new(alloc),
         }
     }
 
@@ -75,13 +86,59 @@ impl Delta {
         self.named.iter()
     }
 
-    /// Makes a path a node, or absent for `None`.
+    /// The named paths right under a path, in byte order; `None` only where there is none.
+    pub fn under(&self, p: &Path) -> Option<btree_set::Iter<'_, Path>>
+        ensures { unwrap_or result [] ≡ children_of self.now p.now }
+    {
+        match self.children.get(p) {
+            Some(paths) => Some(paths.iter()),
+            None => None,
+        }
+    }
+
+    /// Makes a path a node, or absent for `None`. Only a path that isn't named yet can fail.
     pub fn set(&mut self, p: Path, n: Option<Node>) -> Result<(), NoMemory>
         ensures ok { OnOk result (self.new ≡ map.insert self.old p n) }
         ensures err { OnErr result (self.new ≡ self.old) }
+        ensures absent { OnErr result (map.get self.old p ≡ None) }
     {
-        self.named.insert(p, n)?;
-        Ok(())
+        put(&mut self.named, &mut self.children, self.alloc, p, n)
+    }
+
+    fn unset(&mut self, place: &Place)
+        ensures { self.new ≡ map.remove self.old place.now.path }
+    {
+        take_out(&mut self.named, &mut self.children, place);
+    }
+
+    /// Makes two paths nodes or absent, or neither where memory runs out.
+    pub fn set_both(
+        &mut self,
+        p: Path,
+        n: Option<Node>,
+        q: Path,
+        m: Option<Node>,
+    ) -> Result<(), NoMemory>
+        requires other { p ≢ q }
+        ensures ok { OnOk result (self.new ≡ map.insert (map.insert self.old p n) q m) }
+        ensures err { OnErr result (self.new ≡ self.old) }
+    {
+        if self.get(&p).is_some() {
+            self.set(q, m)?;
+            return match self.set(p, n) {
+                Ok(()) => Ok(()),
+                Err(_) => unreachable!(),
+            };
+        }
+        let place = Place::new(self.alloc, &p)?;
+        self.set(p, n)?;
+        match self.set(q, m) {
+            Ok(()) => Ok(()),
+            Err(e) => {
+                self.unset(&place);
+                Err(e)
+            }
+        }
     }
 
     /// An equal delta.
@@ -89,7 +146,9 @@ impl Delta {
         ensures { IfOk result (λ d. d ≡ self.now) }
     {
         Ok(Delta {
+            alloc: self.alloc,
             named: self.named.clone()?,
+            children: self.children.clone()?,
         })
     }
 }

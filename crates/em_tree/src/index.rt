@@ -7,7 +7,6 @@ ghost use Rattle.em_path.specs.Paths.{parent_text};
 ghost use Rattle.em_tree.specs.Index.{has_child, is_parent, IsIndex};
 
 use crate::map::PathMap;
-use crate::node::Node;
 use em_base::NoMemory;
 use em_path::Path;
 use std::alloc::Global;
@@ -83,12 +82,12 @@ fn unlist(children: &mut Children, place: &Place)
 }
 
 /// Puts a node at an absent path. After an error both are as before, as far as can be asked.
-pub(crate) fn put_new(
-    nodes: &mut PathMap<Node>,
+pub(crate) fn put_new<V: Drop>(
+    nodes: &mut PathMap<V>,
     children: &mut Children,
     alloc: Global,
     place: &Place,
-    n: Node,
+    n: V,
 ) -> Result<(), NoMemory>
     requires index { IsIndex children.old nodes.old }
     requires absent { map.get nodes.old place.now.path ≡ None }
@@ -108,7 +107,7 @@ pub(crate) fn put_new(
 }
 
 /// Takes a path out.
-pub(crate) fn take_out(nodes: &mut PathMap<Node>, children: &mut Children, place: &Place)
+pub(crate) fn take_out<V: Drop>(nodes: &mut PathMap<V>, children: &mut Children, place: &Place)
     requires index { IsIndex children.old nodes.old }
     ensures index { IsIndex children.new nodes.new }
     ensures nodes { nodes.new ≡ map.remove nodes.old place.now.path }
@@ -118,17 +117,18 @@ pub(crate) fn take_out(nodes: &mut PathMap<Node>, children: &mut Children, place
 }
 
 /// Puts a node at a path. After an error both are as before, as far as can be asked.
-pub(crate) fn put(
-    nodes: &mut PathMap<Node>,
+pub(crate) fn put<V: Drop>(
+    nodes: &mut PathMap<V>,
     children: &mut Children,
     alloc: Global,
     p: Path,
-    n: Node,
+    n: V,
 ) -> Result<(), NoMemory>
     requires index { IsIndex children.old nodes.old }
     ensures index { IsIndex children.new nodes.new }
     ensures ok { OnOk result (nodes.new ≡ map.insert nodes.old p n) }
     ensures err { OnErr result (nodes.new ≡ nodes.old) }
+    ensures absent { OnErr result (map.get nodes.old p ≡ None) }
 {
     if nodes.get(&p).is_some() {
         nodes.insert(p, n)?;

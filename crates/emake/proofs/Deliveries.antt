@@ -1,8 +1,7 @@
 -- Calls on a host one after another, and the serial run, job by job.
-use Rattle.std.proofs.Common.{◌≡◌, ℕ, zero, suc, ◌+◌, Bool, true, false, cond, List, [], ◌∷◌, ◌++◌, length, take, Option, Some, None, Result, Ok, Err, refl, sym, ap, subst, ◌∙◌, inl, inr, ⊎_elim, append_assoc, append-nil, zero-add, add-one, drop, drop-cons, get_or, ◌<◌, ◌≤◌, arith}
-use Rattle.std.specs.Prelude.{IfOk, OnOk, OnErr}
+use Rattle.std.proofs.Common.{◌≡◌, ℕ, zero, suc, ◌+◌, true, false, List, [], ◌∷◌, ◌++◌, length, take, Option, Result, Ok, Err, refl, sym, ap, subst, ◌∙◌, inl, inr, ⊎_elim, append_assoc, append-nil, zero-add, add-one, drop, drop-cons, get_or, ◌<◌, ◌≤◌, arith}
 use Rattle.em_host.specs.Outside.{Outside, Tells}
-use Rattle.em_host.proofs.Telling.{Tells-then, Tells-weaken, Tells-same}
+use Rattle.em_host.proofs.Telling.{Tells-then, Tells-weaken}
 use Rattle.em_host.specs.declared.no.HostNo.{HostNo}
 use Rattle.em_host.specs.declared.no.HostNo.TheVariants.{Failed}
 use Rattle.em_tree.specs.declared.state.State.{State}
@@ -10,7 +9,7 @@ use Rattle.em_simple.specs.declared.job.Job.{Job}
 use Rattle.emake.specs.declared.verdict.Verdict.{Verdict}
 use Rattle.emake.specs.Effects.{effect}
 use Rattle.emake.specs.Serial.{Run, after, ends, behind, serial, said}
-use Rattle.emake.specs.Delivery.{Ending, Says, Delivers, IsDone, IsCut, LastFailed, saying, replaced}
+use Rattle.emake.specs.Delivery.{Ending, Says, Delivers, saying, replaced}
 use Rattle.emake.specs.Loops.{IsUnderway}
 
 -- a front of the first text, and a front that reaches into the second
@@ -149,10 +148,10 @@ underway-on base makefile j js s whole a b c u goes run told =
       early = sym (ap (λ (r : Run). r.early) step) ∙ run.early;
     }
 
-pub left_at : (js : List Job) (i : ℕ) (j : Job) → i < length js → j ≡ get_or js i j → drop i js ≡ j ∷ drop (i + 1) js
+pub left_at : {X : Type 0} (js : List X) (i : ℕ) (j : X) → i < length js → j ≡ get_or js i j → drop i js ≡ j ∷ drop (i + 1) js
 left_at js i j lt is = rw (add-one, drop-cons js i j lt) (ap (λ x. x ∷ drop (suc i) js) (sym is))
 
-pub none_at : (js : List Job) (i : ℕ) → length js ≤ i → drop i js ≡ []
+pub none_at : {X : Type 0} (js : List X) (i : ℕ) → length js ≤ i → drop i js ≡ []
 none_at [] zero le = refl
 none_at [] (suc i) le = refl
 none_at (j ∷ js) zero le = absurd (omega arith)

@@ -1,16 +1,16 @@
 -- How a run ends.
-use Rattle.std.proofs.Common.{◌≡◌, ℕ, zero, suc, ◌+◌, ◌<◌, ◌≤◌, ◌^◌, Bool, true, false, cond, ◌||◌, List, [], ◌∷◌, ◌++◌, length, take, map, append-nil, Option, Some, None, Result, Ok, Err, nat_lt, refl, sym, ap, subst, ◌∙◌, inl, inr, ⊎_elim, arith, rules}
+use Rattle.std.proofs.Common.{◌≡◌, ℕ, ◌<◌, ◌≤◌, ◌^◌, Bool, true, false, cond, ◌||◌, List, [], ◌∷◌, ◌++◌, length, take, map, append-nil, Option, Some, None, Result, Ok, Err, nat_lt, refl, sym, ap, subst, ◌∙◌, inl, inr, ⊎_elim, arith}
 use Rattle.std.specs.List.{list_any}
-use Rattle.std.specs.FinMap.{entries, values, get}
+use Rattle.std.specs.FinMap.{entries, get}
 use Rattle.std.proofs.lemmas.Bool.{false≢true}
 use Rattle.em_host.specs.Outside.{Outside, Tells, Takes, Replaces}
 use Rattle.em_host.specs.declared.no.HostNo.{HostNo}
 use Rattle.em_host.specs.declared.no.HostNo.TheVariants.{Failed}
 use Rattle.em_host.specs.declared.no.HostNo.TheVariants as host
-use Rattle.em_host.proofs.Telling.{Tells-then, Tells-weaken, Tells-same}
+use Rattle.em_host.proofs.Telling.{Tells-then, Tells-weaken}
 use Rattle.em_tree.specs.Trees.{Table, greatest, base_of, stamp_in}
 use Rattle.em_tree.specs.declared.node.Node.{Node}
-use Rattle.em_image.specs.Image.{Limits, limits, broken, broken_by, is_too_late, is_too_big, entries_text}
+use Rattle.em_image.specs.Image.{limits, broken, is_too_late, is_too_big, entries_text}
 use Rattle.em_image.specs.Parts.{Fails}
 use Rattle.em_image.specs.declared.no.ImageNo.{ImageNo}
 use Rattle.em_image.specs.declared.no.ImageNo.TheVariants as no
@@ -26,7 +26,7 @@ use Rattle.emake.specs.Endings.{finished, closed, built, over, ended, refused}
 use Rattle.emake.specs.Words.{order_of}
 use Rattle.emake.specs.Messages.{bad_words}
 use Rattle.emake.proofs.Deliveries.{delivers-behind, delivers-stop}
-use Rattle.emake.specs.Delivery.{Ending, Says, Delivers, IsCut, replaced}
+use Rattle.emake.specs.Delivery.{Ending, Says, Delivers, replaced}
 
 take_whole : (xs : List ℕ) → take (length xs) xs ≡ xs
 take_whole [] = refl

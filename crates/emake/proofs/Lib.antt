@@ -1,5 +1,4 @@
 pub mod NameLemmas
-pub mod FitLemmas
-pub mod Laid
 pub mod Deliveries
 pub mod Ends
+pub mod Running

@@ -1,10 +1,10 @@
 -- Names as components of paths.
-use Rattle.std.proofs.Common.{◌≡◌, ◌≢◌, ℕ, ◌≤◌, ◌<◌, ◌==◌, Bool, true, false, cond, ◌&&◌, List, [], ◌∷◌, ◌++◌, length, All, refl, ap, sym, ◌∙◌, subst, arith, rules, nat_lt}
+use Rattle.std.proofs.Common.{◌≡◌, ◌≢◌, ℕ, ◌<◌, true, ◌&&◌, List, [], ◌∷◌, length, ap, sym, ◌∙◌, arith, rules, nat_lt}
 use Rattle.std.proofs.lemmas.Bool.{false≢true, and_parts}
 use Rattle.std.specs.List.{list_all, AllByRecursion}
 use Rattle.std.proofs.lemmas.List.Elements.{All-from_recursion}
-use Rattle.em_path.specs.Paths.{IsComponent, IsPath, root_text, child_text}
-use Rattle.em_path.proofs.Spelling.{child_of_root, IsPath-under_root}
+use Rattle.em_path.specs.Paths.{IsComponent, IsPath}
+use Rattle.em_path.proofs.Spelling.{IsPath-under_root}
 use Rattle.em_simple.specs.Names.{is_name, is_name_byte, starts_name}
 
 pub name_starts : (x : List ℕ) → is_name x ≡ true → starts_name x ≡ true

@@ -2,7 +2,7 @@
 --     Ending               what a run comes to: all that it prints, the image's new text, if there is one, and the status
 --     Says text            a call printed this text, or failed in it
 --     Delivers ending      a call came to this ending, or failed on the way
-use Rattle.std.specs.Prelude.{◌≡◌, ℕ, true, List, ◌++◌, take, Option, Some, None, Result, Ok, Err, IfOk, OnOk, OnErr, ◌⊎◌}
+use Rattle.std.specs.Prelude.{◌≡◌, ℕ, true, List, ◌++◌, take, Option, Some, None, Result, Err, IfOk, OnOk, OnErr, ◌⊎◌}
 use Rattle.std.specs.FinMap.{insert}
 use Rattle.em_host.specs.Outside.{Outside, Files}
 use Rattle.emake.specs.declared.verdict.Verdict.{Verdict}

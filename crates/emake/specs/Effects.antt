@@ -1,25 +1,27 @@
 -- What one job does, on a state that is a tree and the outcomes of the jobs before.
 --     is_due j s          remaking is due
 --     decided j s         the outcome, where the recipe isn't run
---     change_number       the number of a job's k-th change, which its nodes get as their stamps
+--     run_lines           the recipe's lines, by the operations of a desk
 --     effect base makefile j s      what the job changes and says, and its outcome; makefile is the makefile's name
-use Rattle.std.specs.Prelude.{◌≡◌, ℕ, ◌+◌, ◌*◌, ◌^◌, ◌==◌, Bool, true, false, not, ◌&&◌, ◌||◌, nat_lt, List, [], ◌∷◌, ◌++◌, length, Option, Some, None, is_none, codes, slice_get, if◌then◌else◌}
+use Rattle.std.specs.Prelude.{ℕ, ◌==◌, Bool, true, false, not, ◌||◌, nat_lt, List, [], ◌∷◌, ◌++◌, length, Option, Some, None, Result, Ok, Err, is_none, option_map, codes, slice_get, if◌then◌else◌}
 use Rattle.std.specs.List.{list_any, flat_map}
-use Rattle.std.specs.FinMap.{get, insert, empty}
-use Rattle.em_path.specs.Paths.{root_text}
-use Rattle.em_tree.specs.Trees.{Table, Changes, stamp_of}
-use Rattle.em_tree.specs.declared.node.Node.{Node}
-use Rattle.em_tree.specs.declared.node.Node.TheVariants.{File, Dir}
+use Rattle.std.specs.FinMap.{get, empty}
+use Rattle.em_tree.specs.Trees.{stamp_of}
 use Rattle.em_tree.specs.declared.outcome.Outcome.{Outcome}
-use Rattle.em_tree.specs.declared.outcome.Outcome.TheVariants.{Upto, Counted, Made, Failed, NoRule, Skipped}
+use Rattle.em_tree.specs.declared.outcome.Outcome.TheVariants.{Upto, Counted, Made, Failed, NoRule, Skipped, Spent}
+use Rattle.em_tree.specs.Answers.{answer}
 use Rattle.em_tree.specs.declared.state.State.{State}
 use Rattle.em_simple.specs.declared.line.Echo.{Echo}
 use Rattle.em_simple.specs.declared.makefile.RecipeLine.{RecipeLine}
 use Rattle.em_simple.specs.declared.job.Job.{Job}
-use Rattle.em_simple.specs.declared.job.Need.{Need}
 use Rattle.emake.specs.declared.effect.Effect.{Effect}
-use Rattle.emake.specs.declared.effect.Work.{Work}
-use Rattle.emake.specs.Messages.{newline, no_rule, redirection_fault, failed_line}
+use Rattle.emake.specs.declared.effect.Said.{Said}
+use Rattle.em_view.specs.declared.no.FileNo.{FileNo}
+use Rattle.em_view.specs.declared.no.DeskNo.{DeskNo}
+use Rattle.em_view.specs.declared.no.DeskNo.TheVariants as no
+use Rattle.em_view.specs.Actions.{Workspace, Action, ◌>>=◌, done, fail, attempt, spend}
+use Rattle.em_view.specs.Rows.{blocks, put, content}
+use Rattle.emake.specs.Messages.{newline, no_rule, redirection_fault, failed_line, spent_line}
 
 -- a name stands in the root
 abbrev pub path_of : List ℕ → List ℕ
@@ -81,67 +83,81 @@ command_text l = codes "echo" ++ spaced l.words ++ arrow l.to ++ newline
 abbrev pub written : Echo → List ℕ
 written l = joined l.words ++ newline
 
-abbrev pub change_number : ℕ → ℕ → ℕ → ℕ
-change_number base job k = base + job * 2 ^ 20 + k
+-- ---- a recipe, on a desk
 
--- what stands at a path, under the job's own changes
-abbrev pub own_or : Option (Option Node) → Option Node → Option Node
-own_or None below = below
-own_or (Some own) below = own
+-- the units that a job may use
+abbrev pub job_fuel : ℕ
+job_fuel = 1000000
 
-abbrev pub node_at : Table → Changes → List ℕ → Option Node
-node_at tree changes p = own_or (get changes p) (get tree p)
+-- `>` empties the file
+abbrev pub opened : Option (List ℕ) → Action DeskNo (Unit {0})
+opened None = done tt
+opened (Some p) = put p []
 
--- a created name gives its number to its directory, too
-abbrev pub created : Bool → ℕ → Changes → Changes
-created new number changes = if new then insert changes root_text (Some (Dir number)) else changes
+-- what was written is appended, where the path is still a file
+abbrev pub append_to : List ℕ → List ℕ → Option (List ℕ) → Action DeskNo (Unit {0})
+append_to p text None = done tt
+append_to p text (Some bytes) = put p (bytes ++ text)
 
--- the file becomes these bytes, by one change
-abbrev pub put : ℕ → ℕ → Table → Work → List ℕ → List ℕ → Work
-put base job tree w name bytes = record {
-  changes = created (is_none (node_at tree w.changes (path_of name))) (change_number base job (w.count + 1))
-      (insert w.changes (path_of name) (Some (File bytes (change_number base job (w.count + 1)))));
-  count = w.count + 1;
-  output = w.output;
-}
+unfoldable pub append : List ℕ → List ℕ → Action DeskNo (Unit {0})
+append p text = do
+  bytes ← content p
+  append_to p text bytes
 
-abbrev pub say : Work → List ℕ → Work
-say w text = record { changes = w.changes; count = w.count; output = w.output ++ text }
+abbrev pub appended : List ℕ → Option (List ℕ) → Action DeskNo (Unit {0})
+appended text None = done tt
+appended text (Some p) = append p text
 
--- `>` empties the file, and then what was written is appended
-abbrev pub redirect : ℕ → ℕ → Table → Work → Option (List ℕ) → List ℕ → Work
-redirect base job tree w None text = say w text
-redirect base job tree w (Some file) text = put base job tree (put base job tree w file []) file text
+-- a command costs a unit, taken before its redirection acts, and the blocks of what it wrote, taken before that goes anywhere
+unfoldable pub run_command : Option (List ℕ) → List ℕ → Action DeskNo (Unit {0})
+run_command to text = do
+  u ← spend 1
+  r ← opened to
+  v ← spend (blocks (length text))
+  appended text to
 
--- the line is echoed, unless it is silent
-abbrev pub echoed : Work → Echo → Work
-echoed w l = if l.silent then w else say w (command_text l)
+-- the line as it is echoed, unless it is silent, and what its command writes, unless that goes to a file
+abbrev pub echoed : Echo → List ℕ
+echoed l = if l.silent then [] else command_text l
 
-abbrev pub is_dir : Option Node → Bool
-is_dir (Some (Dir stamp)) = true
-is_dir _ = false
+abbrev pub shown : Option (List ℕ) → List ℕ → List ℕ
+shown None text = text
+shown (Some file) text = []
 
--- a directory takes nothing
-abbrev pub fails : Table → Changes → Option (List ℕ) → Bool
-fails tree changes None = false
-fails tree changes (Some file) = is_dir (node_at tree changes (path_of file))
+abbrev pub made : List ℕ → Said
+made output = record { output = output; outcome = Made }
 
-abbrev pub nothing_done : Work
-nothing_done = record { changes = empty; count = 0; output = [] }
+-- a redirection that fails: the job ends with status 1
+abbrev pub failed : List ℕ → Job → RecipeLine → List ℕ → FileNo → Said
+failed makefile j l output why = record { output = output ++ redirection_fault l.command.to why ++ failed_line makefile l.line j.target 1; outcome = Failed 1 }
 
-abbrev pub made : Work → Effect
-made w = record { changes = w.changes; output = w.output; outcome = Made }
+abbrev pub spent : List ℕ → Job → RecipeLine → List ℕ → Said
+spent makefile j l output = record { output = output ++ spent_line makefile l.line j.target; outcome = Spent }
 
--- a redirection to a directory: the command isn't run, and the job ends with status 1
-abbrev pub failed : List ℕ → List ℕ → ℕ → Work → Option (List ℕ) → Effect
-failed makefile target line w to = record { changes = w.changes; output = w.output ++ redirection_fault to ++ failed_line makefile line target 1; outcome = Failed 1 }
+-- how a recipe goes on after a line's command, and otherwise ends
+abbrev pub after_command : List ℕ → Job → RecipeLine → List ℕ → Action DeskNo Said → Result (Unit {0}) DeskNo → Action DeskNo Said
+after_command makefile j l output rest (Ok u) = rest
+after_command makefile j l output rest (Err (no.File f)) = done (failed makefile j l output f)
+after_command makefile j l output rest (Err no.Spent) = done (spent makefile j l output)
+after_command makefile j l output rest (Err no.NoMemory) = fail no.NoMemory
 
--- the lines in order, up to the first that fails
-abbrev pub run_lines : ℕ → List ℕ → Job → Table → Work → List RecipeLine → Effect
-run_lines base makefile j tree w [] = made w
-run_lines base makefile j tree w (l ∷ ls) = if fails tree w.changes l.command.to
-    then failed makefile j.target l.line (echoed w l.command) l.command.to
-    else run_lines base makefile j tree (redirect base j.number tree (echoed w l.command) l.command.to (written l.command)) ls
+-- the lines in order, up to the first that fails; output is what was said before them
+abbrev pub run_lines : List ℕ → Job → List ℕ → List RecipeLine → Action DeskNo Said
+run_lines makefile j output [] = done (made output)
+run_lines makefile j output (l ∷ ls) = attempt (run_command (option_map path_of l.command.to) (written l.command))
+    >>= after_command makefile j l (output ++ echoed l.command) (run_lines makefile j (output ++ echoed l.command ++ shown l.command.to (written l.command)) ls)
+
+-- the desk of a job that has done nothing
+abbrev pub fresh : ℕ → ℕ → Workspace
+fresh base job = record { base = base; job = job; given = job_fuel; fuel = job_fuel; count = 0; changes = empty; asked = [] }
+
+abbrev pub effect_of : Result Said DeskNo → Workspace → Effect
+effect_of (Ok said) w = record { changes = w.changes; output = said.output; outcome = said.outcome }
+effect_of (Err e) w = record { changes = w.changes; output = []; outcome = Spent }
+
+-- the recipe is run by asking the state
+abbrev pub recipe : ℕ → List ℕ → Job → State → Effect
+recipe base makefile j s = effect_of (run_lines makefile j [] j.recipe (answer s) (fresh base j.number)).0 (run_lines makefile j [] j.recipe (answer s) (fresh base j.number)).1
 
 -- what a job says that ends so without its recipe
 abbrev pub told : Job → Outcome → List ℕ
@@ -150,7 +166,7 @@ told j _ = []
 
 abbrev pub ends_as : ℕ → List ℕ → Job → State → Option Outcome → Effect
 ends_as base makefile j s (Some o) = record { changes = empty; output = told j o; outcome = o }
-ends_as base makefile j s None = run_lines base makefile j s.tree nothing_done j.recipe
+ends_as base makefile j s None = recipe base makefile j s
 
 abbrev pub effect : ℕ → List ℕ → Job → State → Effect
 effect base makefile j s = ends_as base makefile j s (decided j s)

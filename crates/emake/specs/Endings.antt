@@ -1,6 +1,6 @@
 -- What a run comes to, from the words and the host's files.
 --     ended order files      the ending: `emake` does nothing else than come to it
-use Rattle.std.specs.Prelude.{ℕ, ◌&&◌, Bool, true, false, nat_lt, List, [], ◌∷◌, ◌++◌, length, Option, Some, None, Result, Ok, Err, codes, decimal, if◌then◌else◌}
+use Rattle.std.specs.Prelude.{ℕ, Bool, true, false, nat_lt, List, [], ◌∷◌, ◌++◌, length, Option, Some, None, Result, Ok, Err, codes, decimal, if◌then◌else◌}
 use Rattle.std.specs.FinMap.{get}
 use Rattle.em_host.specs.Outside.{Files}
 use Rattle.em_tree.specs.Trees.{Table, content_of, base_of}

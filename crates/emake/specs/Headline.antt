@@ -2,7 +2,7 @@
 use Rattle.std.specs.Prelude.{◌≡◌, ◌≢◌, ℕ, true, List, ◌⊎◌}
 use Rattle.em_host.specs.Outside.{Outside}
 use Rattle.emake.specs.Words.{order_of}
-use Rattle.emake.specs.Delivery.{Ending, IsDone, IsCut}
+use Rattle.emake.specs.Delivery.{IsDone, IsCut}
 use Rattle.emake.specs.Closing.{code_of}
 use Rattle.emake.specs.Endings.{ended}
 

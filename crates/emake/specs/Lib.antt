@@ -1,7 +1,6 @@
 pub mod Words
 pub mod Messages
 pub mod Effects
-pub mod Fits
 pub mod Serial
 pub mod Turns
 pub mod Delivery

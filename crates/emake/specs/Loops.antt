@@ -1,7 +1,6 @@
 -- A serial run that is underway.
-use Rattle.std.specs.Prelude.{◌≡◌, ℕ, List, ◌++◌, Option, Result, Ok}
+use Rattle.std.specs.Prelude.{◌≡◌, ℕ, List, ◌++◌, Option, Ok}
 use Rattle.em_host.specs.Outside.{Outside, Tells}
-use Rattle.em_host.specs.declared.no.HostNo.{HostNo}
 use Rattle.emake.specs.Serial.{Run, said}
 use Rattle.emake.specs.Delivery.{Says}
 

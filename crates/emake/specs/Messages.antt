@@ -1,5 +1,7 @@
 -- What `emake` says. FILE is the makefile's name as it was found.
 use Rattle.std.specs.Prelude.{ℕ, List, [], ◌∷◌, ◌++◌, Option, Some, None, codes, decimal}
+use Rattle.em_view.specs.declared.no.FileNo.{FileNo}
+use Rattle.em_view.specs.declared.no.FileNo.TheVariants as file
 
 abbrev pub newline : List ℕ
 newline = 10 ∷ []
@@ -31,11 +33,30 @@ nothing_to_do goal = codes "emake: Nothing to be done for '" ++ goal ++ codes "'
 abbrev pub up_to_date : List ℕ → List ℕ
 up_to_date goal = codes "emake: '" ++ goal ++ codes "' is up to date.\n"
 
--- a redirection to a directory
-abbrev pub redirection_fault : Option (List ℕ) → List ℕ
-redirection_fault None = []
-redirection_fault (Some word) = codes "emake: sh: " ++ word ++ codes ": is a directory\n"
+-- why an operation on a file is refused
+abbrev pub reason : FileNo → List ℕ
+reason file.Absent = codes "absent"
+reason file.NoParent = codes "no parent"
+reason file.NotDir = codes "not a directory"
+reason file.IsDir = codes "is a directory"
+reason file.Exists = codes "exists"
+reason file.NotEmpty = codes "not empty"
+reason file.TooBig = codes "too big"
+reason file.Root = codes "root"
 
--- the recipe line of the target that ended with this status
+-- a redirection that fails
+abbrev pub redirection_fault : Option (List ℕ) → FileNo → List ℕ
+redirection_fault None why = []
+redirection_fault (Some word) why = codes "emake: sh: " ++ word ++ codes ": " ++ reason why ++ newline
+
+-- the recipe line of the target
+abbrev pub line_place : List ℕ → ℕ → List ℕ → List ℕ
+line_place file line target = codes "emake: *** [" ++ file ++ codes ":" ++ decimal line ++ codes ": " ++ target ++ codes "]"
+
+-- it ended with this status
 abbrev pub failed_line : List ℕ → ℕ → List ℕ → ℕ → List ℕ
-failed_line file line target status = codes "emake: *** [" ++ file ++ codes ":" ++ decimal line ++ codes ": " ++ target ++ codes "] Error " ++ decimal status ++ newline
+failed_line file line target status = line_place file line target ++ codes " Error " ++ decimal status ++ newline
+
+-- the job's fuel ended in it
+abbrev pub spent_line : List ℕ → ℕ → List ℕ → List ℕ
+spent_line file line target = line_place file line target ++ codes " Fuel spent.  Stop.\n"

@@ -3,7 +3,6 @@ use Rattle.std.specs.Prelude.{ℕ, List}
 use Rattle.em_tree.specs.declared.state.State.{State}
 use Rattle.em_simple.specs.declared.job.Job.{Job}
 use Rattle.emake.specs.declared.serial.Turn.{Turn}
-use Rattle.emake.specs.declared.serial.Ran.{Ran}
 use Rattle.emake.specs.Effects.{effect}
 use Rattle.emake.specs.Serial.{after, ends}
 

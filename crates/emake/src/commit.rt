@@ -2,12 +2,11 @@
 ghost use Rattle.std.specs.Prelude.{◌≡◌, ◌≤◌, ◌^◌, ◌++◌, ◌∷◌, [], IfOk};
 ghost use Rattle.em_tree.specs.Trees.{IsTree, laid_over};
 ghost use Rattle.emake.specs.Effects.{effect, told};
-ghost use Rattle.emake.specs.Fits.{Fit};
 
 use crate::decide::decided;
 use crate::effect::Effect;
 use crate::messages::no_rule;
-use crate::run::run_lines;
+use crate::run::run_recipe;
 use em_base::{NoMemory, Text};
 use em_simple::Job;
 use em_tree::{Delta, Outcome, State};
@@ -24,7 +23,6 @@ fn told(alloc: Global, job: &Job, outcome: &Outcome) -> Result<Text, NoMemory>
 }
 
 /// What the job does on the state, what it says, and how it ends.
-#[tactic(auto, using(crate::proofs::FitLemmas::fits))]
 pub fn effect(
     alloc: Global,
     base: u64,
@@ -34,7 +32,7 @@ pub fn effect(
 ) -> Result<Effect, NoMemory>
     requires { base ≤ 2 ^ 62 }
     ensures effect { IfOk result (λ e. e ≡ effect base makefile.now job.now state.now) }
-    ensures fit { IfOk result (λ e. Fit state.now.tree e.changes) }
+    ensures tree { IfOk result (λ e. IsTree state.now.tree → IsTree (laid_over e.changes state.now.tree)) }
 {
     match decided(alloc, job, state)? {
         Some(outcome) => Ok(Effect {
@@ -42,14 +40,13 @@ pub fn effect(
             output: told(alloc, job, &outcome)?,
             outcome,
         }),
-        None => run_lines(alloc, base, makefile, job, &state.tree, job.recipe.items()),
+        None => run_recipe(alloc, base, makefile, job, state),
     }
 }
 
 /// The state after a job with these changes and this outcome.
 pub fn committed(state: State, changes: &Delta, outcome: Outcome) -> Result<State, NoMemory>
-    requires tree { IsTree state.tree }
-    requires fit { Fit state.tree changes.now }
+    requires tree { IsTree (laid_over changes.now state.tree) }
     ensures state { IfOk result (λ s. s ≡ record { tree = laid_over changes.now state.tree; outcomes = state.outcomes ++ outcome ∷ [] }) }
     ensures tree { IfOk result (λ s. IsTree s.tree) }
 {

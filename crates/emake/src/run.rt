@@ -1,20 +1,24 @@
 //! The recipe lines of a job: `echo`, and what it writes.
-ghost use Rattle.std.specs.Prelude.{◌≡◌, ◌<◌, ◌≤◌, ◌+◌, ◌*◌, ◌^◌, ◌++◌, length, IfOk, OnOk, false, is_none, option_copied};
-ghost use Rattle.std.specs.FinMap as map;
-ghost use Rattle.emake.specs.Effects.{spaced, command_text, written, change_number, path_of, node_at, put, say, redirect, echoed, is_dir, fails, failed, made, run_lines, nothing_done};
-ghost use Rattle.emake.specs.Fits.{Fit};
+ghost use Rattle.std.specs.Prelude.{◌≡◌, ◌≤◌, ◌^◌, ◌++◌, [], IfOk, IfErr, OnOk, option_copied, option_map};
+ghost use Rattle.em_tree.specs.Trees.{IsTree, laid_over};
+ghost use Rattle.em_view.specs.declared.no.DeskNo.TheVariants as no;
+ghost use Rattle.em_view.specs.Actions.{spend};
+ghost use Rattle.em_view.specs.Performs.{Performs};
+ghost use Rattle.em_view.specs.Rows.{is_memory};
+ghost use Rattle.emake.specs.Effects.{spaced, command_text, written, path_of, opened, append, appended, run_command, echoed, shown, made, failed, spent, run_lines, recipe};
 
-use crate::effect::{Effect, Work};
-use crate::messages::{failed_line, redirection_fault};
+use crate::effect::{Effect, Said};
+use crate::messages::{failed_line, redirection_fault, spent_line};
 use crate::paths::path_of;
-use em_base::{NoMemory, Text};
+use em_base::{Fuel, NoMemory, Text};
 use em_path::Path;
 use em_simple::{Echo, Job, Name, RecipeLine};
-use em_tree::{Body, Delta, Node, Outcome, Tree};
+use em_tree::{Outcome, State};
+use em_view::{Desk, DeskNo, FileNo, PlainView, View, blocks};
 use std::alloc::Global;
 
-/// How many changes a job's stamps leave room for.
-const CHANGES: u64 = 1_048_576;
+/// The units that a job may use.
+const JOB_FUEL: u64 = 1_000_000;
 
 fn add_spaced(text: &mut Text, words: &[Name]) -> Result<(), NoMemory>
     ensures { OnOk result (text.new ≡ text.old ++ spaced words.now) }
@@ -53,207 +57,217 @@ fn written(alloc: Global, line: &Echo) -> Result<Text, NoMemory>
     Ok(text)
 }
 
-/// The number of a job's change, which the nodes that it makes get as their stamps.
-fn change_number(base: u64, job: u32, change: u64) -> u64
-    requires base { base ≤ 2 ^ 62 }
-    requires change { change ≤ 2 ^ 62 }
-    ensures { result ≡ change_number base job change }
+/// Takes n units, or is spent.
+fn pay<V: View>(desk: &mut Desk<V>, n: u64) -> Result<(), DeskNo>
+    ensures { Performs is_memory V.tells desk.old desk.new result (spend n) }
 {
-    base + u64::from(job) * CHANGES + change
+    Ok(desk.spend(n)?)
 }
 
-fn is_absent(tree: &Tree, changes: &Delta, path: &Path) -> bool
-    ensures { result ≡ is_none (node_at tree.now changes.now path.now) }
+/// Empties the file that a redirection names.
+fn open<V: View>(desk: &mut Desk<V>, to: Option<&Path>) -> Result<(), DeskNo>
+    ensures { Performs is_memory V.tells desk.old desk.new result (opened (option_copied to.entry)) }
 {
-    match changes.get(path) {
-        Some(own) => own.is_none(),
-        None => tree.get(path).is_none(),
+    match to {
+        None => Ok(()),
+        Some(path) => desk.put(path, &[]),
     }
 }
 
-/// The file becomes these bytes, by one change. A created name stamps its directory, too.
-fn put(
-    alloc: Global,
-    base: u64,
-    job: u32,
-    tree: &Tree,
-    work: Work,
-    name: &Name,
-    bytes: &[u8],
-) -> Result<Work, NoMemory>
-    requires base { base ≤ 2 ^ 62 }
-    requires count { work.count < 2 ^ 62 }
-    ensures put { IfOk result (λ w. w ≡ put base job tree.now work name.now bytes.now) }
-    ensures fit { IfOk result (λ w. Fit tree.now work.changes → is_dir (map.get tree.now (path_of name.now)) ≡ false → Fit tree.now w.changes) }
+fn joined(alloc: Global, front: &[u8], text: &[u8]) -> Result<Text, NoMemory>
+    ensures { IfOk result (λ t. t ≡ front.now ++ text.now) }
 {
-    let Work {
-        mut changes,
-        count,
-        output,
-    } = work;
-    let count = count + 1;
-    let stamp = change_number(base, job, count);
-    let path = path_of(alloc, name)?;
-    let new = is_absent(tree, &changes, &path);
-    let body = Body::from_slice(alloc, bytes)?;
-    changes.set(path, Some(Node::File { body, stamp }))?;
-    if new {
-        changes.set(Path::root(), Some(Node::Dir { stamp }))?;
-    }
-    Ok(Work {
-        changes,
-        count,
-        output,
-    })
+    let mut whole = Text::from_slice(alloc, front)?;
+    whole.add(text)?;
+    Ok(whole)
 }
 
-fn say(work: Work, text: &[u8]) -> Result<Work, NoMemory>
-    ensures { IfOk result (λ w. w ≡ say work text.now) }
-{
-    let Work {
-        changes,
-        count,
-        mut output,
-    } = work;
-    output.add(text)?;
-    Ok(Work {
-        changes,
-        count,
-        output,
-    })
-}
-
-/// What a command wrote is said, or becomes a file, which is emptied first.
-fn redirect(
+/// Appends to a file, where the path is still one.
+fn append<V: View>(
     alloc: Global,
-    base: u64,
-    job: u32,
-    tree: &Tree,
-    work: Work,
-    to: Option<&Name>,
+    desk: &mut Desk<V>,
+    path: &Path,
     text: &[u8],
-) -> Result<Work, NoMemory>
-    requires base { base ≤ 2 ^ 62 }
-    requires count { work.count + 1 < 2 ^ 62 }
-    ensures redirect { IfOk result (λ w. w ≡ redirect base job tree.now work (option_copied to.entry) text.now) }
-    ensures count { IfOk result (λ w. w.count ≤ work.count + 2) }
-    ensures fit { IfOk result (λ w. Fit tree.now work.changes → fails tree.now work.changes (option_copied to.entry) ≡ false → Fit tree.now w.changes) }
+) -> Result<(), DeskNo>
+    ensures { Performs is_memory V.tells desk.old desk.new result (append path.now text.now) }
+{
+    let Some(body) = desk.content(path)? else {
+        return Ok(());
+    };
+    let whole = joined(alloc, body.bytes(), text)?;
+    desk.put(path, whole.bytes())
+}
+
+/// What was written goes to the file that a redirection names.
+fn close<V: View>(
+    alloc: Global,
+    desk: &mut Desk<V>,
+    to: Option<&Path>,
+    text: &[u8],
+) -> Result<(), DeskNo>
+    ensures { Performs is_memory V.tells desk.old desk.new result (appended text.now (option_copied to.entry)) }
 {
     match to {
-        None => say(work, text),
-        Some(file) => {
-            let emptied = put(alloc, base, job, tree, work, file, &[])?;
-            put(alloc, base, job, tree, emptied, file, text)
-        }
+        None => Ok(()),
+        Some(path) => append(alloc, desk, path, text),
     }
 }
 
-fn is_dir(node: Option<&Node>) -> bool
-    ensures { result ≡ is_dir (option_copied node.entry) }
+/// A command that writes this text.
+fn run_command<V: View>(
+    alloc: Global,
+    desk: &mut Desk<V>,
+    to: Option<&Path>,
+    text: &[u8],
+) -> Result<(), DeskNo>
+    ensures { Performs is_memory V.tells desk.old desk.new result (run_command (option_copied to.entry) text.now) }
 {
-    matches!(node, Some(Node::Dir { .. }))
+    pay(desk, 1)?;
+    open(desk, to)?;
+    pay(desk, blocks(text.len() as u64))?;
+    close(alloc, desk, to, text)
 }
 
-fn is_dir_at(tree: &Tree, changes: &Delta, path: &Path) -> bool
-    ensures { result ≡ is_dir (node_at tree.now changes.now path.now) }
-{
-    match changes.get(path) {
-        Some(own) => is_dir(own.as_ref()),
-        None => is_dir(tree.get(path)),
-    }
-}
-
-/// Whether the redirection fails: a directory takes nothing.
-fn fails(alloc: Global, tree: &Tree, changes: &Delta, to: Option<&Name>) -> Result<bool, NoMemory>
-    ensures { IfOk result (λ b. b ≡ fails tree.now changes.now (option_copied to.entry)) }
+/// The path that a redirection names.
+fn target(alloc: Global, to: Option<&Name>) -> Result<Option<Path>, NoMemory>
+    ensures { IfOk result (λ p. p ≡ option_map path_of (option_copied to.entry)) }
 {
     match to {
-        None => Ok(false),
-        Some(file) => Ok(is_dir_at(tree, changes, &path_of(alloc, file)?)),
+        None => Ok(None),
+        Some(name) => Ok(Some(path_of(alloc, name)?)),
     }
 }
 
-fn echoed(alloc: Global, work: Work, command: &Echo) -> Result<Work, NoMemory>
-    ensures echoed { IfOk result (λ w. w ≡ echoed work command.now) }
-    ensures count { IfOk result (λ w. w.count ≡ work.count) }
-    ensures changes { IfOk result (λ w. w.changes ≡ work.changes) }
+/// Runs the command of a line.
+fn run_line<V: View>(alloc: Global, desk: &mut Desk<V>, line: &Echo) -> Result<(), DeskNo>
+    ensures { Performs is_memory V.tells desk.old desk.new result (run_command (option_map path_of line.now.to) (written line.now)) }
 {
-    if command.silent {
-        return Ok(work);
+    let to = target(alloc, line.to.as_ref())?;
+    let text = written(alloc, line)?;
+    run_command(alloc, desk, to.as_ref(), text.bytes())
+}
+
+fn echo(alloc: Global, output: &mut Text, line: &Echo) -> Result<(), DeskNo>
+    ensures ok { OnOk result (output.new ≡ output.old ++ echoed line.now) }
+    ensures only { IfErr result (λ e. e ≡ no.NoMemory) }
+{
+    if !line.silent {
+        output.add(command_text(alloc, line)?.bytes())?;
     }
-    let text = command_text(alloc, command)?;
-    say(work, text.bytes())
+    Ok(())
+}
+
+/// What the command wrote is said, unless it went to a file.
+fn show(alloc: Global, output: &mut Text, line: &Echo) -> Result<(), DeskNo>
+    ensures ok { OnOk result (output.new ≡ output.old ++ shown line.now.to (written line.now)) }
+    ensures only { IfErr result (λ e. e ≡ no.NoMemory) }
+{
+    if line.to.is_none() {
+        output.add(written(alloc, line)?.bytes())?;
+    }
+    Ok(())
+}
+
+fn made(output: Text) -> Said
+    ensures { result ≡ made output }
+{
+    Said {
+        output,
+        outcome: Outcome::Made,
+    }
 }
 
 /// The end of a job whose line's redirection fails.
 fn failed(
     alloc: Global,
     makefile: &[u8],
-    target: &Name,
-    line: u32,
-    work: Work,
-    to: Option<&Name>,
-) -> Result<Effect, NoMemory>
-    ensures failed { IfOk result (λ e. e ≡ failed makefile.now target.now line work (option_copied to.entry)) }
-    ensures changes { IfOk result (λ e. e.changes ≡ work.changes) }
+    job: &Job,
+    line: &RecipeLine,
+    output: Text,
+    why: FileNo,
+) -> Result<Said, DeskNo>
+    ensures ok { IfOk result (λ s. s ≡ failed makefile.now job.now line.now output why) }
+    ensures only { IfErr result (λ e. e ≡ no.NoMemory) }
 {
-    let Work {
-        changes,
-        mut output,
-        ..
-    } = work;
-    output.add(redirection_fault(alloc, to)?.bytes())?;
-    output.add(failed_line(alloc, makefile, line, target, 1)?.bytes())?;
-    Ok(Effect {
-        changes,
+    let mut output = output;
+    output.add(redirection_fault(alloc, line.command.to.as_ref(), why)?.bytes())?;
+    output.add(failed_line(alloc, makefile, line.line, &job.target, 1)?.bytes())?;
+    Ok(Said {
         output,
         outcome: Outcome::Failed(1),
     })
 }
 
-fn made(work: Work) -> Effect
-    ensures { result ≡ made work }
+/// The end of a job whose fuel ends in a line.
+fn spent(
+    alloc: Global,
+    makefile: &[u8],
+    job: &Job,
+    line: &RecipeLine,
+    output: Text,
+) -> Result<Said, DeskNo>
+    ensures ok { IfOk result (λ s. s ≡ spent makefile.now job.now line.now output) }
+    ensures only { IfErr result (λ e. e ≡ no.NoMemory) }
 {
-    let Work {
-        changes,
+    let mut output = output;
+    output.add(spent_line(alloc, makefile, line.line, &job.target)?.bytes())?;
+    Ok(Said {
         output,
-        ..
-    } = work;
-    Effect {
-        changes,
-        output,
-        outcome: Outcome::Made,
-    }
+        outcome: Outcome::Spent,
+    })
 }
 
 /// Runs the lines in order, up to the first that fails.
-#[tactic(auto, using(crate::proofs::FitLemmas::fits))]
-pub fn run_lines(
+fn run_lines<V: View>(
+    alloc: Global,
+    desk: &mut Desk<V>,
+    makefile: &[u8],
+    job: &Job,
+    lines: &[RecipeLine],
+) -> Result<Said, DeskNo>
+    ensures { Performs is_memory V.tells desk.old desk.new result (run_lines makefile.now job.now [] lines.now) }
+{
+    let mut output = Text::new(alloc);
+    for line in lines {
+        echo(alloc, &mut output, &line.command)?;
+        match run_line(alloc, desk, &line.command) {
+            Ok(()) => show(alloc, &mut output, &line.command)?,
+            Err(e) => {
+                return match e {
+                    DeskNo::NoMemory => Err(DeskNo::NoMemory),
+                    DeskNo::Spent => spent(alloc, makefile, job, line, output),
+                    DeskNo::File(why) => failed(alloc, makefile, job, line, output, why),
+                };
+            }
+        }
+    }
+    Ok(made(output))
+}
+
+/// Runs the job's recipe on the state.
+pub fn run_recipe(
     alloc: Global,
     base: u64,
     makefile: &[u8],
     job: &Job,
-    tree: &Tree,
-    lines: &[RecipeLine],
+    state: &State,
 ) -> Result<Effect, NoMemory>
     requires { base ≤ 2 ^ 62 }
-    ensures run { IfOk result (λ e. e ≡ run_lines base makefile.now job.now tree.now nothing_done lines.now) }
-    ensures fit { IfOk result (λ e. Fit tree.now e.changes) }
+    ensures effect { IfOk result (λ e. e ≡ recipe base makefile.now job.now state.now) }
+    ensures tree { IfOk result (λ e. IsTree state.now.tree → IsTree (laid_over e.changes state.now.tree)) }
 {
-    let mut work = Work {
-        changes: Delta::new(alloc),
-        count: 0,
-        output: Text::new(alloc),
-    };
-    for line in lines {
-        let to = line.command.to.as_ref();
-        let stops = fails(alloc, tree, &work.changes, to)?;
-        work = echoed(alloc, work, &line.command)?;
-        if stops {
-            return failed(alloc, makefile, &job.target, line.line, work, to);
+    let view = PlainView::new(state);
+    let mut desk = Desk::new(alloc, view, base, job.number, Fuel::new(JOB_FUEL));
+    match run_lines(alloc, &mut desk, makefile, job, job.recipe.items()) {
+        Err(_) => Err(NoMemory),
+        Ok(said) => {
+            let Said { output, outcome } = said;
+            let (_, changes, _) = desk.close();
+            Ok(Effect {
+                changes,
+                output,
+                outcome,
+            })
         }
-        let text = written(alloc, &line.command)?;
-        work = redirect(alloc, base, job.number, tree, work, to, text.bytes())?;
     }
-    Ok(made(work))
 }

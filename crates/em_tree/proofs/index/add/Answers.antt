@@ -1,10 +1,9 @@
-use Rattle.std.proofs.Common.{◌≡◌, ◌∙◌, sym, ap, cond, true, Option, subst, List, ℕ, Some}
-use Rattle.std.specs.Prelude.{IsSome}
+use Rattle.std.proofs.Common.{◌∙◌, ap, cond, true, Option, List, ℕ, Some}
 use Rattle.std.specs.Ordering.{is_eq}
-use Rattle.std.specs.BTreeSet.{BTreeSet, contains}
+use Rattle.std.specs.BTreeSet.{BTreeSet}
 use Rattle.std.specs.List.{list_any}
 use Rattle.std.specs.BTreeMap.{get}
-use Rattle.em_tree.specs.Index.{Children, is_in, has_child}
+use Rattle.em_tree.specs.Index.{Children, is_in}
 use Rattle.em_tree.proofs.Maps.{order, at_err}
 use Rattle.em_tree.proofs.Indexes.{added, kept, some_is}
 use Rattle.em_tree.proofs.index.add.Goals as goal

@@ -1,6 +1,6 @@
-use Rattle.std.proofs.Common.{◌≡◌, ◌∙◌, sym, ap, ◌&&◌, ◌||◌, not, List, ℕ, Some}
+use Rattle.std.proofs.Common.{◌∙◌, sym, ap, ◌&&◌, ◌||◌, List, ℕ}
 use Rattle.std.specs.Ordering.{eq_by_cmp}
-use Rattle.em_tree.specs.Index.{has_child, is_parent}
+use Rattle.em_tree.specs.Index.{has_child}
 use Rattle.em_tree.proofs.Maps.{order}
 use Rattle.em_tree.proofs.Indexes.{parent_is}
 use Rattle.em_tree.proofs.index.list.Goals as goal

@@ -1,9 +1,6 @@
-use Rattle.std.proofs.Common.{◌≡◌, sym, subst}
-use Rattle.em_tree.specs.Index.{IsIndex}
-use Rattle.em_tree.specs.Trees.{Table}
 use Rattle.em_tree.proofs.Indexes.{IsIndex-gone}
 use Rattle.em_tree.proofs.index.take_out.Goals as goal
 
 pub returns-clause-index : goal.returns-clause-index
-returns-clause-index c =
-    subst (λ (t : Table). IsIndex c.unlist.new.children t) (sym c.remove.ensures) (IsIndex-gone c.args.children.now c.unlist.new.children c.args.nodes.now c.args.place.now.path c.requires.index c.unlist.ensures)
+returns-clause-index g c =
+    rw c.remove.ensures (IsIndex-gone c.args.children.now c.unlist.new.children c.args.nodes.now c.args.place.now.path c.requires.index c.unlist.ensures)

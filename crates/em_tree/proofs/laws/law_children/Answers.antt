@@ -1,4 +1,4 @@
-use Rattle.std.proofs.Common.{◌≡◌, ◌∙◌, ap, List, ℕ}
+use Rattle.std.proofs.Common.{◌∙◌, ap, List, ℕ}
 use Rattle.std.specs.Prelude.{filter_map}
 use Rattle.std.specs.FinMap.{get}
 use Rattle.em_path.specs.Paths.{last_of}

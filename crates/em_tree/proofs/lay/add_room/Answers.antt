@@ -1,7 +1,7 @@
-use Rattle.std.proofs.Common.{◌≡◌, ◌∙◌, sym, ap, subst, refl, List, ℕ, Some, None}
+use Rattle.std.proofs.Common.{◌∙◌, sym, ap, subst, refl, List, Some}
 use Rattle.std.specs.Prelude.{IsSome}
 use Rattle.std.specs.Borrow.{Bor}
-use Rattle.std.specs.FinMap.{get, insert, remove}
+use Rattle.std.specs.FinMap.{get, remove}
 use Rattle.em_tree.specs.declared.index.Place.{Place}
 use Rattle.em_tree.specs.declared.node.Node.TheVariants.{Dir}
 use Rattle.em_tree.specs.Trees.{Table, changed_all}

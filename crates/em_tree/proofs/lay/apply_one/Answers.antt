@@ -1,4 +1,4 @@
-use Rattle.std.proofs.Common.{◌≡◌, sym, ap, subst}
+use Rattle.std.proofs.Common.{sym, ap, subst}
 use Rattle.std.specs.Prelude.{is_some}
 use Rattle.em_tree.specs.Index.{IsIndex}
 use Rattle.em_tree.specs.Trees.{Table}

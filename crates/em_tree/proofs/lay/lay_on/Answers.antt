@@ -1,9 +1,9 @@
-use Rattle.std.proofs.Common.{◌≡◌, ◌∙◌, sym, ap, subst, List, ℕ, Option, None}
+use Rattle.std.proofs.Common.{◌≡◌, ◌∙◌, sym, ap, subst, List, ℕ, Option}
 use Rattle.std.specs.Prelude.{T}
 use Rattle.std.specs.FinMap.{entries, entries_sorted, is_sorted, find}
 use Rattle.em_tree.specs.declared.node.Node.{Node}
 use Rattle.em_tree.specs.declared.lay.Step.{Step}
-use Rattle.em_tree.specs.Trees.{Table, changed_all}
+use Rattle.em_tree.specs.Trees.{changed_all}
 use Rattle.em_tree.specs.Steps.{changes_of, HasRoom}
 use Rattle.em_tree.proofs.Maps.{order}
 use Rattle.em_tree.proofs.Laying.{same_after}

@@ -1,4 +1,4 @@
-use Rattle.std.proofs.Common.{◌≡◌, ◌∙◌, sym, ap, List}
+use Rattle.std.proofs.Common.{◌∙◌, sym, ap, List}
 use Rattle.std.specs.Borrow.{Bor}
 use Rattle.em_tree.specs.declared.index.Place.{Place}
 use Rattle.em_tree.specs.Trees.{Table, changed_all}

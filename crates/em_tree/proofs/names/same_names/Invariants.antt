@@ -1,4 +1,4 @@
-use Rattle.std.proofs.Common.{◌≡◌, ◌++◌}
+use Rattle.std.proofs.Common.{◌≡◌}
 use Rattle.std.specs.Prelude.{filter_map, ◌↔◌}
 use Rattle.em_path.specs.Paths.{last_of}
 use Rattle.em_tree.proofs.names.same_names.Given as goal

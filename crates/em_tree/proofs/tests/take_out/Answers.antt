@@ -1,6 +1,6 @@
-use Rattle.std.proofs.Common.{◌≡◌, ◌∙◌, sym, ap, subst, None}
+use Rattle.std.proofs.Common.{◌∙◌, sym, ap, subst, None}
 use Rattle.std.specs.FinMap.{insert}
-use Rattle.em_tree.specs.Trees.{Table, Changes, IsTree, laid_over}
+use Rattle.em_tree.specs.Trees.{Changes, IsTree, laid_over}
 use Rattle.em_tree.proofs.Lawful.{IsTree-remove, laid_one, bare_file}
 use Rattle.em_tree.proofs.tests.take_out.Goals as goal
 

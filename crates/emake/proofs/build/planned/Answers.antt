@@ -1,4 +1,4 @@
-use Rattle.std.proofs.Common.{rules, tests, ◌≡◌, ◌<◌, true, cond, nat_lt, length, sym, subst, arith}
+use Rattle.std.proofs.Common.{◌<◌, cond, length, sym, subst}
 use Rattle.em_host.specs.Outside.{Tells}
 use Rattle.em_simple.specs.Plan.{serial_order}
 use Rattle.em_simple.specs.Jobs.{jobs_of}

@@ -1,5 +1,4 @@
-use Rattle.std.proofs.Common.{◌≡◌, None, Some, sym, subst, ap}
-use Rattle.em_host.specs.Outside.{Tells, Takes, contents}
+use Rattle.std.proofs.Common.{None}
 use Rattle.emake.proofs.Ends.{taken-over}
 use Rattle.emake.proofs.emake.ordered.Goals as goal
 

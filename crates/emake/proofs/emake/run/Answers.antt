@@ -1,4 +1,4 @@
-use Rattle.std.proofs.Common.{◌≡◌, None, sym, ◌∙◌}
+use Rattle.std.proofs.Common.{sym, ◌∙◌}
 use Rattle.emake.proofs.Ends.{not-ordered}
 use Rattle.emake.proofs.emake.run.Goals as goal
 

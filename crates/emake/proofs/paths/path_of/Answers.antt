@@ -1,9 +1,6 @@
-use Rattle.std.proofs.Common.{rules, ◌≡◌, ◌<◌, ◌≤◌, ℕ, arith, ap, subst, sym, true, length, Err, ⊎_elim, ◌∷◌}
-use Rattle.em_path.specs.Paths.{IsPath, IsComponent, child_text, components, root_text}
-use Rattle.em_path.specs.declared.path.PathNo.{PathNo}
-use Rattle.em_path.specs.declared.path.PathNo.TheVariants as no
+use Rattle.std.proofs.Common.{◌<◌, ◌≤◌, arith, ap, length, Err, ⊎_elim}
+use Rattle.em_path.specs.Paths.{IsPath, child_text, components}
 use Rattle.em_path.proofs.Spelling.{child_of_root}
-use Rattle.em_simple.specs.Names.{is_name}
 use Rattle.emake.proofs.NameLemmas.{name_is_component, name_path}
 use Rattle.emake.proofs.paths.path_of.Goals as goal
 

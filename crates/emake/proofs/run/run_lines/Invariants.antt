@@ -1,8 +1,8 @@
-use Rattle.std.proofs.Common.{◌≡◌, ◌≤◌, ◌*◌, drop}
-use Rattle.emake.specs.Effects.{run_lines, nothing_done}
-use Rattle.emake.specs.Fits.{Fit}
+use Rattle.std.proofs.Common.{drop, []}
+use Rattle.em_view.specs.Rows.{is_memory}
+use Rattle.em_view.proofs.Performing.{Continues}
+use Rattle.emake.specs.Effects.{run_lines}
 use Rattle.emake.proofs.run.run_lines.Given as goal
 
 abbrev pub invariant-loop-line : goal.invariant-loop-line
-invariant-loop-line l = (run_lines l.base l.makefile l.job l.tree l.work (drop l.line-index l.lines) ≡ run_lines l.base l.makefile l.job l.tree nothing_done l.lines)
-    × (l.work.count ≤ 2 * l.line-index) × Fit l.tree l.work.changes
+invariant-loop-line g l = Continues is_memory g.V.View.tells l.initial.desk l.desk (run_lines l.makefile l.job [] l.lines) (run_lines l.makefile l.job l.output (drop l.line-index l.lines))

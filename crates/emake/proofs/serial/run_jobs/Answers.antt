@@ -1,6 +1,5 @@
-use Rattle.std.proofs.Common.{rules, ◌+◌, ◌≡◌, ◌∙◌, sym, ap, subst, drop, ◌∷◌, [], List, true, false, arith}
+use Rattle.std.proofs.Common.{◌+◌, ◌≡◌, ◌∙◌, sym, ap, subst, drop, ◌∷◌, true, false}
 use Rattle.std.proofs.lemmas.Result.{err_from_is_err_and}
-use Rattle.em_simple.specs.declared.job.Job.{Job}
 use Rattle.emake.specs.declared.serial.Ran.{Ran}
 use Rattle.emake.specs.Effects.{effect}
 use Rattle.emake.specs.Serial.{Run, ends, serial}

@@ -1,8 +1,6 @@
-use Rattle.std.proofs.Common.{◌≡◌, drop, List, ℕ, ◌++◌, Ok}
-use Rattle.em_host.specs.Outside.{Tells}
+use Rattle.std.proofs.Common.{◌≡◌, drop}
 use Rattle.em_tree.specs.Trees.{IsTree}
-use Rattle.emake.specs.Serial.{serial, said}
-use Rattle.emake.specs.Delivery.{Says}
+use Rattle.emake.specs.Serial.{serial}
 use Rattle.emake.specs.Loops.{IsUnderway}
 use Rattle.emake.proofs.serial.run_jobs.Given as goal
 

@@ -1,5 +1,4 @@
 use Rattle.std.proofs.lemmas.Iterator.Consumers.{YieldsList-from_rest, nth_from_yields_List}
-use Rattle.std.proofs.Common.{◌≡◌, ◌∙◌, sym, ap}
 use Rattle.em_tree.proofs.Maps.{at_is}
 use Rattle.em_tree.proofs.map.PathMap.at.Goals as goal
 

@@ -1,4 +1,4 @@
-use Rattle.std.proofs.Common.{◌≡◌, ◌∙◌, sym, ap}
+use Rattle.std.proofs.Common.{◌∙◌}
 use Rattle.em_tree.proofs.Maps.{path_found}
 use Rattle.em_tree.proofs.map.PathMap.get.Goals as goal
 

@@ -1,4 +1,4 @@
-use Rattle.std.proofs.Common.{◌≡◌, ◌∙◌, sym, ap}
+use Rattle.std.proofs.Common.{◌∙◌, sym}
 use Rattle.em_tree.proofs.Maps.{path_put, path_found, at_err}
 use Rattle.em_tree.proofs.map.PathMap.insert.Goals as goal
 

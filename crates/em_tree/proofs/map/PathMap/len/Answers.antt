@@ -1,4 +1,4 @@
-use Rattle.std.proofs.Common.{◌≡◌, ◌∙◌, sym, ap}
+use Rattle.std.proofs.Common.{◌∙◌, sym}
 use Rattle.em_tree.proofs.Maps.{path_len}
 use Rattle.em_tree.proofs.map.PathMap.len.Goals as goal
 

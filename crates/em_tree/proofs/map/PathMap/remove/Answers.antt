@@ -1,4 +1,3 @@
-use Rattle.std.proofs.Common.{◌≡◌, ◌∙◌, sym, ap}
 use Rattle.em_tree.proofs.Maps.{path_taken}
 use Rattle.em_tree.proofs.map.PathMap.remove.Goals as goal
 

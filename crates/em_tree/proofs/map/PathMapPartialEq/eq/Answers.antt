@@ -1,4 +1,4 @@
-use Rattle.std.proofs.Common.{◌≡◌, ◌∙◌, ◌&&◌, sym, ap, nat_eq, List, ℕ}
+use Rattle.std.proofs.Common.{◌∙◌, ◌&&◌, sym, ap, nat_eq}
 use Rattle.std.specs.Cmp.Lexicographic.{pointwise}
 use Rattle.em_tree.proofs.Maps.{path_entries}
 use Rattle.em_tree.proofs.map.PathMapPartialEq.eq.Goals as goal

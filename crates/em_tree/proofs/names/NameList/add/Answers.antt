@@ -1,7 +1,7 @@
 use Rattle.std.proofs.Common.{◌≡◌, sym, subst, List, ℕ}
 use Rattle.std.specs.Prelude.{IfSome}
 use Rattle.std.specs.declared.cmp.Ordering.TheVariants.{Less}
-use Rattle.em_tree.specs.Names.{IsNameList, last_name}
+use Rattle.em_tree.specs.Names.{last_name}
 use Rattle.em_tree.proofs.Maps.{order}
 use Rattle.em_tree.proofs.Naming.{IsNameList-push}
 use Rattle.em_tree.proofs.names.NameList.add.Goals as goal

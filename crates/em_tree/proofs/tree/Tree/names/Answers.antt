@@ -1,4 +1,4 @@
-use Rattle.std.proofs.Common.{◌≡◌, sym, subst, List, ℕ}
+use Rattle.std.proofs.Common.{sym, subst, List, ℕ}
 use Rattle.std.specs.Prelude.{filter_map}
 use Rattle.em_path.specs.Paths.{last_of}
 use Rattle.em_tree.specs.Names.{IsNameList}

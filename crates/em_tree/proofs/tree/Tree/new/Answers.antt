@@ -1,6 +1,7 @@
 use Rattle.std.proofs.Common.{◌≡◌, ◌∙◌, sym, ap, subst, List, ℕ}
 use Rattle.std.specs.FinMap.{empty, insert, get, get-empty}
 use Rattle.em_path.specs.Paths.{root_text}
+use Rattle.em_tree.specs.declared.node.Node.{Node}
 use Rattle.em_tree.specs.declared.node.Node.TheVariants.{Dir}
 use Rattle.em_tree.specs.Trees.{Table, IsTree}
 use Rattle.em_tree.specs.Index.{IsIndex}
@@ -10,7 +11,7 @@ use Rattle.em_tree.proofs.Indexes.{IsIndex-empty}
 use Rattle.em_tree.proofs.tree.Tree.new.Goals as goal
 
 pub put_new-requires-clause-index : goal.put_new-requires-clause-index
-put_new-requires-clause-index c = subst (λ (t : Table). IsIndex c.new-children.result t) (sym c.new-nodes.ensures) (IsIndex-empty c.new-children.result c.new-children.ensures.empty)
+put_new-requires-clause-index c = subst (λ (t : Table). IsIndex c.new-children.result t) (sym c.new-nodes.ensures) (IsIndex-empty Node c.new-children.result c.new-children.ensures.empty)
 
 pub put_new-requires-clause-absent : goal.put_new-requires-clause-absent
 put_new-requires-clause-absent c = ap (λ (t : Table). get t c.in_ok-root.root.path) c.new-nodes.ensures ∙ get-empty order c.in_ok-root.root.path

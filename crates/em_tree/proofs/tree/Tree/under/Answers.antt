@@ -1,4 +1,4 @@
-use Rattle.std.proofs.Common.{◌≡◌, ◌∙◌, sym, ap, Option, List, ℕ}
+use Rattle.std.proofs.Common.{◌∙◌, ap, Option, List, ℕ}
 use Rattle.std.specs.BTreeSet.{BTreeSet}
 use Rattle.em_tree.specs.Index.{is_in}
 use Rattle.em_tree.proofs.Naming.{children_are, children_none}

@@ -1,0 +1,13 @@
+//! The words of a command line.
+#![tactic(auto)]
+
+mod check;
+mod command;
+mod order;
+mod read;
+
+pub use order::{HistoryMode, Order, WordNo};
+pub use read::read_words;
+
+#[cfg(test)]
+mod tests;

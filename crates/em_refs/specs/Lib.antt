@@ -1,0 +1,3 @@
+pub use Rattle.em_base.specs.Spans
+pub mod Parts
+pub mod Steps

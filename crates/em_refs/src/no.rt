@@ -1,0 +1,40 @@
+//! Why a text has no parts.
+ghost use Rattle.std.specs.Prelude.{◌≡◌};
+ghost use Rattle.em_refs.specs.declared.no.RefNo.TheVariants.{NoMemory};
+
+use std::alloc::{AllocError, AllocFailed};
+use thiserror::Error;
+
+/// Why a text isn't parted.
+#[derive(Clone, Copy, Debug, PartialEq, Eq, Error)]
+pub enum RefNo {
+    /// The reference whose `$` stands there isn't closed, or that `$` is the text's last byte.
+    #[error("unclosed reference at byte {0}")]
+    Unclosed(usize),
+    #[error("out of memory")]
+    NoMemory,
+}
+
+impl From<AllocError> for RefNo {
+    ghost from_gives = { λ _ e. e ≡ NoMemory };
+
+    fn from(_e: AllocError) -> RefNo {
+        RefNo::NoMemory
+    }
+}
+
+impl<T: Drop> From<AllocFailed<T>> for RefNo {
+    ghost from_gives = { λ _ e. e ≡ NoMemory };
+
+    fn from(_e: AllocFailed<T>) -> RefNo {
+        RefNo::NoMemory
+    }
+}
+
+impl From<em_base::NoMemory> for RefNo {
+    ghost from_gives = { λ _ e. e ≡ NoMemory };
+
+    fn from(_e: em_base::NoMemory) -> RefNo {
+        RefNo::NoMemory
+    }
+}

@@ -1,0 +1,21 @@
+use Rattle.std.proofs.Common.{refl}
+use Rattle.std.proofs.lemmas.Result.{err_from_is_err_and}
+use Rattle.em_tree.specs.Trees.{stamp_of}
+use Rattle.em_view.specs.Rows.{stamp_below, stamp_by, stamp_in}
+use Rattle.em_view.proofs.Below.{below_own, below_asked, below_failed}
+use Rattle.em_view.proofs.desk.Desk.stamp_below.Goals as goal
+
+pub returns-in-Some-clause-performs : goal.returns-in-Some-clause-performs
+unfolding stamp_below
+returns-in-Some-clause-performs g c = rw c.stamp_of.ensures (below_own c.args.self.now c.args.p.now c.in-Some.node.now (λ mine. stamp_by mine c.args.p.now) (stamp_of c.in-Some.node.now) c.in-Some.ensures refl)
+
+pub returns-in_err-answer-clause-performs : goal.returns-in_err-answer-clause-performs
+unfolding stamp_below
+returns-in_err-answer-clause-performs g c =
+    let p = err_from_is_err_and c.from_residual-in_err-answer.result c.from_residual-in_err-answer.ensures.1 in
+    rw (p.1, p.2) (below_failed c.args.self.now c.args.p.now c.ask.new.self _ (λ mine. stamp_by mine c.args.p.now) _ c.in_default.ensures refl (rw c.in_ok-copy.ensures at c.in_err-answer.ensures.performs))
+
+pub returns-clause-performs : goal.returns-clause-performs
+unfolding stamp_below
+returns-clause-performs g c =
+    rw c.stamp_in.ensures (below_asked c.args.self.now c.args.p.now c.ask.new.self _ (λ mine. stamp_by mine c.args.p.now) stamp_in _ c.in_default.ensures refl (rw c.in_ok-copy.ensures at c.in_ok-answer.ensures.performs))

@@ -1,0 +1,27 @@
+use Rattle.std.proofs.Common.{ap, Some, None}
+use Rattle.em_tree.specs.declared.node.Node.TheVariants.{Dir}
+use Rattle.em_view.specs.Rows.{touch_dir}
+use Rattle.em_view.proofs.Performing.{then, leave}
+use Rattle.em_view.proofs.Looking.{applied, numbered, room_paid}
+use Rattle.em_view.proofs.Editing.{touch_fits}
+use Rattle.em_view.proofs.Fitting.{paths_becomes}
+use Rattle.em_view.proofs.desk.Desk.touch_dir.Goals as goal
+
+pub returns-in_err-pay-clause-performs : goal.returns-in_err-pay-clause-performs
+unfolding touch_dir
+returns-in_err-pay-clause-performs g c = leave _ c.from_residual.ensures.1 c.in_err-pay.ensures.performs
+
+pub change-requires-clause-room : goal.change-requires-clause-room
+change-requires-clause-room g c = room_paid c.args.self.now c.pay.new.self c.requires.sound.room c.in_ok-pay.ensures.ok.0 c.in_ok-pay.ensures.ok.1
+
+pub change-requires-clause-fits : goal.change-requires-clause-fits
+change-requires-clause-fits g c = rw (c.in_ok-copy.ensures, ap (λ d. d.usage) c.in_ok-pay.ensures.ok.0, ap (λ d. d.work.changes) c.in_ok-pay.ensures.ok.0) (touch_fits c.args.self.now c.args.p.now _ 0 c.requires.sound.fits c.requires.seen)
+
+pub change-requires-clause-paths : goal.change-requires-clause-paths
+change-requires-clause-paths g c = rw (c.in_ok-copy.ensures, ap (λ d. d.work.changes) c.in_ok-pay.ensures.ok.0) (paths_becomes c.args.p.now _ None 0 _ c.requires.sound.paths c.requires.path tt)
+
+pub returns-clause-performs : goal.returns-clause-performs
+unfolding touch_dir
+returns-clause-performs g c =
+    let made = applied {tells = g.V.View.tells} c.pay.new.self c.change.new.self c.in_ok-copy.field-0 (Some (Dir c.number-stamp.result)) None c.change.result c.change.ensures.ok c.change.ensures.err c.change.ensures.only in
+    then _ c.in_ok-pay.ensures.performs (then _ (numbered c.pay.new.self c.number-stamp.result c.number-stamp.ensures) (rw c.in_ok-copy.ensures at made))

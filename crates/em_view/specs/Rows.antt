@@ -1,0 +1,336 @@
+-- What the operations of a desk do. What the job's own changes say of a path isn't asked.
+--     kind, stamp, content, names, outcome              questions
+--     put, make_dir, remove, touch, place               changes; refusals come in the order in which they stand here
+-- Each costs a unit, taken before the first question of a reading, and for a change after its refusals; and the blocks of the
+-- bytes that it gives or puts, taken before they are used.
+use Rattle.std.specs.Prelude.{ℕ, ◌+◌, ◌*◌, ◌/◌, ◌^◌, Bool, true, false, nat_lt, List, [], ◌∷◌, length, Ok, Option, Some, None, unwrap_or, option_map, if◌then◌else◌}
+use Rattle.std.specs.FinMap.{insert}
+use Rattle.em_path.specs.Paths.{parent_text}
+use Rattle.em_tree.specs.declared.question.Question.TheVariants as ask
+use Rattle.em_tree.specs.declared.question.Answer.{Answer}
+use Rattle.em_tree.specs.declared.question.Answer.TheVariants as told
+use Rattle.em_tree.specs.declared.node.Kind.{Kind}
+use Rattle.em_tree.specs.declared.node.Kind.TheVariants as kind
+use Rattle.em_tree.specs.declared.node.Node.{Node}
+use Rattle.em_tree.specs.declared.node.Node.TheVariants.{File, Dir}
+use Rattle.em_tree.specs.declared.outcome.Outcome.{Outcome}
+use Rattle.em_tree.specs.Trees.{Changes, kind_of, stamp_of, content_of}
+use Rattle.em_view.specs.declared.no.FileNo.{FileNo}
+use Rattle.em_view.specs.declared.no.FileNo.TheVariants as file
+use Rattle.em_view.specs.declared.no.DeskNo.{DeskNo}
+use Rattle.em_view.specs.declared.no.DeskNo.TheVariants as no
+use Rattle.em_view.specs.declared.spot.Spot.{Spot}
+use Rattle.em_view.specs.declared.spot.Above.{Above}
+use Rattle.em_view.specs.Actions.{Workspace, Action, ◌>>=◌, done, fail, own, ready, spend}
+use Rattle.em_view.specs.Actions.{ask as asking}
+use Rattle.em_view.specs.Names.{with_own, names_size}
+
+-- the one error that may come freely
+abbrev pub is_memory : DeskNo → Bool
+is_memory no.NoMemory = true
+is_memory _ = false
+
+-- 256 bytes, or what is left of them
+abbrev pub blocks : ℕ → ℕ
+blocks n = (n + 255) / 256
+
+-- ---- what an answer says
+
+abbrev pub kind_in : Answer → Kind
+kind_in (told.Kind k) = k
+kind_in _ = kind.Absent
+
+abbrev pub stamp_in : Answer → Option ℕ
+stamp_in (told.Stamp s) = s
+stamp_in _ = None
+
+abbrev pub content_in : Answer → Option (List ℕ)
+content_in (told.Content b) = b
+content_in _ = None
+
+abbrev pub names_in : Answer → Option (List (List ℕ))
+names_in (told.Names ns) = ns
+names_in _ = None
+
+abbrev pub outcome_in : Answer → Option Outcome
+outcome_in (told.Outcome o) = o
+outcome_in _ = None
+
+-- ---- what stands at a path, under the job's own changes
+
+abbrev pub kind_by : Option (Option Node) → List ℕ → Action DeskNo Kind
+kind_by (Some n) p = done (kind_of n)
+kind_by None p = do
+  a ← asking (ask.Kind p)
+  done (kind_in a)
+
+unfoldable pub kind_below : List ℕ → Action DeskNo Kind
+kind_below p = do
+  mine ← own p
+  kind_by mine p
+
+abbrev pub stamp_by : Option (Option Node) → List ℕ → Action DeskNo (Option ℕ)
+stamp_by (Some n) p = done (stamp_of n)
+stamp_by None p = do
+  a ← asking (ask.Stamp p)
+  done (stamp_in a)
+
+unfoldable pub stamp_below : List ℕ → Action DeskNo (Option ℕ)
+stamp_below p = do
+  mine ← own p
+  stamp_by mine p
+
+abbrev pub content_by : Option (Option Node) → List ℕ → Action DeskNo (Option (List ℕ))
+content_by (Some n) p = done (content_of n)
+content_by None p = do
+  a ← asking (ask.Content p)
+  done (content_in a)
+
+unfoldable pub content_below : List ℕ → Action DeskNo (Option (List ℕ))
+content_below p = do
+  mine ← own p
+  content_by mine p
+
+abbrev pub is_dir : Option Node → Bool
+is_dir (Some (Dir stamp)) = true
+is_dir _ = false
+
+-- what is told of the names of a path
+unfoldable pub told_names : List ℕ → Action DeskNo (Option (List (List ℕ)))
+told_names p = do
+  a ← asking (ask.Names p)
+  done (names_in a)
+
+-- names with the own children among them
+unfoldable pub amend : List ℕ → Option (List (List ℕ)) → Action DeskNo (Option (List (List ℕ)))
+amend p ns = λ o w. (Ok (option_map (with_own w.changes p) ns), w)
+
+-- a directory that the job made has the names that are told of its path, or none
+unfoldable pub made_names : List ℕ → Action DeskNo (Option (List (List ℕ)))
+made_names p = do
+  ns ← told_names p
+  amend p (Some (unwrap_or ns []))
+
+unfoldable pub other_names : List ℕ → Action DeskNo (Option (List (List ℕ)))
+other_names p = do
+  ns ← told_names p
+  amend p ns
+
+abbrev pub names_by : Option (Option Node) → List ℕ → Action DeskNo (Option (List (List ℕ)))
+names_by (Some n) p = if is_dir n then made_names p else done None
+names_by None p = other_names p
+
+unfoldable pub names_below : List ℕ → Action DeskNo (Option (List (List ℕ)))
+names_below p = do
+  mine ← own p
+  names_by mine p
+
+-- ---- reading
+
+unfoldable pub kind_at : List ℕ → Action DeskNo Kind
+kind_at p = do
+  u ← spend 1
+  kind_below p
+
+unfoldable pub stamp_at : List ℕ → Action DeskNo (Option ℕ)
+stamp_at p = do
+  u ← spend 1
+  stamp_below p
+
+abbrev pub size_of : Option (List ℕ) → ℕ
+size_of None = 0
+size_of (Some bytes) = length bytes
+
+unfoldable pub content : List ℕ → Action DeskNo (Option (List ℕ))
+content p = do
+  u ← spend 1
+  body ← content_below p
+  v ← spend (blocks (size_of body))
+  done body
+
+unfoldable pub names : List ℕ → Action DeskNo (Option (List (List ℕ)))
+names p = do
+  u ← spend 1
+  ns ← names_below p
+  v ← spend (blocks (names_size ns))
+  done ns
+
+unfoldable pub outcome : ℕ → Action DeskNo (Option Outcome)
+outcome j = do
+  u ← spend 1
+  a ← asking (ask.Outcome j)
+  done (outcome_in a)
+
+-- ---- changes
+
+-- a job's k-th change, from 1, has this number, which the nodes that it makes get as their stamp
+abbrev pub change_number : ℕ → ℕ → ℕ → ℕ
+change_number base job k = base + job * 2 ^ 20 + k
+
+unfoldable pub number : Action DeskNo ℕ
+number = λ o w. (Ok (change_number w.base w.job (w.count + 1)), w)
+
+-- the path becomes the node, or absent; a directory above it that is stamped gets the number of the change
+abbrev pub becomes : List ℕ → Option Node → Option (List ℕ) → ℕ → Changes → Changes
+becomes p c None n d = insert d p c
+becomes p c (Some above) n d = insert (insert d p c) above (Some (Dir n))
+
+abbrev pub after_change : List ℕ → Option Node → Option (List ℕ) → Workspace → Workspace
+after_change p c above w = record w {
+  count = w.count + 1;
+  changes = becomes p c above (change_number w.base w.job (w.count + 1)) w.changes;
+}
+
+unfoldable pub change : List ℕ → Option Node → Option (List ℕ) → Action DeskNo (Unit {0})
+change p c above = λ o w. (Ok tt, after_change p c above w)
+
+-- a unit, and these blocks
+unfoldable pub pay : ℕ → Action DeskNo (Unit {0})
+pay n = do
+  u ← spend 1
+  spend n
+
+abbrev pub refuse : Option FileNo → Action DeskNo (Unit {0})
+refuse None = done tt
+refuse (Some f) = fail (no.File f)
+
+-- a path's kind, and its parent with its kind, where it isn't the root
+abbrev pub spot_by : Option (List ℕ) → Kind → Action DeskNo Spot
+spot_by None k = done (record { kind = k; above = None })
+spot_by (Some q) k = do
+  a ← kind_below q
+  done (record { kind = k; above = Some (record { path = q; kind = a }) })
+
+unfoldable pub look : List ℕ → Action DeskNo Spot
+look p = do
+  k ← kind_below p
+  spot_by (parent_text p) k
+
+abbrev pub above_refusal : Kind → Option FileNo
+above_refusal kind.Absent = Some file.NoParent
+above_refusal kind.File = Some file.NotDir
+above_refusal kind.Dir = None
+
+-- the first refusal, else the second
+abbrev pub or_else : Option FileNo → Option FileNo → Option FileNo
+or_else None f = f
+or_else (Some f) g = Some f
+
+-- at most 16 MiB
+abbrev pub size_refusal : ℕ → Option FileNo
+size_refusal n = if nat_lt 16777216 n then Some file.TooBig else None
+
+abbrev pub put_under : Option Above → Kind → ℕ → Option FileNo
+put_under None k n = Some file.IsDir
+put_under (Some a) kind.Dir n = Some file.IsDir
+put_under (Some a) _ n = or_else (above_refusal a.kind) (size_refusal n)
+
+-- the root is a directory
+abbrev pub put_refusal : Spot → ℕ → Option FileNo
+put_refusal spot n = put_under spot.above spot.kind n
+
+abbrev pub dir_under : Option Above → Kind → Option FileNo
+dir_under (Some a) kind.Absent = above_refusal a.kind
+dir_under _ _ = Some file.Exists
+
+abbrev pub dir_refusal : Spot → Option FileNo
+dir_refusal spot = dir_under spot.above spot.kind
+
+abbrev pub path_above : Spot → Option (List ℕ)
+path_above spot = option_map (λ a. a.path) spot.above
+
+-- a file's directory is stamped where its name is new
+abbrev pub stamped : Kind → Option (List ℕ) → Option (List ℕ)
+stamped kind.Absent above = above
+stamped _ above = None
+
+unfoldable pub put : List ℕ → List ℕ → Action DeskNo (Unit {0})
+put p bytes = do
+  r ← ready
+  spot ← look p
+  f ← refuse (put_refusal spot (length bytes))
+  u ← pay (blocks (length bytes))
+  n ← number
+  change p (Some (File bytes n)) (stamped spot.kind (path_above spot))
+
+-- as `put`, but with this stamp, and the directory always gets the number of the change
+unfoldable pub place : List ℕ → List ℕ → ℕ → Action DeskNo (Unit {0})
+place p bytes stamp = do
+  r ← ready
+  spot ← look p
+  f ← refuse (put_refusal spot (length bytes))
+  u ← pay (blocks (length bytes))
+  change p (Some (File bytes stamp)) (path_above spot)
+
+unfoldable pub make_dir : List ℕ → Action DeskNo (Unit {0})
+make_dir p = do
+  r ← ready
+  spot ← look p
+  f ← refuse (dir_refusal spot)
+  u ← pay 0
+  n ← number
+  change p (Some (Dir n)) (path_above spot)
+
+-- ---- removing and touching
+
+abbrev pub names_refusal : Option (List (List ℕ)) → Option FileNo
+names_refusal (Some (n ∷ ns)) = Some file.NotEmpty
+names_refusal _ = None
+
+unfoldable pub take_away : List ℕ → List ℕ → Action DeskNo (Unit {0})
+take_away p above = do
+  u ← pay 0
+  change p None (Some above)
+
+unfoldable pub remove_dir : List ℕ → List ℕ → Action DeskNo (Unit {0})
+remove_dir p above = do
+  ns ← names_below p
+  f ← refuse (names_refusal ns)
+  take_away p above
+
+abbrev pub remove_by : Kind → List ℕ → List ℕ → Action DeskNo (Unit {0})
+remove_by kind.Absent p above = fail (no.File file.Absent)
+remove_by kind.File p above = take_away p above
+remove_by kind.Dir p above = remove_dir p above
+
+-- the root is refused before anything is asked
+abbrev pub remove_under : Option (List ℕ) → List ℕ → Action DeskNo (Unit {0})
+remove_under None p = fail (no.File file.Root)
+remove_under (Some above) p = do
+  k ← kind_below p
+  remove_by k p above
+
+unfoldable pub remove : List ℕ → Action DeskNo (Unit {0})
+remove p = do
+  r ← ready
+  remove_under (parent_text p) p
+
+unfoldable pub touch_dir : List ℕ → Action DeskNo (Unit {0})
+touch_dir p = do
+  u ← pay 0
+  n ← number
+  change p (Some (Dir n)) None
+
+abbrev pub touch_bytes : Option (List ℕ) → List ℕ → Action DeskNo (Unit {0})
+touch_bytes None p = fail (no.File file.Absent)
+touch_bytes (Some bytes) p = do
+  u ← pay 0
+  n ← number
+  change p (Some (File bytes n)) None
+
+unfoldable pub touch_file : List ℕ → Action DeskNo (Unit {0})
+touch_file p = do
+  body ← content_below p
+  touch_bytes body p
+
+abbrev pub touch_by : Kind → List ℕ → Action DeskNo (Unit {0})
+touch_by kind.Absent p = fail (no.File file.Absent)
+touch_by kind.Dir p = touch_dir p
+touch_by kind.File p = touch_file p
+
+-- the same node, with the number of the change
+unfoldable pub touch : List ℕ → Action DeskNo (Unit {0})
+touch p = do
+  r ← ready
+  k ← kind_below p
+  touch_by k p

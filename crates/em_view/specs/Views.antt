@@ -1,0 +1,24 @@
+-- What a view may answer.
+--     IsAnswerTo q a      the answer is of the question's kind
+--     IsTold said a       the answer is the one that was said, where one was
+--     nth_or_last xs i    the i-th item, from 0, and beyond the end the last one
+use Rattle.std.specs.Prelude.{◌≡◌, ℕ, ◌-◌, List, length, Option, Some, None, slice_get, min}
+use Rattle.em_tree.specs.declared.question.Question.{Question}
+use Rattle.em_tree.specs.declared.question.Question.TheVariants as ask
+use Rattle.em_tree.specs.declared.question.Answer.{Answer}
+use Rattle.em_tree.specs.declared.question.Answer.TheVariants as told
+
+abbrev pub IsAnswerTo : Question → Answer → Type 0
+IsAnswerTo (ask.Kind p) (told.Kind k) = Unit {0}
+IsAnswerTo (ask.Stamp p) (told.Stamp s) = Unit {0}
+IsAnswerTo (ask.Content p) (told.Content b) = Unit {0}
+IsAnswerTo (ask.Names p) (told.Names ns) = Unit {0}
+IsAnswerTo (ask.Outcome j) (told.Outcome o) = Unit {0}
+IsAnswerTo _ _ = ⊥
+
+abbrev pub IsTold : Option Answer → Answer → Type 0
+IsTold None a = Unit {0}
+IsTold (Some said) a = a ≡ said
+
+abbrev pub nth_or_last : {X : Type 0} → List X → ℕ → Option X
+nth_or_last xs i = slice_get xs (min i (length xs - 1))

@@ -1,0 +1,19 @@
+//! Asking a tree, recording what was answered, and changing it.
+#![tactic(auto)]
+
+mod ask;
+mod cost;
+mod desk;
+mod edit;
+mod names;
+mod no;
+mod read;
+mod refuse;
+mod spot;
+mod view;
+mod write;
+
+pub use cost::blocks;
+pub use desk::Desk;
+pub use no::{DeskNo, FileNo};
+pub use view::{PlainView, ScriptView, View};

@@ -1,0 +1,56 @@
+use super::*;
+use em_base::Span;
+use std::test::Fail;
+
+#[test]
+fn words_stand_between_blanks(rt: HostRuntime) -> Result<(), Fail> {
+    let spans = words(rt.alloc(), b" a  bc ")?;
+    let want = [Span { start: 1, end: 2 }, Span { start: 4, end: 6 }];
+    assert_eq!(rt; spans.as_slice(), want.as_slice());
+    Ok(())
+}
+
+#[test]
+fn a_newline_is_no_blank(rt: HostRuntime) -> Result<(), Fail> {
+    let pieces = texts(rt.alloc(), b"\ta\nb \t\tc")?;
+    assert_eq!(rt; join(rt.alloc(), &pieces)?.bytes(), b"a\nb c".as_slice());
+    Ok(())
+}
+
+#[test]
+fn a_stem_stands_for_the_first_percent(rt: HostRuntime) {
+    for (pattern, word, want) in [
+        (b"%.c".as_slice(), b"d/x.c".as_slice(), Some((0, 3))),
+        (b"ab%ba".as_slice(), b"aba".as_slice(), None),
+        (b"ab%ba".as_slice(), b"abba".as_slice(), Some((2, 2))),
+        (b"%%".as_slice(), b"a%".as_slice(), Some((0, 1))),
+        (b"%%".as_slice(), b"a".as_slice(), None),
+        (b"a".as_slice(), b"a".as_slice(), Some((0, 0))),
+        (b"a".as_slice(), b"ab".as_slice(), None),
+        (b"\\%".as_slice(), b"\\x".as_slice(), Some((1, 2))),
+    ] {
+        let want = want.map(|(start, end)| Span { start, end });
+        assert_eq!(rt; stem(pattern, word), want);
+    }
+}
+
+#[test]
+fn the_stem_is_put_into_the_other_text(rt: HostRuntime) -> Result<(), Fail> {
+    for (pattern, to, word, want) in [
+        (
+            b"%.c".as_slice(),
+            b"%.o".as_slice(),
+            b"d/x.c".as_slice(),
+            b"d/x.o".as_slice(),
+        ),
+        (b"%.c", b"%.o", b"x.h", b"x.h"),
+        (b"ab%ba", b"<%>", b"aba", b"aba"),
+        (b"%%", b"%%", b"a%", b"a%"),
+        (b"%", b"x", b"a", b"x"),
+        (b"a", b"%b", b"a", b"%b"),
+        (b"%", b"%-%", b"a", b"a-%"),
+    ] {
+        assert_eq!(rt; replace(rt.alloc(), pattern, to, word)?.bytes(), want);
+    }
+    Ok(())
+}
