@@ -197,3 +197,47 @@ fn a_delta_names_paths(rt: HostRuntime) -> Result<(), Fail> {
     assert!(rt; d.copy()? == d);
     Ok(())
 }
+
+/// The paths that a delta names right under a path.
+fn under(alloc: Global, d: &Delta, text: &[u8]) -> Result<Text, Fail> {
+    let mut all = Text::new(alloc);
+    if let Some(paths) = d.under(&path(alloc, text)?) {
+        for p in paths {
+            all.add(p.text())?;
+            all.add(b" ")?;
+        }
+    }
+    Ok(all)
+}
+
+#[test]
+fn a_delta_lists_what_it_names_right_under_a_path(rt: HostRuntime) -> Result<(), Fail> {
+    let mut d = Delta::new(rt.alloc());
+    for text in [
+        b"/d/a0".as_slice(),
+        b"/d/a/x".as_slice(),
+        b"/d/a".as_slice(),
+        b"/d/a.b".as_slice(),
+        b"/e".as_slice(),
+    ] {
+        d.set(path(rt.alloc(), text)?, None)?;
+    }
+    let paths = under(rt.alloc(), &d, b"/d")?;
+    assert_eq!(rt; paths.bytes(), b"/d/a /d/a.b /d/a0 ".as_slice());
+    assert_eq!(rt; under(rt.alloc(), &d, b"/")?.bytes(), b"/e ".as_slice());
+    assert_eq!(rt; under(rt.alloc(), &d, b"/e")?.bytes(), b"".as_slice());
+    Ok(())
+}
+
+#[test]
+fn two_paths_are_changed_at_once(rt: HostRuntime) -> Result<(), Fail> {
+    let mut d = Delta::new(rt.alloc());
+    let p = path(rt.alloc(), b"/a/b")?;
+    let q = path(rt.alloc(), b"/a")?;
+    assert!(rt; p != q);
+    d.set_both(p.copy()?, None, q.copy()?, Some(Node::Dir { stamp: 4 }))?;
+    assert_eq!(rt; d.len(), 2);
+    assert!(rt; d.get(&p).is_some_and(|n| n.is_none()));
+    assert!(rt; d.get(&q).is_some_and(|n| n.is_some()));
+    Ok(())
+}

@@ -17,3 +17,6 @@ pub use cost::blocks;
 pub use desk::Desk;
 pub use no::{DeskNo, FileNo};
 pub use view::{PlainView, ScriptView, View};
+
+#[cfg(test)]
+mod tests;
