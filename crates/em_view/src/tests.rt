@@ -1,7 +1,8 @@
-//! Desks over small trees. A state is a text of words like `f4/d/x`: d a directory, f a file of 2 bytes and g one of 300, then the
-//! stamp and the path; the root is always there, with stamp 1, and job 0 has ended. A call is a word of a letter and a path:
-//! k kind, s stamp, c content, n names, o outcome, m make_dir, r remove, t touch, p put 1 byte, P put 300, l place 1 byte with stamp 7.
-//! What is expected stands in one text: results | usage | units left + units used | changes. The tree's greatest stamp is 100.
+//! Desks over small trees. A state is a text of words like `f4/d/x`: d a directory, f a file of 2 bytes and g one of 300, then
+//! the stamp and the path; the root is always there, with stamp 1, and job 0 has ended. A call is a word of a letter and a path:
+//! k kind, s stamp, c content, n names, o outcome, m make_dir, r remove, t touch, p put of 1 byte, P put of 300, l place of 1
+//! byte with stamp 7. What is expected stands in one text: results | usage | units left + units used | changes. A file is shown
+//! as its bytes and its stamp, as `1b101`, a directory as `d101`. A job's first change has number 101.
 ghost use Rattle.std.specs.Prelude.{◌≡◌, Some};
 ghost use Rattle.std.specs.FinMap as map;
 ghost use Rattle.em_path.specs.Paths.{IsPath, parent_text};
@@ -381,4 +382,23 @@ fn blocks_have_256_bytes(rt: HostRuntime) {
     ] {
         assert_eq!(rt; blocks(bytes), want);
     }
+}
+
+#[test]
+fn refusals_are_told_in_words(rt: HostRuntime) -> Result<(), Fail> {
+    for (no, want) in [
+        (FileNo::Absent, "absent"),
+        (FileNo::NoParent, "no parent"),
+        (FileNo::NotDir, "not a directory"),
+        (FileNo::IsDir, "is a directory"),
+        (FileNo::Exists, "exists"),
+        (FileNo::NotEmpty, "not empty"),
+        (FileNo::TooBig, "too big"),
+        (FileNo::Root, "root"),
+    ] {
+        let no = DeskNo::File(no);
+        let text = format!(in rt.alloc(); "{no}")?;
+        assert_eq!(rt; text.as_str(), want);
+    }
+    Ok(())
 }
