@@ -45,7 +45,7 @@ impl<V: View> Desk<V> {
     }
 
     /// Takes a file or an empty directory away, and stamps the directory above. Refusals, in this order: `Root`, before
-    /// anything is asked; `Absent`; `NotEmpty`. It costs 1.
+    /// anything is asked; `Absent`; `NotEmpty`. A directory of which the view tells no list of names is empty. It costs 1.
     pub fn remove(&mut self, p: &Path) -> Result<(), DeskNo>
         ensures performs { Performs is_memory V.tells self.old self.new result (remove p.now) }
         ensures err { OnErr result (self.new.work.changes ≡ self.old.work.changes) }
