@@ -10,7 +10,7 @@ use Rattle.em_view.specs.Actions.{Workspace, ready, spend, taken}
 use Rattle.em_view.specs.Performs.{DeskState, Told, Performs}
 use Rattle.em_view.specs.Held.{Fits, NamesPaths, IsSound}
 use Rattle.em_view.specs.Rows.{is_memory, blocks}
-use Rattle.em_view.proofs.Performing.{act, pure}
+use Rattle.em_view.proofs.Performing.{IsSameJob, act, pure}
 
 lower : (m n : ℕ) → m < n → nat_lt m n ≡ true
 lower m n h = grind (arith, nat_tests)
@@ -38,7 +38,7 @@ module _ {V : Type 0} {tells : V → Told} where
   unfolding spend
   enough d e n same h =
       let fuel : d.work.fuel - n ≡ e.work.fuel = omega arith in
-      act (ap (λ (x : DeskState V). x.usage) same) (ap (λ (x : DeskState V). x.view) same) (omega arith)
+      act (ap (λ (x : DeskState V). x.usage) same) (ap (λ (x : DeskState V). x.view) same) (subst (λ (w : Workspace). IsSameJob d.work w) (sym (ap (λ (x : DeskState V). x.work) same)) (record { base = refl; job = refl; given = refl; asked = refl })) (omega arith)
       (λ u o. ap (λ b. let r : Result (Unit {0}) DeskNo × Workspace = cond b (Err no.Spent, d.work) (Ok tt, record d.work { fuel = d.work.fuel - n }) in r) (not_lower d.work.fuel n (omega arith))
       ∙ ap (λ (f : ℕ). let r : Result (Unit {0}) DeskNo × Workspace = (Ok tt, record d.work { fuel = f }) in r) fuel
       ∙ ap (λ (w : Workspace). let r : Result (Unit {0}) DeskNo × Workspace = (Ok tt, w) in r) (sym (ap (λ (x : DeskState V). x.work) same)))
@@ -47,14 +47,7 @@ module _ {V : Type 0} {tells : V → Told} where
   pub spend_alike : (d e : DeskState V) {r : Result (Unit {0}) DeskNo} (m n : ℕ) → (m ≡ n) ⊎ ((d.work.fuel < m) × (d.work.fuel < n)) → Performs is_memory tells d e r (spend m) → Performs is_memory tells d e r (spend n)
   unfolding spend
   spend_alike d e {r} m n (inl same) p = subst (λ k. Performs is_memory tells d e r (spend k)) same p
-  spend_alike d e {r} m n (inr above) p = record {
-    entries = p.entries;
-    grew = p.grew;
-    told = p.told;
-    burns = p.burns;
-    ahead = p.ahead;
-    plain = λ h o all. short n above.1 ∙ sym (short m above.0) ∙ p.plain h o all;
-  }
+  spend_alike d e {r} m n (inr above) p = record { grows = p.grows; plain = λ h o all. short n above.1 ∙ sym (short m above.0) ∙ p.plain h o all }
     where
       short : (k : ℕ) → d.work.fuel < k → taken k d.work ≡ (Err no.Spent, d.work)
       short k l = ap (λ b. let x : Result (Unit {0}) DeskNo × Workspace = cond b (Err no.Spent, d.work) (Ok tt, record d.work { fuel = d.work.fuel - k }) in x) (lower d.work.fuel k l)

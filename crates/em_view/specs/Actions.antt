@@ -1,14 +1,17 @@
 -- What is done by questions, from a workspace.
 --     Workspace         what a job has made so far, and what it may still use
---     Oracle            an answer to each question; a state is one, and so are answers that no tree gives
+--     Oracle            an answer to each ask, by its number and its question. A state is one that ignores the number
 --     Action E A        what is done: a value or an error, and the workspace after it
 --     m >>= k, done a, fail e, ask q, spend n      one action and then another, and the smallest ones
 --     lift f m, attempt m      an action with its errors renamed, or looked at
-use Rattle.std.specs.Prelude.{ℕ, ◌-◌, nat_lt, List, [], ◌∷◌, ◌++◌, Result, Ok, Err, Option, if◌then◌else◌}
+use Rattle.std.specs.Prelude.{◌≡◌, ℕ, suc, ◌-◌, nat_lt, List, [], ◌∷◌, ◌++◌, length, Result, Ok, Err, Option, if◌then◌else◌}
 use Rattle.std.specs.FinMap.{get}
 use Rattle.em_tree.specs.declared.question.Question.{Question}
 use Rattle.em_tree.specs.declared.question.Answer.{Answer}
 use Rattle.em_tree.specs.declared.node.Node.{Node}
+use Rattle.em_tree.specs.declared.question.Entry.{Entry}
+use Rattle.em_tree.specs.declared.state.State.{State}
+use Rattle.em_tree.specs.Answers.{answer}
 use Rattle.em_tree.specs.Trees.{Changes}
 use Rattle.em_view.specs.declared.no.DeskNo.{DeskNo}
 use Rattle.em_view.specs.declared.no.DeskNo.TheVariants as no
@@ -27,8 +30,19 @@ pub record Workspace : Type 0 where
   -- the questions that were asked, in order
   pub asked : List Question
 
+-- an answer belongs to an ask: asks are numbered from 0, by how many were made before. So one question may be asked twice
+-- and be answered differently
 abbrev pub Oracle : Type 0
-Oracle = Question → Answer
+Oracle = ℕ → Question → Answer
+
+-- a state answers each question alike, however often it is asked
+abbrev pub snapshot : State → Oracle
+snapshot s = λ n. answer s
+
+-- the asks from number n on are answered as the entries say
+abbrev pub AgreesFrom : ℕ → Oracle → List Entry → Type 0
+AgreesFrom n o [] = Unit {0}
+AgreesFrom n o (e ∷ es) = (o n e.question ≡ e.answer) × AgreesFrom (suc n) o es
 
 abbrev pub Action : Type 0 → Type 0 → Type 0
 Action E A = Oracle → Workspace → Result A E × Workspace
@@ -48,7 +62,7 @@ unfoldable pub fail : {E A : Type 0} → E → Action E A
 fail e = λ o w. (Err e, w)
 
 unfoldable pub ask : {E : Type 0} → Question → Action E Answer
-ask q = λ o w. (Ok (o q), record w { asked = w.asked ++ q ∷ [] })
+ask q = λ o w. (Ok (o (length w.asked) q), record w { asked = w.asked ++ q ∷ [] })
 
 -- an action of a lower layer, with its errors under their names in this one
 abbrev pub renamed : {E F A : Type 0} → (E → F) → Result A E → Result A F
@@ -63,8 +77,8 @@ unfoldable pub attempt : {E A : Type 0} → Action E A → Action E (Result A E)
 attempt m = λ o w. (Ok (m o w).0, (m o w).1)
 
 -- what the job's own changes say of a path
-unfoldable pub own : {E : Type 0} → List ℕ → Action E (Option (Option Node))
-own p = λ o w. (Ok (get w.changes p), w)
+unfoldable pub mine : {E : Type 0} → List ℕ → Action E (Option (Option Node))
+mine p = λ o w. (Ok (get w.changes p), w)
 
 -- there is some fuel left; nothing is taken
 abbrev pub has_fuel : Workspace → Result (Unit {0}) DeskNo

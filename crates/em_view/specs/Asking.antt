@@ -1,5 +1,5 @@
 -- One question put to a view.
-use Rattle.std.specs.Prelude.{◌≡◌, ℕ, ◌+◌, List, [], ◌∷◌, ◌++◌, Result, IfOk, IfErr, OnOk}
+use Rattle.std.specs.Prelude.{◌≡◌, ℕ, ◌+◌, List, [], ◌∷◌, ◌++◌, length, Result, IfOk, IfErr}
 use Rattle.em_tree.specs.declared.question.Question.{Question}
 use Rattle.em_tree.specs.declared.question.Answer.{Answer}
 use Rattle.em_tree.specs.declared.question.Entry.{Entry}
@@ -13,5 +13,5 @@ pub record Asks {V : Type 0} (tells : V → Told) (q : Question) (old new : V) (
   pub grew : after ≡ before ++ entries
   pub told : AreTrue (tells old) entries
   pub one : IfOk result (λ a. entries ≡ record { question = q; answer = a } ∷ [])
-  pub ahead : OnOk result ((i : ℕ) (r : Question) → tells new i r ≡ tells old (i + 1) r)
+  pub ahead : (i : ℕ) (r : Question) → tells new i r ≡ tells old (length entries + i) r
   pub only : IfErr result (λ e. e ≡ no.NoMemory)

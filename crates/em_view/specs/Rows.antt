@@ -3,7 +3,7 @@
 --     put, make_dir, remove, touch, place               changes; refusals come in the order in which they stand here
 -- Each costs a unit, taken before the first question of a reading, and for a change after its refusals; and the blocks of the
 -- bytes that it gives or puts, taken before they are used.
-use Rattle.std.specs.Prelude.{ℕ, ◌+◌, ◌*◌, ◌/◌, ◌^◌, Bool, true, false, nat_lt, List, [], ◌∷◌, length, Ok, Option, Some, None, unwrap_or, option_map, if◌then◌else◌}
+use Rattle.std.specs.Prelude.{ℕ, ◌+◌, ◌*◌, ◌/◌, ◌^◌, Bool, true, false, nat_lt, List, [], ◌∷◌, length, Result, Ok, Option, Some, None, unwrap_or, option_map, if◌then◌else◌}
 use Rattle.std.specs.FinMap.{insert}
 use Rattle.em_path.specs.Paths.{parent_text}
 use Rattle.em_tree.specs.declared.question.Question.TheVariants as ask
@@ -19,16 +19,23 @@ use Rattle.em_view.specs.declared.no.FileNo.{FileNo}
 use Rattle.em_view.specs.declared.no.FileNo.TheVariants as file
 use Rattle.em_view.specs.declared.no.DeskNo.{DeskNo}
 use Rattle.em_view.specs.declared.no.DeskNo.TheVariants as no
-use Rattle.em_view.specs.declared.spot.Spot.{Spot}
-use Rattle.em_view.specs.declared.spot.Above.{Above}
-use Rattle.em_view.specs.Actions.{Workspace, Action, ◌>>=◌, done, fail, own, ready, spend}
+use Rattle.em_view.specs.Actions.{Workspace, Action, ◌>>=◌, done, fail, mine, ready, spend}
 use Rattle.em_view.specs.Actions.{ask as asking}
+use Rattle.em_view.specs.Performs.{DeskState, Told, Performs}
 use Rattle.em_view.specs.Names.{with_own, names_size}
 
 -- the one error that may come freely
 abbrev pub is_memory : DeskNo → Bool
 is_memory no.NoMemory = true
 is_memory _ = false
+
+-- a desk's method has performed an action
+abbrev pub Acts : {V A : Type 0} → (V → Told) → DeskState V → DeskState V → Result A DeskNo → Action DeskNo A → Type 0
+Acts tells old new result action = Performs is_memory tells old new result action
+
+abbrev pub is_refusal : DeskNo → Bool
+is_refusal (no.File f) = true
+is_refusal _ = false
 
 -- 256 bytes, or what is left of them
 abbrev pub blocks : ℕ → ℕ
@@ -66,8 +73,8 @@ kind_by None p = do
 
 unfoldable pub kind_below : List ℕ → Action DeskNo Kind
 kind_below p = do
-  mine ← own p
-  kind_by mine p
+  own ← mine p
+  kind_by own p
 
 abbrev pub stamp_by : Option (Option Node) → List ℕ → Action DeskNo (Option ℕ)
 stamp_by (Some n) p = done (stamp_of n)
@@ -77,8 +84,8 @@ stamp_by None p = do
 
 unfoldable pub stamp_below : List ℕ → Action DeskNo (Option ℕ)
 stamp_below p = do
-  mine ← own p
-  stamp_by mine p
+  own ← mine p
+  stamp_by own p
 
 abbrev pub content_by : Option (Option Node) → List ℕ → Action DeskNo (Option (List ℕ))
 content_by (Some n) p = done (content_of n)
@@ -88,8 +95,8 @@ content_by None p = do
 
 unfoldable pub content_below : List ℕ → Action DeskNo (Option (List ℕ))
 content_below p = do
-  mine ← own p
-  content_by mine p
+  own ← mine p
+  content_by own p
 
 abbrev pub is_dir : Option Node → Bool
 is_dir (Some (Dir stamp)) = true
@@ -122,8 +129,8 @@ names_by None p = other_names p
 
 unfoldable pub names_below : List ℕ → Action DeskNo (Option (List (List ℕ)))
 names_below p = do
-  mine ← own p
-  names_by mine p
+  own ← mine p
+  names_by own p
 
 -- ---- reading
 
@@ -194,17 +201,17 @@ abbrev pub refuse : Option FileNo → Action DeskNo (Unit {0})
 refuse None = done tt
 refuse (Some f) = fail (no.File f)
 
--- a path's kind, and its parent with its kind, where it isn't the root
-abbrev pub spot_by : Option (List ℕ) → Kind → Action DeskNo Spot
-spot_by None k = done (record { kind = k; above = None })
-spot_by (Some q) k = do
-  a ← kind_below q
-  done (record { kind = k; above = Some (record { path = q; kind = a }) })
+-- the kind of a path, and that of its parent, which the root has none of
+abbrev pub look_by : Option (List ℕ) → Kind → Action DeskNo (Kind × Option Kind)
+look_by None k = done (k, None)
+look_by (Some q) k = do
+  above ← kind_below q
+  done (k, Some above)
 
-unfoldable pub look : List ℕ → Action DeskNo Spot
+unfoldable pub look : List ℕ → Action DeskNo (Kind × Option Kind)
 look p = do
   k ← kind_below p
-  spot_by (parent_text p) k
+  look_by (parent_text p) k
 
 abbrev pub above_refusal : Kind → Option FileNo
 above_refusal kind.Absent = Some file.NoParent
@@ -220,24 +227,15 @@ or_else (Some f) g = Some f
 abbrev pub size_refusal : ℕ → Option FileNo
 size_refusal n = if nat_lt 16777216 n then Some file.TooBig else None
 
-abbrev pub put_under : Option Above → Kind → ℕ → Option FileNo
-put_under None k n = Some file.IsDir
-put_under (Some a) kind.Dir n = Some file.IsDir
-put_under (Some a) _ n = or_else (above_refusal a.kind) (size_refusal n)
-
 -- the root is a directory
-abbrev pub put_refusal : Spot → ℕ → Option FileNo
-put_refusal spot n = put_under spot.above spot.kind n
+abbrev pub put_refusal : Kind → Option Kind → ℕ → Option FileNo
+put_refusal k None n = Some file.IsDir
+put_refusal kind.Dir (Some above) n = Some file.IsDir
+put_refusal _ (Some above) n = or_else (above_refusal above) (size_refusal n)
 
-abbrev pub dir_under : Option Above → Kind → Option FileNo
-dir_under (Some a) kind.Absent = above_refusal a.kind
-dir_under _ _ = Some file.Exists
-
-abbrev pub dir_refusal : Spot → Option FileNo
-dir_refusal spot = dir_under spot.above spot.kind
-
-abbrev pub path_above : Spot → Option (List ℕ)
-path_above spot = option_map (λ a. a.path) spot.above
+abbrev pub dir_refusal : Kind → Option Kind → Option FileNo
+dir_refusal kind.Absent (Some above) = above_refusal above
+dir_refusal _ _ = Some file.Exists
 
 -- a file's directory is stamped where its name is new
 abbrev pub stamped : Kind → Option (List ℕ) → Option (List ℕ)
@@ -248,28 +246,28 @@ unfoldable pub put : List ℕ → List ℕ → Action DeskNo (Unit {0})
 put p bytes = do
   r ← ready
   spot ← look p
-  f ← refuse (put_refusal spot (length bytes))
+  f ← refuse (put_refusal spot.0 spot.1 (length bytes))
   u ← pay (blocks (length bytes))
   n ← number
-  change p (Some (File bytes n)) (stamped spot.kind (path_above spot))
+  change p (Some (File bytes n)) (stamped spot.0 (parent_text p))
 
 -- as `put`, but with this stamp, and the directory always gets the number of the change
 unfoldable pub place : List ℕ → List ℕ → ℕ → Action DeskNo (Unit {0})
 place p bytes stamp = do
   r ← ready
   spot ← look p
-  f ← refuse (put_refusal spot (length bytes))
+  f ← refuse (put_refusal spot.0 spot.1 (length bytes))
   u ← pay (blocks (length bytes))
-  change p (Some (File bytes stamp)) (path_above spot)
+  change p (Some (File bytes stamp)) (parent_text p)
 
 unfoldable pub make_dir : List ℕ → Action DeskNo (Unit {0})
 make_dir p = do
   r ← ready
   spot ← look p
-  f ← refuse (dir_refusal spot)
+  f ← refuse (dir_refusal spot.0 spot.1)
   u ← pay 0
   n ← number
-  change p (Some (Dir n)) (path_above spot)
+  change p (Some (Dir n)) (parent_text p)
 
 -- ---- removing and touching
 

@@ -2,14 +2,12 @@
 ghost use Rattle.std.specs.Prelude.{◌≡◌, IfErr, IfOk, IfSome, Some, option_copied, unwrap_or, []};
 ghost use Rattle.em_path.specs.Paths.{IsPath, parent_text};
 ghost use Rattle.em_tree.specs.Trees.{kind_of, stamp_of, content_of};
-ghost use Rattle.em_view.specs.Performs.{Performs};
-ghost use Rattle.em_view.specs.Rows.{is_memory, is_dir, kind_in, stamp_in, content_in, names_in, outcome_in, kind_below, stamp_below, content_below, amend, told_names, made_names, other_names, names_below, look, path_above};
+ghost use Rattle.em_view.specs.Rows.{Acts, is_dir, kind_in, stamp_in, content_in, names_in, outcome_in, kind_below, stamp_below, content_below, amend, told_names, made_names, other_names, names_below, look};
 ghost use Rattle.em_view.specs.declared.no.DeskNo.TheVariants as no;
 
 use crate::desk::Desk;
 use crate::names::with_own;
 use crate::no::DeskNo;
-use crate::spot::{Above, Spot};
 use crate::view::View;
 use em_base::NoMemory;
 use em_path::Path;
@@ -106,7 +104,8 @@ fn or_none(alloc: Global, names: Option<NameList>) -> NameList
 
 impl<V: View> Desk<V> {
     pub(crate) fn kind_below(&mut self, p: &Path) -> Result<Kind, DeskNo>
-        ensures performs { Performs is_memory V.tells self.old self.new result (kind_below p.now) }
+        ensures performs { Acts V.tells self.old self.new result (kind_below p.now) }
+        ensures only { IfErr result (λ e. e ≡ no.NoMemory) }
         ensures still { self.new.work ≡ record self.old.work { asked = self.new.work.asked } }
     {
         if let Some(node) = self.own(p) {
@@ -117,7 +116,8 @@ impl<V: View> Desk<V> {
     }
 
     pub(crate) fn stamp_below(&mut self, p: &Path) -> Result<Option<u64>, DeskNo>
-        ensures performs { Performs is_memory V.tells self.old self.new result (stamp_below p.now) }
+        ensures performs { Acts V.tells self.old self.new result (stamp_below p.now) }
+        ensures only { IfErr result (λ e. e ≡ no.NoMemory) }
         ensures still { self.new.work ≡ record self.old.work { asked = self.new.work.asked } }
     {
         if let Some(node) = self.own(p) {
@@ -128,7 +128,8 @@ impl<V: View> Desk<V> {
     }
 
     pub(crate) fn content_below(&mut self, p: &Path) -> Result<Option<Body>, DeskNo>
-        ensures performs { Performs is_memory V.tells self.old self.new result (content_below p.now) }
+        ensures performs { Acts V.tells self.old self.new result (content_below p.now) }
+        ensures only { IfErr result (λ e. e ≡ no.NoMemory) }
         ensures still { self.new.work ≡ record self.old.work { asked = self.new.work.asked } }
     {
         if let Some(node) = self.own(p) {
@@ -140,7 +141,8 @@ impl<V: View> Desk<V> {
 
     /// Names with the job's own children among them.
     fn amended(&self, p: &Path, names: Option<NameList>) -> Result<Option<NameList>, DeskNo>
-        ensures { Performs is_memory V.tells self.now self.now result (amend p.now names) }
+        ensures performs { Acts V.tells self.now self.now result (amend p.now names) }
+        ensures only { IfErr result (λ e. e ≡ no.NoMemory) }
     {
         match names {
             Some(names) => Ok(Some(with_own(self.alloc, &self.changes, p, names)?)),
@@ -150,7 +152,8 @@ impl<V: View> Desk<V> {
 
     /// What is told of the names of a path.
     fn told_names(&mut self, p: &Path) -> Result<Option<NameList>, DeskNo>
-        ensures performs { Performs is_memory V.tells self.old self.new result (told_names p.now) }
+        ensures performs { Acts V.tells self.old self.new result (told_names p.now) }
+        ensures only { IfErr result (λ e. e ≡ no.NoMemory) }
         ensures still { self.new.work ≡ record self.old.work { asked = self.new.work.asked } }
     {
         let answer = self.ask(Question::Names(p.copy()?))?;
@@ -159,7 +162,8 @@ impl<V: View> Desk<V> {
 
     /// The names of a path that the job made a directory: as told of the path, or none.
     fn made_names(&mut self, p: &Path) -> Result<Option<NameList>, DeskNo>
-        ensures performs { Performs is_memory V.tells self.old self.new result (made_names p.now) }
+        ensures performs { Acts V.tells self.old self.new result (made_names p.now) }
+        ensures only { IfErr result (λ e. e ≡ no.NoMemory) }
         ensures still { self.new.work ≡ record self.old.work { asked = self.new.work.asked } }
     {
         let names = self.told_names(p)?;
@@ -167,7 +171,8 @@ impl<V: View> Desk<V> {
     }
 
     fn other_names(&mut self, p: &Path) -> Result<Option<NameList>, DeskNo>
-        ensures performs { Performs is_memory V.tells self.old self.new result (other_names p.now) }
+        ensures performs { Acts V.tells self.old self.new result (other_names p.now) }
+        ensures only { IfErr result (λ e. e ≡ no.NoMemory) }
         ensures still { self.new.work ≡ record self.old.work { asked = self.new.work.asked } }
     {
         let names = self.told_names(p)?;
@@ -175,7 +180,8 @@ impl<V: View> Desk<V> {
     }
 
     pub(crate) fn names_below(&mut self, p: &Path) -> Result<Option<NameList>, DeskNo>
-        ensures performs { Performs is_memory V.tells self.old self.new result (names_below p.now) }
+        ensures performs { Acts V.tells self.old self.new result (names_below p.now) }
+        ensures only { IfErr result (λ e. e ≡ no.NoMemory) }
         ensures still { self.new.work ≡ record self.old.work { asked = self.new.work.asked } }
     {
         match self.own(p) {
@@ -193,30 +199,35 @@ impl<V: View> Desk<V> {
     /// The parent of a path, if it isn't the root.
     pub(crate) fn above(&self, p: &Path) -> Result<Option<Path>, DeskNo>
         ensures ok { IfOk result (λ q. q ≡ parent_text p.now) }
+        ensures path { IfOk result (λ q. IfSome q IsPath) }
         ensures only { IfErr result (λ e. e ≡ no.NoMemory) }
     {
         match p.parent(self.alloc) {
-            Ok(above) => Ok(above),
+            Ok(Some(above)) => {
+                let _text = above.text();
+                Ok(Some(above))
+            }
+            Ok(None) => Ok(None),
             Err(_) => Err(DeskNo::NoMemory),
         }
     }
 
-    /// What stands at a path, and above it.
-    pub(crate) fn look(&mut self, p: &Path) -> Result<Spot, DeskNo>
-        ensures performs { Performs is_memory V.tells self.old self.new result (look p.now) }
-        ensures above { IfOk result (λ spot. path_above spot ≡ parent_text p.now) }
-        ensures path { IfOk result (λ spot. IfSome (path_above spot) IsPath) }
+    /// The kind of a path and that of its parent, which the root has none of.
+    pub(crate) fn look(
+        &mut self,
+        p: &Path,
+        above: &Option<Path>,
+    ) -> Result<(Kind, Option<Kind>), DeskNo>
+        requires parent { above.now ≡ parent_text p.now }
+        ensures performs { Acts V.tells self.old self.new result (look p.now) }
+        ensures only { IfErr result (λ e. e ≡ no.NoMemory) }
         ensures still { self.new.work ≡ record self.old.work { asked = self.new.work.asked } }
     {
         let kind = self.kind_below(p)?;
-        let Some(path) = self.above(p)? else {
-            return Ok(Spot { kind, above: None });
+        let Some(above) = above else {
+            return Ok((kind, None));
         };
-        let _text = path.text();
-        let above = self.kind_below(&path)?;
-        Ok(Spot {
-            kind,
-            above: Some(Above { path, kind: above }),
-        })
+        let over = self.kind_below(above)?;
+        Ok((kind, Some(over)))
     }
 }

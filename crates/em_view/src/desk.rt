@@ -4,11 +4,12 @@ ghost use Rattle.std.specs.FinMap as map;
 ghost use Rattle.em_tree.specs.declared.question.Question.{Question};
 ghost use Rattle.em_tree.specs.declared.question.Entry.{Entry};
 ghost use Rattle.em_view.specs.declared.no.DeskNo.TheVariants as no;
-ghost use Rattle.em_view.specs.Actions.{ask, own, ready, spend};
+ghost use Rattle.em_view.specs.Actions.{ask, ready, spend};
 ghost use Rattle.em_view.specs.Asking.{Asks};
 ghost use Rattle.em_view.specs.Held.{Fits, NamesPaths, IsSoundDesk};
-ghost use Rattle.em_view.specs.Performs.{Performs};
-ghost use Rattle.em_view.specs.Rows.{is_memory, pay, change_number, after_change};
+ghost use Rattle.em_view.specs.Performs.{Keeps};
+ghost use Rattle.em_view.specs.Performs.{Keeps};
+ghost use Rattle.em_view.specs.Rows.{Acts, pay, change_number, after_change};
 
 use crate::no::DeskNo;
 use crate::view::View;
@@ -86,9 +87,10 @@ impl<V: View> Desk<V> {
         }
     }
 
-    /// The units that are left.
+    /// The units that are left, at most 10,000,000.
     pub fn left(&self) -> u64
-        ensures { result ≡ self.now.work.fuel }
+        ensures left { result ≡ self.now.work.fuel }
+        ensures bound { result ≤ 10000000 }
     {
         self.fuel.left()
     }
@@ -113,10 +115,10 @@ impl<V: View> Desk<V> {
         (self.usage, self.changes, used)
     }
 
-    /// Takes n units, or is spent.
+    /// Takes n units, or is spent: `spend`, as an action.
     #[tactic(auto, unfolding(crate::specs::Actions::spend))]
-    pub(crate) fn take(&mut self, n: u64) -> Result<(), DeskNo>
-        ensures performs { Performs is_memory V.tells self.old self.new result (spend n) }
+    pub fn take(&mut self, n: u64) -> Result<(), DeskNo>
+        ensures performs { Acts V.tells self.old self.new result (spend n) }
         ensures ok { OnOk result ((self.new ≡ record self.old { work = record self.old.work { fuel = self.new.work.fuel } }) × (self.new.work.fuel + n ≡ self.old.work.fuel)) }
         ensures err { OnErr result (self.new ≡ self.old) }
         ensures only { IfErr result (λ e. e ≡ no.Spent) }
@@ -128,8 +130,9 @@ impl<V: View> Desk<V> {
 
     /// Takes a unit and n blocks, or is spent, where the unit may stay taken.
     pub(crate) fn pay(&mut self, n: u64) -> Result<(), DeskNo>
-        ensures performs { Performs is_memory V.tells self.old self.new result (pay n) }
-        ensures ok { OnOk result ((self.new ≡ record self.old { work = record self.old.work { fuel = self.new.work.fuel } }) × (self.new.work.fuel + 1 ≤ self.old.work.fuel)) }
+        ensures performs { Acts V.tells self.old self.new result (pay n) }
+        ensures ok { OnOk result ((self.new ≡ record self.old { work = record self.old.work { fuel = self.new.work.fuel } }) × (self.new.work.fuel + (1 + n) ≡ self.old.work.fuel)) }
+        ensures err { OnErr result (Keeps 1 self.old.work self.new.work) }
         ensures still { self.new.work.changes ≡ self.old.work.changes }
     {
         self.take(1)?;
@@ -138,7 +141,7 @@ impl<V: View> Desk<V> {
 
     /// Spent where nothing is left.
     pub(crate) fn ready(&mut self) -> Result<(), DeskNo>
-        ensures performs { Performs is_memory V.tells self.old self.new result ready }
+        ensures performs { Acts V.tells self.old self.new result ready }
         ensures same { self.new ≡ self.old }
         ensures sound { IsSoundDesk self.new }
     {
@@ -190,7 +193,8 @@ impl<V: View> Desk<V> {
 
     /// Asks, and keeps the answer.
     pub(crate) fn ask(&mut self, question: Question) -> Result<Answer, DeskNo>
-        ensures performs { Performs is_memory V.tells self.old self.new result (ask question) }
+        ensures performs { Acts V.tells self.old self.new result (ask question) }
+        ensures only { IfErr result (λ e. e ≡ no.NoMemory) }
         ensures still { self.new.work ≡ record self.old.work { asked = self.new.work.asked } }
     {
         ask_view(self.alloc, &mut self.view, &mut self.usage, question)

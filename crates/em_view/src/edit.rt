@@ -3,8 +3,8 @@ ghost use Rattle.std.specs.Prelude.{◌≡◌, OnErr, Some};
 ghost use Rattle.em_path.specs.Paths.{IsPath, parent_text};
 ghost use Rattle.em_tree.specs.declared.node.Kind.TheVariants as kind;
 ghost use Rattle.em_view.specs.Held.{IsSeen, IsSoundDesk, MayGo};
-ghost use Rattle.em_view.specs.Performs.{Performs};
-ghost use Rattle.em_view.specs.Rows.{is_memory, take_away, remove_dir, remove, touch_dir, touch_file, touch};
+ghost use Rattle.em_view.specs.Performs.{Keeps};
+ghost use Rattle.em_view.specs.Rows.{Acts, take_away, remove_dir, remove, touch_dir, touch_file, touch};
 
 use crate::desk::Desk;
 use crate::no::{DeskNo, FileNo};
@@ -20,8 +20,8 @@ impl<V: View> Desk<V> {
         requires parent { parent_text p.now ≡ Some above }
         requires sound { IsSoundDesk self.old }
         requires gone { MayGo self.old p.now }
-        ensures performs { Performs is_memory V.tells self.old self.new result (take_away p.now above) }
-        ensures err { OnErr result (self.new.work.changes ≡ self.old.work.changes) }
+        ensures performs { Acts V.tells self.old self.new result (take_away p.now above) }
+        ensures err { OnErr result (Keeps 1 self.old.work self.new.work) }
     {
         let _text = above.text();
         self.pay(0)?;
@@ -34,8 +34,8 @@ impl<V: View> Desk<V> {
         requires parent { parent_text p.now ≡ Some above }
         requires sound { IsSoundDesk self.old }
         requires seen { IsSeen self.old p.now kind.Dir }
-        ensures performs { Performs is_memory V.tells self.old self.new result (remove_dir p.now above) }
-        ensures err { OnErr result (self.new.work.changes ≡ self.old.work.changes) }
+        ensures performs { Acts V.tells self.old self.new result (remove_dir p.now above) }
+        ensures err { OnErr result (Keeps 1 self.old.work self.new.work) }
     {
         let names = self.names_below(p)?;
         if let Some(no) = names_refusal(&names) {
@@ -47,8 +47,8 @@ impl<V: View> Desk<V> {
     /// Takes a file or an empty directory away, and stamps the directory above. Refusals, in this order: `Root`, before
     /// anything is asked; `Absent`; `NotEmpty`. A directory of which the view tells no list of names is empty. It costs 1.
     pub fn remove(&mut self, p: &Path) -> Result<(), DeskNo>
-        ensures performs { Performs is_memory V.tells self.old self.new result (remove p.now) }
-        ensures err { OnErr result (self.new.work.changes ≡ self.old.work.changes) }
+        ensures performs { Acts V.tells self.old self.new result (remove p.now) }
+        ensures err { OnErr result (Keeps 1 self.old.work self.new.work) }
     {
         let _text = p.text();
         self.ready()?;
@@ -66,8 +66,8 @@ impl<V: View> Desk<V> {
         requires path { IsPath p.now }
         requires sound { IsSoundDesk self.old }
         requires seen { IsSeen self.old p.now kind.Dir }
-        ensures performs { Performs is_memory V.tells self.old self.new result (touch_dir p.now) }
-        ensures err { OnErr result (self.new.work.changes ≡ self.old.work.changes) }
+        ensures performs { Acts V.tells self.old self.new result (touch_dir p.now) }
+        ensures err { OnErr result (Keeps 1 self.old.work self.new.work) }
     {
         self.pay(0)?;
         let stamp = self.number();
@@ -78,8 +78,8 @@ impl<V: View> Desk<V> {
         requires path { IsPath p.now }
         requires sound { IsSoundDesk self.old }
         requires seen { IsSeen self.old p.now kind.File }
-        ensures performs { Performs is_memory V.tells self.old self.new result (touch_file p.now) }
-        ensures err { OnErr result (self.new.work.changes ≡ self.old.work.changes) }
+        ensures performs { Acts V.tells self.old self.new result (touch_file p.now) }
+        ensures err { OnErr result (Keeps 1 self.old.work self.new.work) }
     {
         let Some(body) = self.content_below(p)? else {
             return Err(DeskNo::File(FileNo::Absent));
@@ -92,8 +92,8 @@ impl<V: View> Desk<V> {
     /// Gives what stands at a path the stamp of the change. A file keeps its bytes, so they are asked for; where they are
     /// then told to be absent, so is the file. The one refusal is `Absent`. It costs 1.
     pub fn touch(&mut self, p: &Path) -> Result<(), DeskNo>
-        ensures performs { Performs is_memory V.tells self.old self.new result (touch p.now) }
-        ensures err { OnErr result (self.new.work.changes ≡ self.old.work.changes) }
+        ensures performs { Acts V.tells self.old self.new result (touch p.now) }
+        ensures err { OnErr result (Keeps 1 self.old.work self.new.work) }
     {
         let _text = p.text();
         self.ready()?;

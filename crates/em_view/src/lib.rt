@@ -9,7 +9,6 @@ mod names;
 mod no;
 mod read;
 mod refuse;
-mod spot;
 mod view;
 mod write;
 

@@ -1,7 +1,6 @@
 //! What a desk tells of a tree.
-ghost use Rattle.std.specs.Prelude.{◌≡◌};
-ghost use Rattle.em_view.specs.Performs.{Performs};
-ghost use Rattle.em_view.specs.Rows.{is_memory, kind_at, stamp_at, content, names, outcome};
+ghost use Rattle.std.specs.Prelude.{◌≡◌, ◌+◌, ◌≤◌, IfErr, OnErr, false};
+ghost use Rattle.em_view.specs.Rows.{Acts, is_refusal, kind_at, stamp_at, content, names, outcome};
 
 use crate::ask::outcome_in;
 use crate::cost::{blocks, body_size, names_size};
@@ -14,8 +13,10 @@ use em_tree::{Body, Kind, NameList, Outcome, Question};
 impl<V: View> Desk<V> {
     /// What kind of node stands at a path. It costs 1.
     pub fn kind(&mut self, p: &Path) -> Result<Kind, DeskNo>
-        ensures performs { Performs is_memory V.tells self.old self.new result (kind_at p.now) }
-        ensures still { self.new.work.changes ≡ self.old.work.changes }
+        ensures performs { Acts V.tells self.old self.new result (kind_at p.now) }
+        ensures still { self.new.work ≡ record self.old.work { fuel = self.new.work.fuel; asked = self.new.work.asked } }
+        ensures err { OnErr result (self.old.work.fuel ≤ self.new.work.fuel + 1) }
+        ensures unrefused { IfErr result (λ e. is_refusal e ≡ false) }
     {
         self.take(1)?;
         self.kind_below(p)
@@ -23,8 +24,10 @@ impl<V: View> Desk<V> {
 
     /// The stamp of the node at a path, if one is there. It costs 1.
     pub fn stamp(&mut self, p: &Path) -> Result<Option<u64>, DeskNo>
-        ensures performs { Performs is_memory V.tells self.old self.new result (stamp_at p.now) }
-        ensures still { self.new.work.changes ≡ self.old.work.changes }
+        ensures performs { Acts V.tells self.old self.new result (stamp_at p.now) }
+        ensures still { self.new.work ≡ record self.old.work { fuel = self.new.work.fuel; asked = self.new.work.asked } }
+        ensures err { OnErr result (self.old.work.fuel ≤ self.new.work.fuel + 1) }
+        ensures unrefused { IfErr result (λ e. is_refusal e ≡ false) }
     {
         self.take(1)?;
         self.stamp_below(p)
@@ -32,8 +35,10 @@ impl<V: View> Desk<V> {
 
     /// The bytes of the file at a path; `None` where no file is there. It costs 1 and the blocks of the bytes.
     pub fn content(&mut self, p: &Path) -> Result<Option<Body>, DeskNo>
-        ensures performs { Performs is_memory V.tells self.old self.new result (content p.now) }
-        ensures still { self.new.work.changes ≡ self.old.work.changes }
+        ensures performs { Acts V.tells self.old self.new result (content p.now) }
+        ensures still { self.new.work ≡ record self.old.work { fuel = self.new.work.fuel; asked = self.new.work.asked } }
+        ensures err { OnErr result (self.old.work.fuel ≤ self.new.work.fuel + 1) }
+        ensures unrefused { IfErr result (λ e. is_refusal e ≡ false) }
     {
         self.take(1)?;
         let body = self.content_below(p)?;
@@ -44,8 +49,10 @@ impl<V: View> Desk<V> {
     /// The names of the directory at a path in byte order; `None` where no directory is there. It costs 1 and the blocks of
     /// the names' bytes.
     pub fn names(&mut self, p: &Path) -> Result<Option<NameList>, DeskNo>
-        ensures performs { Performs is_memory V.tells self.old self.new result (names p.now) }
-        ensures still { self.new.work.changes ≡ self.old.work.changes }
+        ensures performs { Acts V.tells self.old self.new result (names p.now) }
+        ensures still { self.new.work ≡ record self.old.work { fuel = self.new.work.fuel; asked = self.new.work.asked } }
+        ensures err { OnErr result (self.old.work.fuel ≤ self.new.work.fuel + 1) }
+        ensures unrefused { IfErr result (λ e. is_refusal e ≡ false) }
     {
         self.take(1)?;
         let names = self.names_below(p)?;
@@ -55,8 +62,10 @@ impl<V: View> Desk<V> {
 
     /// How job j ended, if it has ended. It costs 1.
     pub fn outcome(&mut self, j: u32) -> Result<Option<Outcome>, DeskNo>
-        ensures performs { Performs is_memory V.tells self.old self.new result (outcome j) }
-        ensures still { self.new.work.changes ≡ self.old.work.changes }
+        ensures performs { Acts V.tells self.old self.new result (outcome j) }
+        ensures still { self.new.work ≡ record self.old.work { fuel = self.new.work.fuel; asked = self.new.work.asked } }
+        ensures err { OnErr result (self.old.work.fuel ≤ self.new.work.fuel + 1) }
+        ensures unrefused { IfErr result (λ e. is_refusal e ≡ false) }
     {
         self.take(1)?;
         let answer = self.ask(Question::Outcome(j))?;

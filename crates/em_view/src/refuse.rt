@@ -1,9 +1,8 @@
 //! Which operations are refused.
-ghost use Rattle.std.specs.Prelude.{◌≡◌, option_map};
-ghost use Rattle.em_view.specs.Rows.{above_refusal, size_refusal, put_refusal, dir_refusal, names_refusal, path_above, stamped};
+ghost use Rattle.std.specs.Prelude.{◌≡◌};
+ghost use Rattle.em_view.specs.Rows.{above_refusal, size_refusal, put_refusal, dir_refusal, names_refusal, stamped};
 
 use crate::no::FileNo;
-use crate::spot::{Above, Spot};
 use em_path::Path;
 use em_tree::{Kind, NameList};
 
@@ -30,27 +29,27 @@ fn size_refusal(size: u64) -> Option<FileNo>
     }
 }
 
-/// Why no file of so many bytes can be put there. The root is a directory.
-pub(crate) fn put_refusal(spot: &Spot, size: u64) -> Option<FileNo>
-    ensures { result ≡ put_refusal spot.now size }
+/// Why no file of so many bytes can be put where this kind of node is, with this kind of parent. The root is a directory.
+pub(crate) fn put_refusal(kind: Kind, above: Option<Kind>, size: u64) -> Option<FileNo>
+    ensures { result ≡ put_refusal kind above size }
 {
-    match &spot.above {
+    match above {
         None => Some(FileNo::IsDir),
-        Some(above) => match spot.kind {
+        Some(above) => match kind {
             Kind::Dir => Some(FileNo::IsDir),
-            _ => above_refusal(above.kind).or_else(|| size_refusal(size)),
+            _ => above_refusal(above).or_else(|| size_refusal(size)),
         },
     }
 }
 
-/// Why no directory can be made there.
-pub(crate) fn dir_refusal(spot: &Spot) -> Option<FileNo>
-    ensures { result ≡ dir_refusal spot.now }
+/// Why no directory can be made where this kind of node is, with this kind of parent.
+pub(crate) fn dir_refusal(kind: Kind, above: Option<Kind>) -> Option<FileNo>
+    ensures { result ≡ dir_refusal kind above }
 {
-    match &spot.above {
+    match above {
         None => Some(FileNo::Exists),
-        Some(above) => match spot.kind {
-            Kind::Absent => above_refusal(above.kind),
+        Some(above) => match kind {
+            Kind::Absent => above_refusal(above),
             _ => Some(FileNo::Exists),
         },
     }
@@ -72,22 +71,12 @@ pub(crate) fn names_refusal(names: &Option<NameList>) -> Option<FileNo>
     }
 }
 
-/// The directory above a path.
-pub(crate) fn path_above(spot: Spot) -> Option<Path>
-    ensures { result ≡ path_above spot }
+/// The directory that gets the stamp of a file that is put where this kind of node is: the one above a new name.
+pub(crate) fn stamped(kind: Kind, above: Option<Path>) -> Option<Path>
+    ensures { result ≡ stamped kind above }
 {
-    match spot.above {
-        Some(Above { path, .. }) => Some(path),
-        None => None,
-    }
-}
-
-/// The directory that gets the stamp of a file that is put there: the one above a new name.
-pub(crate) fn stamped(spot: Spot) -> Option<Path>
-    ensures { result ≡ stamped spot.kind (path_above spot) }
-{
-    match spot.kind {
-        Kind::Absent => path_above(spot),
+    match kind {
+        Kind::Absent => above,
         _ => None,
     }
 }

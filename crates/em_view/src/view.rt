@@ -1,5 +1,5 @@
 //! Who answers.
-ghost use Rattle.std.specs.Prelude.{◌≡◌, ◌+◌, ◌≢◌, ℕ, [], Some, Option, option_map, IfOk, OnOk};
+ghost use Rattle.std.specs.Prelude.{◌≡◌, ◌+◌, ◌≢◌, ℕ, [], Some, Option, option_map, IfOk, OnErr, OnOk};
 ghost use Rattle.em_tree.specs.declared.question.Question.{Question};
 ghost use Rattle.em_tree.specs.declared.question.Answer.{Answer};
 ghost use Rattle.em_tree.specs.Answers.{answer};
@@ -15,30 +15,42 @@ pub trait View: Drop {
     /// The answer to the i-th ask from now, from 0, where it is this question; none where the view doesn't tell it.
     ghost tells: { Self → ℕ → Question → Option Answer };
 
-    /// Answers a question, by an answer of its kind.
+    /// Answers a question, by an answer of its kind. Where memory runs out, what the view tells stays as it was.
     fn ask(&mut self, alloc: Global, q: &Question) -> Result<Answer, NoMemory>
         ensures kind { IfOk result (λ a. IsAnswerTo q.now a) }
         ensures told { IfOk result (λ a. IsTold (tells self.old 0 q.now) a) }
-        ensures ahead { OnOk result ((i : ℕ) (r : Question) → tells self.new i r ≡ tells self.old (i + 1) r) };
+        ensures ahead { OnOk result ((i : ℕ) (r : Question) → tells self.new i r ≡ tells self.old (i + 1) r) }
+        ensures lost { OnErr result ((i : ℕ) (r : Question) → tells self.new i r ≡ tells self.old i r) };
 }
 
-/// The answers of one state.
+/// The answers of one state, which is what contracts see of it.
 #[derive(Drop)]
 pub struct PlainView<'a> {
     state: &'a State,
 }
 
+impl<'a> Model for PlainView<'a> {
+    ghost use Rattle.em_tree.specs.contracts.state.State as snapshot;
+    ghost use Rattle.em_tree.specs.declared.state.State.{State};
+
+    ghost Value = { State };
+
+    ghost coded = { snapshot.the_row.coded };
+
+    ghost view = { λ v. v.state.now };
+}
+
 impl<'a> PlainView<'a> {
     /// A view of the state.
     pub fn new(state: &'a State) -> PlainView<'a>
-        ensures { result.state.now ≡ state.entry.now }
+        ensures { result ≡ state.entry.now }
     {
         PlainView { state }
     }
 }
 
 impl<'a> View for PlainView<'a> {
-    ghost tells = { λ v i q. Some (answer v.state.now q) };
+    ghost tells = { λ v i q. Some (answer v q) };
 
     fn ask(&mut self, alloc: Global, q: &Question) -> Result<Answer, NoMemory> {
         self.state.answer(alloc, q)

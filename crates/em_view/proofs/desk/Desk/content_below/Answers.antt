@@ -3,6 +3,7 @@ use Rattle.std.proofs.lemmas.Result.{err_from_is_err_and}
 use Rattle.em_tree.specs.Trees.{content_of}
 use Rattle.em_view.specs.Rows.{content_below, content_by, content_in}
 use Rattle.em_view.proofs.Below.{below_own, below_asked, below_failed}
+use Rattle.em_view.proofs.Performing.{ran_out}
 use Rattle.em_view.proofs.desk.Desk.content_below.Goals as goal
 
 pub returns-in-Some-clause-performs : goal.returns-in-Some-clause-performs
@@ -19,3 +20,9 @@ pub returns-clause-performs : goal.returns-clause-performs
 unfolding content_below
 returns-clause-performs g c =
     rw c.content_in.ensures (below_asked c.args.self.now c.args.p.now c.ask.new.self _ (λ mine. content_by mine c.args.p.now) content_in _ c.in_default.ensures refl (rw c.in_ok-copy.ensures at c.in_ok-answer.ensures.performs))
+
+pub returns-in_err-copy-clause-performs : goal.returns-in_err-copy-clause-performs
+returns-in_err-copy-clause-performs g c = ran_out _ refl c.from_residual-in_err-copy.ensures.1
+
+pub returns-in_err-content_of-clause-performs : goal.returns-in_err-content_of-clause-performs
+returns-in_err-content_of-clause-performs g c = ran_out _ refl c.from_residual.ensures.1

@@ -3,6 +3,7 @@ use Rattle.std.proofs.lemmas.Result.{err_from_is_err_and}
 use Rattle.em_tree.specs.Trees.{kind_of}
 use Rattle.em_view.specs.Rows.{kind_below, kind_by, kind_in}
 use Rattle.em_view.proofs.Below.{below_own, below_asked, below_failed}
+use Rattle.em_view.proofs.Performing.{ran_out}
 use Rattle.em_view.proofs.desk.Desk.kind_below.Goals as goal
 
 pub returns-in-Some-clause-performs : goal.returns-in-Some-clause-performs
@@ -19,3 +20,6 @@ pub returns-clause-performs : goal.returns-clause-performs
 unfolding kind_below
 returns-clause-performs g c =
     rw c.kind_in.ensures (below_asked c.args.self.now c.args.p.now c.ask.new.self _ (λ mine. kind_by mine c.args.p.now) kind_in _ c.in_default.ensures refl (rw c.in_ok-copy.ensures at c.in_ok-answer.ensures.performs))
+
+pub returns-in_err-copy-clause-performs : goal.returns-in_err-copy-clause-performs
+returns-in_err-copy-clause-performs g c = ran_out _ refl c.from_residual.ensures.1

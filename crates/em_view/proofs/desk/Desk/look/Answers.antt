@@ -9,12 +9,12 @@ returns-in_err-kind-clause-performs g c = leave _ c.from_residual.ensures.1 c.in
 
 pub returns-in_default-clause-performs : goal.returns-in_default-clause-performs
 unfolding look
-returns-in_default-clause-performs g c = then _ c.in_ok-kind.ensures.performs (rw (sym c.in_ok-path.ensures.ok ∙ c.in_default.is) finish)
+returns-in_default-clause-performs g c = then _ c.in_ok-kind.ensures.performs (rw (sym c.requires.parent ∙ c.in_default.is) finish)
 
-pub returns-in_err-above-clause-performs : goal.returns-in_err-above-clause-performs
+pub returns-in_err-over-clause-performs : goal.returns-in_err-over-clause-performs
 unfolding look
-returns-in_err-above-clause-performs g c = then _ c.in_ok-kind.ensures.performs (rw (sym c.in_ok-path.ensures.ok ∙ c.in-Some.is) (leave _ c.from_residual-in_err-above.ensures.1 c.in_err-above.ensures.performs))
+returns-in_err-over-clause-performs g c = then _ c.in_ok-kind.ensures.performs (rw (sym c.requires.parent ∙ c.in-Some.is) (leave _ c.from_residual-in_err-over.ensures.1 c.in_err-over.ensures.performs))
 
 pub returns-clause-performs : goal.returns-clause-performs
 unfolding look
-returns-clause-performs g c = then _ c.in_ok-kind.ensures.performs (rw (sym c.in_ok-path.ensures.ok ∙ c.in-Some.is) (then _ c.in_ok-above.ensures.performs finish))
+returns-clause-performs g c = then _ c.in_ok-kind.ensures.performs (rw (sym c.requires.parent ∙ c.in-Some.is) (then _ c.in_ok-over.ensures.performs finish))

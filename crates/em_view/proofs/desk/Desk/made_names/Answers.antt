@@ -8,4 +8,4 @@ returns-in_err-names-clause-performs g c = leave _ c.from_residual.ensures.1 c.i
 
 pub returns-clause-performs : goal.returns-clause-performs
 unfolding made_names
-returns-clause-performs g c = then _ c.in_ok-names.ensures.performs (rw c.or_none.ensures at c.amended.ensures)
+returns-clause-performs g c = then _ c.in_ok-names.ensures.performs (rw c.or_none.ensures at c.amended.ensures.performs)

@@ -8,4 +8,4 @@ returns-in_err-names-clause-performs g c = leave _ c.from_residual.ensures.1 c.i
 
 pub returns-clause-performs : goal.returns-clause-performs
 unfolding other_names
-returns-clause-performs g c = then _ c.in_ok-names.ensures.performs c.amended.ensures
+returns-clause-performs g c = then _ c.in_ok-names.ensures.performs c.amended.ensures.performs

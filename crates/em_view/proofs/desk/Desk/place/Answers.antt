@@ -22,20 +22,20 @@ unfolding place
 returns-in_err-pay-clause-performs g c = then _ c.in_ok-ready.ensures.performs (then _ c.in_ok-spot.ensures.performs (rw (sym c.in_default.ensures) (then _ finish (leave _ c.from_residual-in_err-pay.ensures.1 (rw c.blocks-2.ensures at c.in_err-pay.ensures.performs)))))
 
 pub change-requires-clause-apart : goal.change-requires-clause-apart
-change-requires-clause-apart g c = rw (c.in_ok-copy.ensures, c.path_above.ensures) (apart c.args.p.now c.in_ok-spot.spot _ c.in_ok-spot.ensures.above (inr refl))
+change-requires-clause-apart g c = rw c.in_ok-copy.ensures (apart c.args.p.now _ (inr c.in_ok-above.ensures.ok))
 
 pub change-requires-clause-room : goal.change-requires-clause-room
-change-requires-clause-room g c = room_paid c.look.new.self c.pay.new.self (sound_still c.ready.new.self c.look.new.self _ c.in_ok-spot.ensures.still c.in_ok-spot.ensures.performs.grew c.in_ok-ready.ensures.sound).room c.in_ok-pay.ensures.ok.0 c.in_ok-pay.ensures.ok.1
+change-requires-clause-room g c = room_paid c.look.new.self c.pay.new.self _ (sound_still c.ready.new.self c.look.new.self _ c.in_ok-spot.ensures.still c.in_ok-spot.ensures.performs.grows.grew c.in_ok-ready.ensures.sound).room c.in_ok-pay.ensures.ok.0 c.in_ok-pay.ensures.ok.1
 
 pub change-requires-clause-fits : goal.change-requires-clause-fits
-change-requires-clause-fits g c = rw (c.in_ok-copy.ensures, c.path_above.ensures) (put_fits c.ready.new.self c.look.new.self c.pay.new.self c.args.p.now c.in_ok-spot.spot _ c.text-text.ensures.path c.in_ok-ready.ensures.sound.fits
-    c.in_ok-spot.ensures.performs (ap (λ d. d.usage) c.in_ok-pay.ensures.ok.0) (c.in_ok-pay.ensures.still ∙ ap (λ w. w.changes) c.in_ok-spot.ensures.still) (inr refl) _ _ _ (sym c.in_default.ensures))
+change-requires-clause-fits g c = rw c.in_ok-copy.ensures (put_fits c.ready.new.self c.look.new.self c.pay.new.self c.args.p.now c.in_ok-spot.spot _ c.text-text.ensures.path c.in_ok-ready.ensures.sound.fits
+    c.in_ok-spot.ensures.performs (ap (λ d. d.usage) c.in_ok-pay.ensures.ok.0) (c.in_ok-pay.ensures.still ∙ ap (λ w. w.changes) c.in_ok-spot.ensures.still) (inr c.in_ok-above.ensures.ok) _ _ _ (sym c.in_default.ensures))
 
 pub change-requires-clause-paths : goal.change-requires-clause-paths
-change-requires-clause-paths g c = rw (c.in_ok-copy.ensures, c.path_above.ensures, c.in_ok-pay.ensures.still, ap (λ w. w.changes) c.in_ok-spot.ensures.still) (paths_becomes c.args.p.now _ _ _ _ c.in_ok-ready.ensures.sound.paths c.text-text.ensures.path (above_path c.in_ok-spot.spot _ c.in_ok-spot.ensures.path (inr refl)))
+change-requires-clause-paths g c = rw (c.in_ok-copy.ensures, c.in_ok-pay.ensures.still, ap (λ w. w.changes) c.in_ok-spot.ensures.still) (paths_becomes c.args.p.now _ _ _ _ c.in_ok-ready.ensures.sound.paths c.text-text.ensures.path (above_path c.in_ok-above.above _ c.in_ok-above.ensures.path (inr refl)))
 
 pub returns-clause-performs : goal.returns-clause-performs
 unfolding place
 returns-clause-performs g c =
     let made = applied {tells = g.V.View.tells} c.pay.new.self c.change.new.self _ _ _ c.change.result c.change.ensures.ok c.change.ensures.err c.change.ensures.only in
-    then _ c.in_ok-ready.ensures.performs (then _ c.in_ok-spot.ensures.performs (rw (sym c.in_default.ensures) (then _ finish (then _ (rw c.blocks-2.ensures at c.in_ok-pay.ensures.performs) (rw (c.in_ok-copy.ensures, c.in_ok-body.ensures, c.path_above.ensures) at made)))))
+    then _ c.in_ok-ready.ensures.performs (then _ c.in_ok-spot.ensures.performs (rw (sym c.in_default.ensures) (then _ finish (then _ (rw c.blocks-2.ensures at c.in_ok-pay.ensures.performs) (rw (c.in_ok-copy.ensures, c.in_ok-body.ensures, c.in_ok-above.ensures.ok) at made)))))

@@ -19,13 +19,13 @@ unfolding remove
 returns-in_err-kind_below-clause-performs g c = then _ c.in_ok-ready.ensures.performs (rw (sym c.in_ok-above.ensures.ok ∙ c.in-Some.is) (leave _ c.from_residual-in_err-kind_below.ensures.1 c.in_err-kind_below.ensures.performs))
 
 pub take_away-requires-clause-sound : goal.take_away-requires-clause-sound
-take_away-requires-clause-sound g c = (sound_still c.ready.new.self c.kind_below.new.self _ c.in_ok-kind_below.ensures.still c.in_ok-kind_below.ensures.performs.grew c.in_ok-ready.ensures.sound)
+take_away-requires-clause-sound g c = (sound_still c.ready.new.self c.kind_below.new.self _ c.in_ok-kind_below.ensures.still c.in_ok-kind_below.ensures.performs.grows.grew c.in_ok-ready.ensures.sound)
 
 pub take_away-requires-clause-gone : goal.take_away-requires-clause-gone
-take_away-requires-clause-gone g c = file_goes c.kind_below.new.self c.args.p.now (sound_still c.ready.new.self c.kind_below.new.self _ c.in_ok-kind_below.ensures.still c.in_ok-kind_below.ensures.performs.grew c.in_ok-ready.ensures.sound).fits (kind_seen {tells = g.V.View.tells} c.ready.new.self c.kind_below.new.self kind.File c.args.p.now (ap (λ w. w.changes) c.in_ok-kind_below.ensures.still) (rw c.in-File.is at c.in_ok-kind_below.ensures.performs))
+take_away-requires-clause-gone g c = file_goes c.kind_below.new.self c.args.p.now (sound_still c.ready.new.self c.kind_below.new.self _ c.in_ok-kind_below.ensures.still c.in_ok-kind_below.ensures.performs.grows.grew c.in_ok-ready.ensures.sound).fits (kind_seen {tells = g.V.View.tells} c.ready.new.self c.kind_below.new.self kind.File c.args.p.now (ap (λ w. w.changes) c.in_ok-kind_below.ensures.still) (rw c.in-File.is at c.in_ok-kind_below.ensures.performs))
 
 pub remove_dir-requires-clause-sound : goal.remove_dir-requires-clause-sound
-remove_dir-requires-clause-sound g c = (sound_still c.ready.new.self c.kind_below.new.self _ c.in_ok-kind_below.ensures.still c.in_ok-kind_below.ensures.performs.grew c.in_ok-ready.ensures.sound)
+remove_dir-requires-clause-sound g c = (sound_still c.ready.new.self c.kind_below.new.self _ c.in_ok-kind_below.ensures.still c.in_ok-kind_below.ensures.performs.grows.grew c.in_ok-ready.ensures.sound)
 
 pub remove_dir-requires-clause-seen : goal.remove_dir-requires-clause-seen
 remove_dir-requires-clause-seen g c = (kind_seen {tells = g.V.View.tells} c.ready.new.self c.kind_below.new.self kind.Dir c.args.p.now (ap (λ w. w.changes) c.in_ok-kind_below.ensures.still) (rw c.in-Dir.is at c.in_ok-kind_below.ensures.performs))

@@ -14,7 +14,7 @@ unfolding remove_dir
 returns-in-Some-clause-performs g c = then _ c.in_ok-names.ensures.performs (rw (sym c.in-Some.ensures) (exit _ refused))
 
 pub take_away-requires-clause-sound : goal.take_away-requires-clause-sound
-take_away-requires-clause-sound g c = sound_still c.args.self.now c.names_below.new.self _ c.in_ok-names.ensures.still c.in_ok-names.ensures.performs.grew c.requires.sound
+take_away-requires-clause-sound g c = sound_still c.args.self.now c.names_below.new.self _ c.in_ok-names.ensures.still c.in_ok-names.ensures.performs.grows.grew c.requires.sound
 
 pub take_away-requires-clause-gone : goal.take_away-requires-clause-gone
 take_away-requires-clause-gone g c = dir_goes c.args.self.now c.names_below.new.self c.args.p.now _ c.requires.sound.fits c.requires.sound.paths c.requires.seen (ap (λ w. w.changes) c.in_ok-names.ensures.still) c.in_ok-names.ensures.performs (sym c.in_default.ensures)

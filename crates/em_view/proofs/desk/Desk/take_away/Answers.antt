@@ -14,7 +14,7 @@ pub change-requires-clause-apart : goal.change-requires-clause-apart
 change-requires-clause-apart g c = rw c.in_ok-copy.ensures (not_above c.args.p.now c.args.above c.requires.parent)
 
 pub change-requires-clause-room : goal.change-requires-clause-room
-change-requires-clause-room g c = room_paid c.args.self.now c.pay.new.self c.requires.sound.room c.in_ok-pay.ensures.ok.0 c.in_ok-pay.ensures.ok.1
+change-requires-clause-room g c = room_paid c.args.self.now c.pay.new.self 0 c.requires.sound.room c.in_ok-pay.ensures.ok.0 c.in_ok-pay.ensures.ok.1
 
 pub change-requires-clause-fits : goal.change-requires-clause-fits
 change-requires-clause-fits g c = rw (c.in_ok-copy.ensures, ap (λ d. d.usage) c.in_ok-pay.ensures.ok.0, ap (λ d. d.work.changes) c.in_ok-pay.ensures.ok.0) (remove_fits c.args.self.now c.args.p.now c.args.above _ c.requires.sound.fits c.requires.parent c.requires.gone)

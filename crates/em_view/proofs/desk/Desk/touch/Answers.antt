@@ -15,13 +15,13 @@ unfolding touch
 returns-in_err-kind_below-clause-performs g c = then _ c.in_ok-ready.ensures.performs (leave _ c.from_residual-in_err-kind_below.ensures.1 c.in_err-kind_below.ensures.performs)
 
 pub touch_dir-requires-clause-sound : goal.touch_dir-requires-clause-sound
-touch_dir-requires-clause-sound g c = (sound_still c.ready.new.self c.kind_below.new.self _ c.in_ok-kind_below.ensures.still c.in_ok-kind_below.ensures.performs.grew c.in_ok-ready.ensures.sound)
+touch_dir-requires-clause-sound g c = (sound_still c.ready.new.self c.kind_below.new.self _ c.in_ok-kind_below.ensures.still c.in_ok-kind_below.ensures.performs.grows.grew c.in_ok-ready.ensures.sound)
 
 pub touch_dir-requires-clause-seen : goal.touch_dir-requires-clause-seen
 touch_dir-requires-clause-seen g c = (kind_seen {tells = g.V.View.tells} c.ready.new.self c.kind_below.new.self kind.Dir c.args.p.now (ap (λ w. w.changes) c.in_ok-kind_below.ensures.still) (rw c.in-Dir.is at c.in_ok-kind_below.ensures.performs))
 
 pub touch_file-requires-clause-sound : goal.touch_file-requires-clause-sound
-touch_file-requires-clause-sound g c = (sound_still c.ready.new.self c.kind_below.new.self _ c.in_ok-kind_below.ensures.still c.in_ok-kind_below.ensures.performs.grew c.in_ok-ready.ensures.sound)
+touch_file-requires-clause-sound g c = (sound_still c.ready.new.self c.kind_below.new.self _ c.in_ok-kind_below.ensures.still c.in_ok-kind_below.ensures.performs.grows.grew c.in_ok-ready.ensures.sound)
 
 pub touch_file-requires-clause-seen : goal.touch_file-requires-clause-seen
 touch_file-requires-clause-seen g c = (kind_seen {tells = g.V.View.tells} c.ready.new.self c.kind_below.new.self kind.File c.args.p.now (ap (λ w. w.changes) c.in_ok-kind_below.ensures.still) (rw c.in-File.is at c.in_ok-kind_below.ensures.performs))
