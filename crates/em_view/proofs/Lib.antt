@@ -6,3 +6,5 @@ pub mod OwnNames
 pub mod Fitting
 pub mod Looking
 pub mod Editing
+pub mod Doing
+pub mod Serially

@@ -6,3 +6,6 @@ pub mod Names
 pub mod Rows
 pub mod Held
 pub mod Asking
+pub mod Steps
+pub mod Do
+pub mod Serial

@@ -5,6 +5,7 @@ mod ask;
 mod cost;
 mod desk;
 mod edit;
+mod effect;
 mod names;
 mod no;
 mod read;
@@ -14,6 +15,7 @@ mod write;
 
 pub use cost::blocks;
 pub use desk::Desk;
+pub use effect::Effect;
 pub use no::{DeskNo, FileNo};
 pub use view::{PlainView, ScriptView, View};
 
