@@ -9,3 +9,4 @@ pub mod Asking
 pub mod Steps
 pub mod Do
 pub mod Serial
+pub mod Examples

@@ -22,6 +22,7 @@ use std::test::Fail;
 mod calls;
 mod rows;
 mod scripts;
+mod shapes;
 
 /// Puts a node where there is none.
 fn put(tree: &mut Tree, above: &Path, path: Path, node: Node) -> Result<(), NoMemory>

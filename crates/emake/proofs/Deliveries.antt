@@ -8,7 +8,9 @@ use Rattle.em_tree.specs.declared.state.State.{State}
 use Rattle.em_simple.specs.declared.job.Job.{Job}
 use Rattle.emake.specs.declared.verdict.Verdict.{Verdict}
 use Rattle.emake.specs.Effects.{effect}
-use Rattle.emake.specs.Serial.{Run, after, ends, behind, serial, said}
+use Rattle.em_view.specs.Serial.{SerialRun, after}
+use Rattle.em_view.proofs.Serially.{behind, serial-nil, serial-cons}
+use Rattle.emake.specs.Serial.{ends, serial, said}
 use Rattle.emake.specs.Delivery.{Ending, Says, Delivers, saying, replaced}
 use Rattle.emake.specs.Loops.{IsUnderway}
 
@@ -81,18 +83,15 @@ delivers-stop A a e w x y p =
 -- ---- the serial run
 
 pub serial-none : (base : ℕ) (makefile : List ℕ) (s : State) → serial base makefile [] s ≡ record { outputs = []; state = s; early = false }
-unfolding serial
-serial-none base makefile s = refl
+serial-none base makefile s = serial-nil (effect base makefile) (λ j. ends) s
 
 pub serial-end : (base : ℕ) (makefile : List ℕ) (j : Job) (js : List Job) (s : State) → ends (effect base makefile j s).outcome ≡ true
     → serial base makefile (j ∷ js) s ≡ record { outputs = (effect base makefile j s).output ∷ []; state = after (effect base makefile j s) s; early = true }
-unfolding serial
-serial-end base makefile j js s e = rw e refl
+serial-end base makefile j js s e = serial-cons (effect base makefile) s j js (λ j. ends) ∙ rw e refl
 
 pub serial-on : (base : ℕ) (makefile : List ℕ) (j : Job) (js : List Job) (s : State) → ends (effect base makefile j s).outcome ≡ false
     → serial base makefile (j ∷ js) s ≡ behind (effect base makefile j s).output (serial base makefile js (after (effect base makefile j s) s))
-unfolding serial
-serial-on base makefile j js s e = rw e refl
+serial-on base makefile j js s e = serial-cons (effect base makefile) s j js (λ j. ends) ∙ rw e refl
 
 pub says-ok : {A B : Type 0} (a b : List ℕ) (u : A) (v : B) (x y : Outside) → a ≡ b → Says a (Ok u) x y → Says b (Ok v) x y
 says-ok a b u v x y same p = record { files = p.files; whole = subst (λ t. y.printed ≡ x.printed ++ t) same p.whole; front = tt; last = λ e. absurd (cc) }
@@ -113,11 +112,11 @@ serial-said base makefile j js s =
       | false ↦ λ e. (said (serial base makefile js (after (effect base makefile j s) s)), ap said (serial-on base makefile j js s e))
     ] refl
 
-pub underway-none : {A : Type 0} (base : ℕ) (makefile : List ℕ) (s : State) (whole : Run) (a b : Option Outside) (u : A) → IsUnderway whole (serial base makefile [] s) a b → Tells (Says (said whole) (Ok u)) a b
+pub underway-none : {A : Type 0} (base : ℕ) (makefile : List ℕ) (s : State) (whole : SerialRun) (a b : Option Outside) (u : A) → IsUnderway whole (serial base makefile [] s) a b → Tells (Says (said whole) (Ok u)) a b
 underway-none base makefile s whole a b u run =
     Tells-weaken a b (λ x y p. says-ok run.so_far (said whole) tt u x y (sym (append-nil run.so_far) ∙ ap (λ t. run.so_far ++ t) (sym (ap said (serial-none base makefile s))) ∙ run.texts) p) run.printed
 
-pub underway-err : (A B : Type 0) (base : ℕ) (makefile : List ℕ) (j : Job) (js : List Job) (s : State) (whole : Run) (a b c : Option Outside) (e : HostNo)
+pub underway-err : (A B : Type 0) (base : ℕ) (makefile : List ℕ) (j : Job) (js : List Job) (s : State) (whole : SerialRun) (a b c : Option Outside) (e : HostNo)
     → IsUnderway whole (serial base makefile (j ∷ js) s) a b → Tells (Says {A = A} (effect base makefile j s).output (Err e)) b c → Tells (Says {A = B} (said whole) (Err e)) a c
 underway-err A B base makefile j js s whole a b c e run told =
     let first = serial-said base makefile j js s in
@@ -127,7 +126,7 @@ underway-err A B base makefile j js s whole a b c e run told =
     (says-stop A B _ first.0 e x z (says-then run.so_far _ tt (Err e) x y z p q)))
     run.printed told
 
-pub underway-end : {A : Type 0} (base : ℕ) (makefile : List ℕ) (j : Job) (js : List Job) (s : State) (whole : Run) (a b c : Option Outside) (u : A) → ends (effect base makefile j s).outcome ≡ true
+pub underway-end : {A : Type 0} (base : ℕ) (makefile : List ℕ) (j : Job) (js : List Job) (s : State) (whole : SerialRun) (a b c : Option Outside) (u : A) → ends (effect base makefile j s).outcome ≡ true
     → IsUnderway whole (serial base makefile (j ∷ js) s) a b → Tells (Says (effect base makefile j s).output (Ok u)) b c → Tells (Says (said whole) (Ok u)) a c
 underway-end base makefile j js s whole a b c u ended run told =
     Tells-then a b c
@@ -136,7 +135,7 @@ underway-end base makefile j js s whole a b c u ended run told =
     (says-then run.so_far _ tt (Ok u) x y z p q))
     run.printed told
 
-pub underway-on : {A : Type 0} (base : ℕ) (makefile : List ℕ) (j : Job) (js : List Job) (s : State) (whole : Run) (a b c : Option Outside) (u : A) → ends (effect base makefile j s).outcome ≡ false
+pub underway-on : {A : Type 0} (base : ℕ) (makefile : List ℕ) (j : Job) (js : List Job) (s : State) (whole : SerialRun) (a b c : Option Outside) (u : A) → ends (effect base makefile j s).outcome ≡ false
     → IsUnderway whole (serial base makefile (j ∷ js) s) a b → Tells (Says (effect base makefile j s).output (Ok u)) b c → IsUnderway whole (serial base makefile js (after (effect base makefile j s) s)) a c
 underway-on base makefile j js s whole a b c u goes run told =
     let step = serial-on base makefile j js s goes in
@@ -144,15 +143,6 @@ underway-on base makefile j js s whole a b c u goes run told =
       so_far = run.so_far ++ (effect base makefile j s).output;
       printed = Tells-then a b c (λ x y z p q. says-ok _ _ u tt x z refl (says-then run.so_far _ tt (Ok u) x y z p q)) run.printed told;
       texts = append_assoc run.so_far _ _ ∙ ap (λ t. run.so_far ++ t) (sym (ap said step)) ∙ run.texts;
-      state = sym (ap (λ (r : Run). r.state) step) ∙ run.state;
-      early = sym (ap (λ (r : Run). r.early) step) ∙ run.early;
+      state = sym (ap (λ (r : SerialRun). r.state) step) ∙ run.state;
+      early = sym (ap (λ (r : SerialRun). r.early) step) ∙ run.early;
     }
-
-pub left_at : {X : Type 0} (js : List X) (i : ℕ) (j : X) → i < length js → j ≡ get_or js i j → drop i js ≡ j ∷ drop (i + 1) js
-left_at js i j lt is = rw (add-one, drop-cons js i j lt) (ap (λ x. x ∷ drop (suc i) js) (sym is))
-
-pub none_at : {X : Type 0} (js : List X) (i : ℕ) → length js ≤ i → drop i js ≡ []
-none_at [] zero le = refl
-none_at [] (suc i) le = refl
-none_at (j ∷ js) zero le = absurd (omega arith)
-none_at (j ∷ js) (suc i) le = none_at js i (omega arith)

@@ -21,7 +21,8 @@ use Rattle.em_tree.specs.declared.outcome.Outcome.{Outcome}
 use Rattle.em_tree.specs.declared.state.State.{State}
 use Rattle.em_simple.specs.declared.job.Job.{Job}
 use Rattle.emake.specs.declared.verdict.Verdict.{Verdict}
-use Rattle.emake.specs.Serial.{Run, serial, said}
+use Rattle.em_view.specs.Serial.{SerialRun}
+use Rattle.emake.specs.Serial.{serial, said}
 use Rattle.emake.specs.Endings.{finished, closed, built, over, ended, refused}
 use Rattle.emake.specs.Words.{order_of}
 use Rattle.emake.specs.Messages.{bad_words}
@@ -115,7 +116,7 @@ pub built-then : {A : Type 0} (image : List ℕ) (t : Table) (makefile : List �
 built-then image t makefile jobs base outcomes u early s r x y z same none state ends p q =
     let run = serial base makefile jobs (record { tree = t; outcomes = outcomes }) in
     let whole : run ≡ serial (base_of t) makefile jobs (start_of t) = ap (λ o. serial base makefile jobs (record { tree = t; outcomes = o })) none ∙ ap (λ b. serial b makefile jobs (start_of t)) same in
-    subst (λ (v : Run). Delivers (closed image jobs v) r x z) whole
+    subst (λ (v : SerialRun). Delivers (closed image jobs v) r x z) whole
     (delivers-behind (said run) _ u r x y z p
     (subst (λ (w : State). Delivers (finished image jobs run.early w (writing limits w.tree)) r y z) state
     (subst (λ b. Delivers (finished image jobs b s (writing limits s.tree)) r y z) ends q)))

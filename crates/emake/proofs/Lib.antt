@@ -1,4 +1,3 @@
 pub mod NameLemmas
 pub mod Deliveries
 pub mod Ends
-pub mod Running

@@ -9,17 +9,16 @@ use Rattle.std.specs.FinMap.{get, empty}
 use Rattle.em_tree.specs.Trees.{stamp_of}
 use Rattle.em_tree.specs.declared.outcome.Outcome.{Outcome}
 use Rattle.em_tree.specs.declared.outcome.Outcome.TheVariants.{Upto, Counted, Made, Failed, NoRule, Skipped, Spent}
-use Rattle.em_tree.specs.Answers.{answer}
 use Rattle.em_tree.specs.declared.state.State.{State}
 use Rattle.em_simple.specs.declared.line.Echo.{Echo}
 use Rattle.em_simple.specs.declared.makefile.RecipeLine.{RecipeLine}
 use Rattle.em_simple.specs.declared.job.Job.{Job}
-use Rattle.emake.specs.declared.effect.Effect.{Effect}
+use Rattle.em_view.specs.declared.effect.Effect.{Effect}
 use Rattle.emake.specs.declared.effect.Said.{Said}
 use Rattle.em_view.specs.declared.no.FileNo.{FileNo}
 use Rattle.em_view.specs.declared.no.DeskNo.{DeskNo}
 use Rattle.em_view.specs.declared.no.DeskNo.TheVariants as no
-use Rattle.em_view.specs.Actions.{Workspace, Action, ◌>>=◌, done, fail, attempt, spend}
+use Rattle.em_view.specs.Actions.{Workspace, Action, snapshot, ◌>>=◌, done, fail, attempt, spend}
 use Rattle.em_view.specs.Rows.{blocks, put, content}
 use Rattle.emake.specs.Messages.{newline, no_rule, redirection_fault, failed_line, spent_line}
 
@@ -27,8 +26,8 @@ use Rattle.emake.specs.Messages.{newline, no_rule, redirection_fault, failed_lin
 abbrev pub path_of : List ℕ → List ℕ
 path_of name = 47 ∷ name
 
-abbrev pub stamp_at : State → List ℕ → Option ℕ
-stamp_at s name = stamp_of (get s.tree (path_of name))
+abbrev pub stamp_on : State → List ℕ → Option ℕ
+stamp_on s name = stamp_of (get s.tree (path_of name))
 
 abbrev pub is_counted : Option Outcome → Bool
 is_counted (Some Counted) = true
@@ -52,15 +51,15 @@ makes_due target None o = true
 makes_due target (Some m) o = is_counted o || is_newer m target
 
 abbrev pub is_due : Job → State → Bool
-is_due j s = is_none (stamp_at s j.target)
-    || list_any (λ n. makes_due (stamp_at s j.target) (stamp_at s n.name) (slice_get s.outcomes n.job)) j.needs
+is_due j s = is_none (stamp_on s j.target)
+    || list_any (λ n. makes_due (stamp_on s j.target) (stamp_on s n.name) (slice_get s.outcomes n.job)) j.needs
 
 abbrev pub is_blocked : Job → State → Bool
 is_blocked j s = list_any (λ n. not (is_good (slice_get s.outcomes n.job))) j.needs
 
 abbrev pub decided : Job → State → Option Outcome
 decided j s = if is_blocked j s then Some Skipped
-    else if not j.ruled then Some (if is_none (stamp_at s j.target) then NoRule else Upto)
+    else if not j.ruled then Some (if is_none (stamp_on s j.target) then NoRule else Upto)
     else if length j.recipe == 0 then Some (if is_due j s then Counted else Upto)
     else if is_due j s then None else Some Upto
 
@@ -157,7 +156,7 @@ effect_of (Err e) w = record { changes = w.changes; output = []; outcome = Spent
 
 -- the recipe is run by asking the state
 abbrev pub recipe : ℕ → List ℕ → Job → State → Effect
-recipe base makefile j s = effect_of (run_lines makefile j [] j.recipe (answer s) (fresh base j.number)).0 (run_lines makefile j [] j.recipe (answer s) (fresh base j.number)).1
+recipe base makefile j s = effect_of (run_lines makefile j [] j.recipe (snapshot s) (fresh base j.number)).0 (run_lines makefile j [] j.recipe (snapshot s) (fresh base j.number)).1
 
 -- what a job says that ends so without its recipe
 abbrev pub told : Job → Outcome → List ℕ

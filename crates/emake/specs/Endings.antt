@@ -19,7 +19,8 @@ use Rattle.em_simple.specs.Reading.{read_makefile}
 use Rattle.em_simple.specs.Plan.{serial_order}
 use Rattle.em_simple.specs.Jobs.{jobs_of}
 use Rattle.emake.specs.Effects.{path_of}
-use Rattle.emake.specs.Serial.{Run, serial, said}
+use Rattle.em_view.specs.Serial.{SerialRun}
+use Rattle.emake.specs.Serial.{serial, said}
 use Rattle.emake.specs.declared.verdict.Verdict.TheVariants.{Faulty}
 use Rattle.emake.specs.Closing.{closing, status_of}
 use Rattle.emake.specs.Delivery.{Ending, saying}
@@ -69,7 +70,7 @@ finished image jobs early s (Ok text) = record { printed = closing jobs early s.
 finished image jobs early s (Err e) = record { printed = closing jobs early s.outcomes ++ image_line e; image = None; status = status_of true s.outcomes }
 
 -- a run, and how it is finished
-abbrev pub closed : List ℕ → List Job → Run → Ending
+abbrev pub closed : List ℕ → List Job → SerialRun → Ending
 closed image jobs run = saying (said run) (finished image jobs run.early run.state (writing limits run.state.tree))
 
 -- the serial run of the jobs on the tree

@@ -4,12 +4,12 @@ ghost use Rattle.em_tree.specs.Trees.{IsTree, laid_over};
 ghost use Rattle.emake.specs.Effects.{effect, told};
 
 use crate::decide::decided;
-use crate::effect::Effect;
 use crate::messages::no_rule;
 use crate::run::run_recipe;
 use em_base::{NoMemory, Text};
 use em_simple::Job;
 use em_tree::{Delta, Outcome, State};
+use em_view::Effect;
 use std::alloc::Global;
 
 /// What a job says that ends so without its recipe.

@@ -1,6 +1,6 @@
 //! Whether a job's recipe is run, by stamps and outcomes.
 ghost use Rattle.std.specs.Prelude.{◌≡◌, IfOk, option_copied, slice_get};
-ghost use Rattle.emake.specs.Effects.{stamp_at, is_counted, is_good, is_newer, makes_due, is_due, is_blocked, decided};
+ghost use Rattle.emake.specs.Effects.{stamp_on, is_counted, is_good, is_newer, makes_due, is_due, is_blocked, decided};
 
 use crate::paths::path_of;
 use em_base::NoMemory;
@@ -8,8 +8,8 @@ use em_simple::{Job, Name, Need};
 use em_tree::{Outcome, State};
 use std::alloc::Global;
 
-fn stamp_at(alloc: Global, state: &State, name: &Name) -> Result<Option<u64>, NoMemory>
-    ensures { IfOk result (λ stamp. stamp ≡ stamp_at state.now name.now) }
+fn stamp_on(alloc: Global, state: &State, name: &Name) -> Result<Option<u64>, NoMemory>
+    ensures { IfOk result (λ stamp. stamp ≡ stamp_on state.now name.now) }
 {
     Ok(state.tree.stamp(&path_of(alloc, name)?))
 }
@@ -60,14 +60,14 @@ fn outcome_of<'a>(state: &'a State, need: &Need) -> Option<&'a Outcome>
 fn is_due(alloc: Global, job: &Job, state: &State) -> Result<bool, NoMemory>
     ensures { IfOk result (λ due. due ≡ is_due job.now state.now) }
 {
-    let target = stamp_at(alloc, state, &job.target)?;
+    let target = stamp_on(alloc, state, &job.target)?;
     if target.is_none() {
         return Ok(true);
     }
     for need in job.needs.items() {
         if makes_due(
             target,
-            stamp_at(alloc, state, &need.name)?,
+            stamp_on(alloc, state, &need.name)?,
             outcome_of(state, need),
         ) {
             return Ok(true);
@@ -95,7 +95,7 @@ pub fn decided(alloc: Global, job: &Job, state: &State) -> Result<Option<Outcome
         return Ok(Some(Outcome::Skipped));
     }
     if !job.ruled {
-        let stamp = stamp_at(alloc, state, &job.target)?;
+        let stamp = stamp_on(alloc, state, &job.target)?;
         return Ok(Some(if stamp.is_none() {
             Outcome::NoRule
         } else {

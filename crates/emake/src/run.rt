@@ -2,19 +2,17 @@
 ghost use Rattle.std.specs.Prelude.{◌≡◌, ◌≤◌, ◌^◌, ◌++◌, [], IfOk, IfErr, OnOk, option_copied, option_map};
 ghost use Rattle.em_tree.specs.Trees.{IsTree, laid_over};
 ghost use Rattle.em_view.specs.declared.no.DeskNo.TheVariants as no;
-ghost use Rattle.em_view.specs.Actions.{spend};
-ghost use Rattle.em_view.specs.Performs.{Performs};
-ghost use Rattle.em_view.specs.Rows.{is_memory};
+ghost use Rattle.em_view.specs.Rows.{Acts};
 ghost use Rattle.emake.specs.Effects.{spaced, command_text, written, path_of, opened, append, appended, run_command, echoed, shown, made, failed, spent, run_lines, recipe};
 
-use crate::effect::{Effect, Said};
+use crate::effect::Said;
 use crate::messages::{failed_line, redirection_fault, spent_line};
 use crate::paths::path_of;
 use em_base::{Fuel, NoMemory, Text};
 use em_path::Path;
 use em_simple::{Echo, Job, Name, RecipeLine};
 use em_tree::{Outcome, State};
-use em_view::{Desk, DeskNo, FileNo, PlainView, View, blocks};
+use em_view::{Desk, DeskNo, Effect, FileNo, PlainView, View, blocks};
 use std::alloc::Global;
 
 /// The units that a job may use.
@@ -57,16 +55,9 @@ fn written(alloc: Global, line: &Echo) -> Result<Text, NoMemory>
     Ok(text)
 }
 
-/// Takes n units, or is spent.
-fn pay<V: View>(desk: &mut Desk<V>, n: u64) -> Result<(), DeskNo>
-    ensures { Performs is_memory V.tells desk.old desk.new result (spend n) }
-{
-    Ok(desk.spend(n)?)
-}
-
 /// Empties the file that a redirection names.
 fn open<V: View>(desk: &mut Desk<V>, to: Option<&Path>) -> Result<(), DeskNo>
-    ensures { Performs is_memory V.tells desk.old desk.new result (opened (option_copied to.entry)) }
+    ensures { Acts V.tells desk.old desk.new result (opened (option_copied to.entry)) }
 {
     match to {
         None => Ok(()),
@@ -89,7 +80,7 @@ fn append<V: View>(
     path: &Path,
     text: &[u8],
 ) -> Result<(), DeskNo>
-    ensures { Performs is_memory V.tells desk.old desk.new result (append path.now text.now) }
+    ensures { Acts V.tells desk.old desk.new result (append path.now text.now) }
 {
     let Some(body) = desk.content(path)? else {
         return Ok(());
@@ -105,7 +96,7 @@ fn close<V: View>(
     to: Option<&Path>,
     text: &[u8],
 ) -> Result<(), DeskNo>
-    ensures { Performs is_memory V.tells desk.old desk.new result (appended text.now (option_copied to.entry)) }
+    ensures { Acts V.tells desk.old desk.new result (appended text.now (option_copied to.entry)) }
 {
     match to {
         None => Ok(()),
@@ -120,11 +111,11 @@ fn run_command<V: View>(
     to: Option<&Path>,
     text: &[u8],
 ) -> Result<(), DeskNo>
-    ensures { Performs is_memory V.tells desk.old desk.new result (run_command (option_copied to.entry) text.now) }
+    ensures { Acts V.tells desk.old desk.new result (run_command (option_copied to.entry) text.now) }
 {
-    pay(desk, 1)?;
+    desk.take(1)?;
     open(desk, to)?;
-    pay(desk, blocks(text.len() as u64))?;
+    desk.take(blocks(text.len() as u64))?;
     close(alloc, desk, to, text)
 }
 
@@ -140,7 +131,7 @@ fn target(alloc: Global, to: Option<&Name>) -> Result<Option<Path>, NoMemory>
 
 /// Runs the command of a line.
 fn run_line<V: View>(alloc: Global, desk: &mut Desk<V>, line: &Echo) -> Result<(), DeskNo>
-    ensures { Performs is_memory V.tells desk.old desk.new result (run_command (option_map path_of line.now.to) (written line.now)) }
+    ensures { Acts V.tells desk.old desk.new result (run_command (option_map path_of line.now.to) (written line.now)) }
 {
     let to = target(alloc, line.to.as_ref())?;
     let text = written(alloc, line)?;
@@ -225,7 +216,7 @@ fn run_lines<V: View>(
     job: &Job,
     lines: &[RecipeLine],
 ) -> Result<Said, DeskNo>
-    ensures { Performs is_memory V.tells desk.old desk.new result (run_lines makefile.now job.now [] lines.now) }
+    ensures { Acts V.tells desk.old desk.new result (run_lines makefile.now job.now [] lines.now) }
 {
     let mut output = Text::new(alloc);
     for line in lines {

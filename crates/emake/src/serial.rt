@@ -8,12 +8,12 @@ ghost use Rattle.emake.specs.Turns.{turn_of};
 ghost use Rattle.emake.specs.Delivery.{Says};
 
 use crate::commit::{committed, effect};
-use crate::effect::Effect;
 use crate::say::say;
 use em_base::{NoMemory, Text};
 use em_host::{Host, HostNo};
 use em_simple::Job;
 use em_tree::{Outcome, State};
+use em_view::Effect;
 use std::alloc::Global;
 
 /// The state that jobs left, and whether the run ended before the last one.

@@ -1,7 +1,5 @@
 use Rattle.std.proofs.Common.{refl}
-use Rattle.em_view.proofs.Performing.{more, end, then, finish, tried, lost, ran_out}
-use Rattle.emake.proofs.Deliveries.{left_at, none_at}
-use Rattle.emake.proofs.Running.{answered}
+use Rattle.em_view.proofs.Performing.{left_at, none_at, answered, more, end, then, finish, tried, lost, ran_out}
 use Rattle.emake.proofs.run.run_lines.Goals as goal
 
 pub loop-line-init : goal.loop-line-init
@@ -30,14 +28,14 @@ returns-in-Spent g c =
     let left = left_at c.args.lines.now c.loop-line.line-index c.line-item.result c.loop-line-test.true c.line-item.is in
     let inv = rw left at c.loop-line.invariant in
     let spent = rw c.in-Spent.is at c.in-Err.ensures in
-    end inv (then _ (tried refl spent) (answered c.spent.result _ (rw c.in_ok-echo.ensures.ok at c.spent.ensures.ok) c.spent.ensures.only))
+    end inv (then _ (tried refl spent) (answered _ refl c.spent.result _ (rw c.in_ok-echo.ensures.ok at c.spent.ensures.ok) c.spent.ensures.only))
 
 pub returns-in-File : goal.returns-in-File
 returns-in-File g c =
     let left = left_at c.args.lines.now c.loop-line.line-index c.line-item.result c.loop-line-test.true c.line-item.is in
     let inv = rw left at c.loop-line.invariant in
     let failed = rw c.in-File.is at c.in-Err.ensures in
-    end inv (then _ (tried refl failed) (answered c.failed.result _ (rw c.in_ok-echo.ensures.ok at c.failed.ensures.ok) c.failed.ensures.only))
+    end inv (then _ (tried refl failed) (answered _ refl c.failed.result _ (rw c.in_ok-echo.ensures.ok at c.failed.ensures.ok) c.failed.ensures.only))
 
 pub returns : goal.returns
 returns g c =
