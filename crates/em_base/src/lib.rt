@@ -1,6 +1,7 @@
 //! What every other crate speaks of: byte texts, places in a file, fuel, and want of memory.
 #![tactic(auto)]
 
+mod blanks;
 mod construct;
 mod fuel;
 pub mod laws;
@@ -10,6 +11,7 @@ mod place;
 mod seq;
 mod text;
 
+pub use blanks::{is_blank, trim, trim_end, trim_start};
 pub use construct::Construct;
 pub use fuel::{Fuel, Spent};
 pub use memory::NoMemory;
