@@ -10,6 +10,7 @@ mod numbers;
 mod place;
 mod seq;
 mod text;
+mod try_clone;
 
 pub use blanks::{is_blank, trim, trim_end, trim_start};
 pub use construct::Construct;
@@ -19,6 +20,7 @@ pub use numbers::number;
 pub use place::{Place, Span};
 pub use seq::Seq;
 pub use text::Text;
+pub use try_clone::TryClone;
 
 #[cfg(test)]
 mod tests;
