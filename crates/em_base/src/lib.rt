@@ -9,6 +9,8 @@ mod memory;
 mod numbers;
 mod place;
 mod seq;
+mod stack;
+mod table;
 mod text;
 mod try_clone;
 
@@ -19,6 +21,8 @@ pub use memory::NoMemory;
 pub use numbers::number;
 pub use place::{Place, Span};
 pub use seq::Seq;
+pub use stack::Stack;
+pub use table::Table;
 pub use text::Text;
 pub use try_clone::TryClone;
 
