@@ -1,2 +1,5 @@
-pub mod Maps
+pub mod Lemmas
+mod Lists
+mod Maps
 mod Numerals
+mod Orders
