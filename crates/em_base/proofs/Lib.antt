@@ -3,3 +3,4 @@ mod Lists
 mod Maps
 mod Numerals
 mod Orders
+mod Trimming
