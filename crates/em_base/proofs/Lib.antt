@@ -1,1 +1,6 @@
+pub mod Lemmas
+mod Lists
+mod Maps
 mod Numerals
+mod Orders
+mod Trimming
