@@ -1,10 +1,11 @@
 //! What can be asked, and what is answered.
-ghost use Rattle.std.specs.Prelude.{◌≡◌, IfOk};
+ghost use Rattle.std.specs.Prelude.{◌≡◌, IfOk, OnErr, IsTrue};
+ghost use Rattle.em_tree.specs.Answers.{holds_memory};
 
 use crate::names::NameList;
 use crate::node::{Body, Kind};
 use crate::outcome::Outcome;
-use em_base::NoMemory;
+use em_base::{NoMemory, TryClone};
 use em_path::Path;
 use std::alloc::Global;
 
@@ -60,9 +61,10 @@ pub struct Entry {
 }
 
 impl Answer {
-    /// An equal answer.
+    /// An equal answer. One that holds no memory always comes.
     pub fn copy(&self, alloc: Global) -> Result<Answer, NoMemory>
-        ensures { IfOk result (λ a. a ≡ self.now) }
+        ensures ok { IfOk result (λ a. a ≡ self.now) }
+        ensures err { OnErr result (IsTrue (holds_memory self.now)) }
     {
         Ok(match self {
             Answer::Kind(kind) => Answer::Kind(*kind),
@@ -86,5 +88,23 @@ impl Entry {
             question: self.question.copy()?,
             answer: self.answer.copy(alloc)?,
         })
+    }
+}
+
+impl TryClone for Question {
+    fn try_clone(&self, _alloc: Global) -> Result<Question, NoMemory> {
+        self.copy()
+    }
+}
+
+impl TryClone for Answer {
+    fn try_clone(&self, alloc: Global) -> Result<Answer, NoMemory> {
+        self.copy(alloc)
+    }
+}
+
+impl TryClone for Entry {
+    fn try_clone(&self, alloc: Global) -> Result<Entry, NoMemory> {
+        self.copy(alloc)
     }
 }
