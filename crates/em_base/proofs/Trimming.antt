@@ -1,5 +1,5 @@
 -- What is trimmed is blanks, and what is left neither begins nor ends with one.
-use Rattle.std.proofs.Common.{◌≡◌, ℕ, ◌+◌, ◌-◌, ◌<◌, ◌≤◌, Bool, true, false, List, ◌++◌, length, take, drop, get_or, reverse, All, arith, sym, ap, subst, ◌∙◌, length-drop, get_or-drop}
+use Rattle.std.proofs.Common.{◌≡◌, ℕ, ◌+◌, ◌-◌, ◌<◌, Bool, true, false, List, ◌++◌, length, take, drop, get_or, reverse, All, arith, sym, ap, ◌∙◌, length-drop, get_or-drop}
 use Rattle.std.specs.List.{prefix_len, suffix_len}
 use Rattle.std.proofs.lemmas.List.{take-append-drop, get_or-take, length-take-le, length-reverse, get_or-reverse}
 use Rattle.std.proofs.lemmas.List.Elements.{All-from_get_or}
