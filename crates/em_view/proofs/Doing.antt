@@ -58,39 +58,47 @@ module _ {V S E : Type 0} {free : E → Bool} {tells : V → Told} where
 module _ {V S D E A : Type 0} {low : D → Bool} {free : E → Bool} {tells : V → Told} {old new : DeskState V} {s : S} {m : Action D A} (f : D → E) where
   pub below_ok : {a : A} → Performs low tells old new (Ok a) m → Does free tells old new s s (Ok a) (below f m)
   unfolding below
-  below_ok {a} p = record { performs = record {
-    grows = p.grows;
-    plain = λ h o all. ap (λ (z : Result A D × Workspace). let x : Result (A × S) (E × S) × Workspace = (with_state (renamed f z.0) s, z.1) in x) (p.plain refl o all);
-  } }
+  below_ok {a} p = record {
+    performs = record {
+      grows = p.grows;
+      plain = λ h o all. ap (λ (z : Result A D × Workspace). let x : Result (A × S) (E × S) × Workspace = (with_state (renamed f z.0) s, z.1) in x) (p.plain refl o all);
+    };
+  }
 
   pub below_err : {e : D} {g : E} → ((x : D) → free (f x) ≡ low x) → (free g ≡ false → g ≡ f e) → Performs low tells old new (Err e) m → Does free tells old new s s (Err g) (below f m)
   unfolding below
   below_err {e} {g} same is p =
       let given : free g ≡ false → low e ≡ false = λ h. sym (same e) ∙ ap free (sym (is h)) ∙ h in
-      record { performs = record {
-        grows = p.grows;
-        plain = λ h o all. ap (λ (z : Result A D × Workspace). let x : Result (A × S) (E × S) × Workspace = (with_state (renamed f z.0) s, z.1) in x) (p.plain (given h) o all)
-            ∙ ap (λ (y : E). let x : Result (A × S) (E × S) × Workspace = (Err (y, s), new.work) in x) (sym (is h));
-      } }
+      record {
+        performs = record {
+          grows = p.grows;
+          plain = λ h o all. ap (λ (z : Result A D × Workspace). let x : Result (A × S) (E × S) × Workspace = (with_state (renamed f z.0) s, z.1) in x) (p.plain (given h) o all)
+              ∙ ap (λ (y : E). let x : Result (A × S) (E × S) × Workspace = (Err (y, s), new.work) in x) (sym (is h));
+        };
+      }
 
 module _ {V S T D E A : Type 0} {low : D → Bool} {free : E → Bool} {tells : V → Told} {old new : DeskState V} (get : S → T) (put : S → T → S) (f : D → E) (m : Steps T D A) (s : S) {t : T} where
   pub within_ok : {a : A} → Does low tells old new (get s) t (Ok a) m → Does free tells old new s (put s t) (Ok a) (within get put f m)
   unfolding within
-  within_ok {a} q = let p = q.performs in record { performs = record {
-    grows = p.grows;
-    plain = λ h o all. ap (λ (z : Result (A × T) (D × T) × Workspace). let x : Result (A × S) (E × S) × Workspace = (with_part put f s z.0, z.1) in x) (p.plain refl o all);
-  } }
+  within_ok {a} q = let p = q.performs in record {
+    performs = record {
+      grows = p.grows;
+      plain = λ h o all. ap (λ (z : Result (A × T) (D × T) × Workspace). let x : Result (A × S) (E × S) × Workspace = (with_part put f s z.0, z.1) in x) (p.plain refl o all);
+    };
+  }
 
   pub within_err : {e : D} {g : E} → ((x : D) → free (f x) ≡ low x) → (free g ≡ false → g ≡ f e) → Does low tells old new (get s) t (Err e) m → Does free tells old new s (put s t) (Err g) (within get put f m)
   unfolding within
   within_err {e} {g} same is q =
       let p = q.performs in
       let given : free g ≡ false → low e ≡ false = λ h. sym (same e) ∙ ap free (sym (is h)) ∙ h in
-      record { performs = record {
-        grows = p.grows;
-        plain = λ h o all. ap (λ (z : Result (A × T) (D × T) × Workspace). let x : Result (A × S) (E × S) × Workspace = (with_part put f s z.0, z.1) in x) (p.plain (given h) o all)
-            ∙ ap (λ (y : E). let x : Result (A × S) (E × S) × Workspace = (Err (y, put s t), new.work) in x) (sym (is h));
-      } }
+      record {
+        performs = record {
+          grows = p.grows;
+          plain = λ h o all. ap (λ (z : Result (A × T) (D × T) × Workspace). let x : Result (A × S) (E × S) × Workspace = (with_part put f s z.0, z.1) in x) (p.plain (given h) o all)
+              ∙ ap (λ (y : E). let x : Result (A × S) (E × S) × Workspace = (Err (y, put s t), new.work) in x) (sym (is h));
+        };
+      }
 
 -- ---- loops
 

@@ -28,7 +28,11 @@ impl<V: View> Desk<V> {
         self.pay(blocks(bytes.len() as u64))?;
         let stamp = self.number();
         let body = Body::from_slice(self.alloc, bytes)?;
-        self.change(p.copy()?, Some(Node::File { body, stamp }), stamped(spot.0, above))
+        self.change(
+            p.copy()?,
+            Some(Node::File { body, stamp }),
+            stamped(spot.0, above),
+        )
     }
 
     /// Puts a file of these bytes and this stamp at a path, as `put` does; the directory above is always stamped.
@@ -45,11 +49,7 @@ impl<V: View> Desk<V> {
         }
         self.pay(blocks(bytes.len() as u64))?;
         let body = Body::from_slice(self.alloc, bytes)?;
-        self.change(
-            p.copy()?,
-            Some(Node::File { body, stamp }),
-            above,
-        )
+        self.change(p.copy()?, Some(Node::File { body, stamp }), above)
     }
 
     /// Makes a directory at a path where nothing is, and stamps the directory above. Refusals, in this order: `Exists`, also
