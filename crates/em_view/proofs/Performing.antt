@@ -4,14 +4,13 @@
 --     pure       the desk is as it was, and the action says so: done, fail, decisions, own changes
 --     act        only the workspace changed
 --     lost       memory ran out: nothing was performed from here on, or in part
---     lifted, lifted_leave      an action of a lower layer, and the `?` by which its error takes its name in this one
+--     lifted, lifted_exit, lifted_leave      an action of a lower layer, its error, and that error at a `?`
 --     tried      an action whose end is looked at
 --     answered   a value that was worked out without the desk
 --     regrouped  three actions one after another, the first two taken together
 --     more, stop, end       the turns of a loop whose invariant is in continuation form
---     left_at, none_at      what is left of a list at a turn, and after the last one
 --     on_state   what the desk of a plain view did is what its state says
-use Rattle.std.proofs.Common.{◌≡◌, ℕ, zero, suc, ◌+◌, ◌≤◌, ◌<◌, Bool, true, false, List, [], ◌∷◌, ◌++◌, length, map, drop, get_or, Option, Some, Result, Ok, Err, refl, sym, ap, subst, ◌∙◌, arith, add-one, drop-cons, append_assoc, append-nil, length-append}
+use Rattle.std.proofs.Common.{◌≡◌, ℕ, suc, ◌+◌, ◌≤◌, Bool, true, false, List, [], ◌∷◌, ◌++◌, length, map, Option, Some, Result, Ok, Err, refl, sym, ap, subst, ◌∙◌, arith, append_assoc, append-nil, length-append}
 use Rattle.std.proofs.lemmas.List.{map-append, length-map}
 use Rattle.std.specs.Prelude.{IsErrAnd, IfOk, IfErr}
 use Rattle.em_tree.specs.declared.question.Question.{Question}
@@ -162,13 +161,15 @@ module _ {V E F A : Type 0} {low : E → Bool} {free : F → Bool} {tells : V �
   unfolding lift
   lifted {a} p = record { grows = p.grows; plain = λ h o all. ap (λ (z : Result A E × Workspace). let r : Result A F × Workspace = (renamed f z.0, z.1) in r) (p.plain refl o all) }
 
-  pub lifted_leave : {B : Type 0} {r : Result B F} {e : E} (k : A → Action F B) → ((x : E) → free (f x) ≡ low x) → IsErrAnd r (λ x. x ≡ f e) → Performs low tells old new (Err e) m → Performs free tells old new r (lift f m >>= k)
+  pub lifted_exit : {e : E} → ((x : E) → free (f x) ≡ low x) → Performs low tells old new (Err e) m → Performs free tells old new (Err (f e)) (lift f m)
   unfolding lift
-  lifted_leave {B} {r} {e} k same is p =
-      let q : Performs free tells old new (Err (f e)) (lift f m) = record {
-        grows = p.grows;
-        plain = λ h o all. ap (λ (z : Result A E × Workspace). let x : Result A F × Workspace = (renamed f z.0, z.1) in x) (p.plain (sym (same e) ∙ h) o all);
-      } in leave k is q
+  lifted_exit {e} same p = record {
+    grows = p.grows;
+    plain = λ h o all. ap (λ (z : Result A E × Workspace). let x : Result A F × Workspace = (renamed f z.0, z.1) in x) (p.plain (sym (same e) ∙ h) o all);
+  }
+
+  pub lifted_leave : {B : Type 0} {r : Result B F} {e : E} (k : A → Action F B) → ((x : E) → free (f x) ≡ low x) → IsErrAnd r (λ x. x ≡ f e) → Performs low tells old new (Err e) m → Performs free tells old new r (lift f m >>= k)
+  lifted_leave k same is p = leave k is (lifted_exit same p)
 
 module _ {V E A : Type 0} {free : E → Bool} {tells : V → Told} {old new : DeskState V} {r : Result A E} {m : Action E A} where
   pub tried : is_free free r ≡ false → Performs free tells old new r m → Performs free tells old new (Ok r) (attempt m)
@@ -193,16 +194,6 @@ module _ {V E A B : Type 0} {free : E → Bool} {tells : V → Told} {first here
 -- the loop has ended, with what follows it
 pub end : {V E B : Type 0} {free : E → Bool} {tells : V → Told} {first here new : DeskState V} {whole rest : Action E B} {r : Result B E} → Continues free tells first here whole rest → Performs free tells here new r rest → Performs free tells first new r whole
 end {new} {r} inv p = inv new r p
-
--- what is left of a list at a turn of a loop over it, and after the last one
-pub left_at : {X : Type 0} (xs : List X) (i : ℕ) (x : X) → i < length xs → x ≡ get_or xs i x → drop i xs ≡ x ∷ drop (i + 1) xs
-left_at xs i x lt is = rw (add-one, drop-cons xs i x lt) (ap (λ y. y ∷ drop (suc i) xs) (sym is))
-
-pub none_at : {X : Type 0} (xs : List X) (i : ℕ) → length xs ≤ i → drop i xs ≡ []
-none_at [] zero le = refl
-none_at [] (suc i) le = refl
-none_at (x ∷ xs) zero le = absurd (omega arith)
-none_at (x ∷ xs) (suc i) le = none_at xs i (omega arith)
 
 -- ---- plain views
 

@@ -1,5 +1,6 @@
 use Rattle.std.proofs.Common.{refl}
-use Rattle.em_view.proofs.Performing.{left_at, none_at, answered, more, end, then, finish, tried, lost, ran_out}
+use Rattle.em_view.proofs.Performing.{answered, more, end, then, finish, tried, lost, ran_out}
+use Rattle.em_base.proofs.Lemmas.{left_at, none_at}
 use Rattle.emake.proofs.run.run_lines.Goals as goal
 
 pub loop-line-init : goal.loop-line-init

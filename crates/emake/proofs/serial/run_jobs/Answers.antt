@@ -3,7 +3,7 @@ use Rattle.std.proofs.lemmas.Result.{err_from_is_err_and}
 use Rattle.emake.specs.declared.serial.Ran.{Ran}
 use Rattle.emake.specs.Effects.{effect}
 use Rattle.em_view.specs.Serial.{SerialRun}
-use Rattle.em_view.proofs.Performing.{left_at, none_at}
+use Rattle.em_base.proofs.Lemmas.{left_at, none_at}
 use Rattle.emake.specs.Serial.{ends, serial}
 use Rattle.emake.specs.Loops.{IsUnderway}
 use Rattle.emake.proofs.Deliveries.{underway-none, underway-err, underway-end, underway-on, serial-none, serial-end}
