@@ -1,7 +1,8 @@
 //! A sequence of values.
-ghost use Rattle.std.specs.Prelude.{◌≡◌, ◌++◌, [], ◌∷◌, length, OnOk, OnErr};
+ghost use Rattle.std.specs.Prelude.{◌≡◌, ◌==◌, ◌++◌, [], ◌∷◌, length, slice_get, option_copied, IfOk, OnOk, OnErr};
 
 use crate::memory::NoMemory;
+use crate::try_clone::TryClone;
 use std::alloc::Global;
 use std::marker::Model;
 
@@ -53,6 +54,40 @@ impl<T> Seq<T> {
     {
         self.held.as_slice()
     }
+
+    /// How many items there are.
+    pub fn len(&self) -> usize
+        ensures { result ≡ length self.now }
+    {
+        self.held.len()
+    }
+
+    /// Whether there is none.
+    pub fn is_empty(&self) -> bool
+        ensures { result ≡ length self.now == 0 }
+    {
+        self.held.is_empty()
+    }
+
+    /// The i-th item, counted from 0; `None` exactly where there is none.
+    pub fn get(&self, i: usize) -> Option<&T>
+        ensures { option_copied result ≡ slice_get self.now i }
+    {
+        self.held.get(i)
+    }
+}
+
+impl<T: TryClone + Drop> Seq<T> {
+    /// An equal sequence.
+    pub fn copy(&self, alloc: Global) -> Result<Seq<T>, NoMemory>
+        ensures { IfOk result (λ c. c ≡ self.now) }
+    {
+        let mut held = Vec::with_capacity(alloc, self.len())?;
+        for item in self.items() {
+            held.push(item.try_clone(alloc)?)?;
+        }
+        Ok(Seq { held })
+    }
 }
 
 impl<T: Drop> Seq<T> {
@@ -75,5 +110,17 @@ impl<T: PartialEq> PartialEq for Seq<T> {
 
     fn eq(&self, other: &Self) -> bool {
         self.items() == other.items()
+    }
+}
+
+impl<T: Eq> Eq for Seq<T> {
+    ghost use Rattle.std.specs.Cmp.Lexicographic.{lists_equiv};
+
+    ghost laws = { lists_equiv T.Eq.laws };
+}
+
+impl<T: TryClone + Drop> TryClone for Seq<T> {
+    fn try_clone(&self, alloc: Global) -> Result<Seq<T>, NoMemory> {
+        self.copy(alloc)
     }
 }

@@ -49,3 +49,16 @@ fn numbers_are_read_in_canonical_decimal(rt: HostRuntime) {
         assert!(rt; number(limit, text) == wanted);
     }
 }
+
+#[test]
+fn blanks_are_trimmed_at_the_two_ends(rt: HostRuntime) {
+    for (text, wanted) in [
+        (b"".as_slice(), b"".as_slice()),
+        (b" \t ", b""),
+        (b" \ta b\t ", b"a b"),
+        (b"\n a \r", b"\n a \r"),
+        (b"a", b"a"),
+    ] {
+        assert!(rt; trim(text) == wanted);
+    }
+}
