@@ -1,2 +1,6 @@
-pub mod Maps
+pub mod Lemmas
+mod Lists
+mod Maps
 mod Numerals
+mod Orders
+mod Trimming

@@ -1,24 +1,29 @@
 -- A `BTreeMap` whose keys have names is seen as a finite map from the names, where its keys are in the order of their names.
 --     seen                the entries under the keys' names
 --     found               what a search for a name finds is what the finite map has
---     entries_are, len_is, entry_at      the finite map has the entries, in their order
+--     entries_are         the finite map has the entries, in their order
 --     put, taken          what `insert` and `remove` leave
-use Rattle.std.proofs.Common.{◌≡◌, ◌≢◌, ℕ, Bool, true, false, cond, ◌&&◌, List, [], ◌∷◌, map, Option, Some, None, refl, sym, ap, subst, ◌∙◌, length, slice_get, option_map, Result, Ok, Err}
-use Rattle.std.specs.Prelude.{T, OnErr}
+--     text_..             these at texts, in byte order
+--     get_put, get_kept, get_new, stays_there, insert_swap, taken_back      one change of a finite map, and two
+--     AllBelow, entries_push, get_above, front_below      a name above all is put at the end
+--     copy_none, copy_more, copy_all      a copy that is made name by name, in order
+use Rattle.std.proofs.Common.{◌≡◌, ◌⊎◌, inl, inr, ◌++◌, ℕ, Bool, true, false, cond, ◌&&◌, List, [], ◌∷◌, map, Option, Some, None, refl, sym, ap, subst, ◌∙◌, length, slice_get, option_map, Result, Ok, Err, append_assoc, arith}
+use Rattle.std.specs.Prelude.{T, OnErr, IsSome, is_some}
 use Rattle.std.specs.declared.cmp.Ordering.{Ordering}
 use Rattle.std.specs.declared.cmp.Ordering.TheVariants.{Less, Equal, Greater}
-use Rattle.std.specs.Ordering.{nat_cmp, is_eq, is_lt, eq_by_cmp}
+use Rattle.std.specs.Ordering.{nat_cmp, is_eq, is_lt, eq_by_cmp, ordering_reverse}
 use Rattle.std.specs.Cmp.Lexicographic.{slice_cmp, nat_list_cmp_total}
-use Rattle.std.specs.Cmp.{IsTotalOrder, eq_by_cmp_equiv}
+use Rattle.std.specs.Cmp.{IsTotalOrder, eq_by_cmp_equiv, tied_itself}
 use Rattle.std.specs.List.{AllByRecursion}
 use Rattle.std.specs.List.Sorted.{IsStrictlySortedBy}
 use Rattle.std.specs.Map.{lookup, keys_of, KeepsOthers}
 use Rattle.std.specs.BTreeMap.{BTreeMap, UpdatesBy}
-use Rattle.std.specs.FinMap.{IsAntisymmetric, get, insert, remove, entries, entries_sorted, from_entries, get-from_entries, get-entries, get-insert, get-remove, get_tied, same_map, find, is_sorted, len, len-entries, slice_cmp-IsAntisymmetric, nat_cmp-IsAntisymmetric}
-use Rattle.std.specs.FinMap.Entries.{below_all, same_entries}
+use Rattle.std.specs.FinMap.{IsAntisymmetric, get, insert, remove, entries, entries_sorted, from_entries, get-from_entries, get-entries, get-insert, get-remove, get_tied, same_map, find, is_sorted, len, len-entries, len-empty, empty, entries-insert, FinMap, slice_cmp-IsAntisymmetric, nat_cmp-IsAntisymmetric}
+use Rattle.std.specs.FinMap.Entries.{below_all, same_entries, put as at_place}
 use Rattle.std.proofs.lemmas.Map.Keys.{sorted_head, sorted_tail}
-use Rattle.std.proofs.lemmas.List.{length-map}
+use Rattle.std.proofs.lemmas.List.{length-map, append-nil}
 use Rattle.std.proofs.lemmas.Option.{slice_get-map}
+use Rattle.em_base.proofs.Lists.{by_cases}
 
 is_equal : (r : Ordering) → is_eq r ≡ true → r ≡ Equal
 is_equal Equal e = refl
@@ -110,6 +115,137 @@ module _ {K X : Type 0} (name : K → List ℕ) where
   pub text_taken : (m n : BTreeMap K X) (k : List ℕ) → UpdatesBy (λ a b. order (name a) (name b)) (λ x. order k (name x)) m n None
       → from_entries {R = order} (seen name n.entries) ≡ remove (from_entries (seen name m.entries)) k
   text_taken = taken name order nat_list_cmp_total exact
+
+pub same_key : (p q : List ℕ) → eq_by_cmp order p q ≡ true → p ≡ q
+same_key p q e = exact p q (is_equal (order p q) e)
+
+pub own_key : (p : List ℕ) → eq_by_cmp order p p ≡ true
+own_key p = ap is_eq (tied_itself nat_list_cmp_total p)
+
+pub flip_keys : (p q : List ℕ) → eq_by_cmp order p q ≡ eq_by_cmp order q p
+flip_keys p q = (eq_by_cmp_equiv nat_list_cmp_total).symm p q
+
+-- ---- one change, and two
+
+module _ {X : Type 0} (t : FinMap order X) (p : List ℕ) (x : X) where
+  pub get_put : (q : List ℕ) → get (insert t p x) q ≡ cond (eq_by_cmp order q p) (Some x) (get t q)
+  get_put q = get-insert nat_list_cmp_total t p x q
+
+  -- what is there stays, where the new name isn't there
+  pub get_kept : (q : List ℕ) → get t p ≡ None → IsSome (get t q) → get (insert t p x) q ≡ get t q
+  get_kept q none some = by_cases (eq_by_cmp order q p) (λ b. eq_by_cmp order q p ≡ b → get (insert t p x) q ≡ get t q)
+      (λ _ is. let same : q ≡ p = same_key q p is in let bad : false ≡ true = rw (same, none) at some in absurd cc)
+      (λ _ isnt. get_put q ∙ ap (λ b. cond b (Some x) (get t q)) isnt) refl
+
+  -- what is there after an insertion is the new name or was there
+  pub get_new : (q : List ℕ) → IsSome (get (insert t p x) q) → (q ≡ p) ⊎ IsSome (get t q)
+  get_new q some = by_cases (eq_by_cmp order q p) (λ b. eq_by_cmp order q p ≡ b → (q ≡ p) ⊎ IsSome (get t q))
+      (λ _ is. inl (same_key q p is))
+      (λ _ isnt. inr (ap is_some (sym (get_put q ∙ ap (λ b. cond b (Some x) (get t q)) isnt)) ∙ some)) refl
+
+  -- what is there stays there where another name is put
+  pub stays_there : (q : List ℕ) → (q ≡ p → ⊥) → is_some (get t q) ≡ true → is_some (get (insert t p x) q) ≡ true
+  stays_there q other there = by_cases (eq_by_cmp order q p) (λ b. eq_by_cmp order q p ≡ b → is_some (get (insert t p x) q) ≡ true)
+      (λ _ is. absurd (other (same_key q p is)))
+      (λ _ isnt. ap is_some (get_put q ∙ ap (λ b. cond b (Some x) (get t q)) isnt) ∙ there) refl
+
+  -- of two names it doesn't matter which is put first
+  pub insert_swap : (q : List ℕ) (y : X) → (p ≡ q → ⊥) → insert (insert t q y) p x ≡ insert (insert t p x) q y
+  insert_swap q y other = same_map nat_list_cmp_total exact _ _ (λ r.
+      get-insert nat_list_cmp_total (insert t q y) p x r ∙ ap (cond (eq_by_cmp order r p) (Some x)) (get-insert nat_list_cmp_total t q y r)
+      ∙ by_case r (eq_by_cmp order r p) (eq_by_cmp order r q) refl refl
+      ∙ sym (get-insert nat_list_cmp_total (insert t p x) q y r ∙ ap (cond (eq_by_cmp order r q) (Some y)) (get_put r)))
+    where
+      by_case : (r : List ℕ) (a b : Bool) → eq_by_cmp order r p ≡ a → eq_by_cmp order r q ≡ b → cond a (Some x) (cond b (Some y) (get t r)) ≡ cond b (Some y) (cond a (Some x) (get t r))
+      by_case r true true e f = absurd (other (sym (same_key r p e) ∙ same_key r q f))
+      by_case r true false e f = refl
+      by_case r false true e f = refl
+      by_case r false false e f = refl
+
+  -- a new name, taken out again
+  pub taken_back : get t p ≡ None → remove (insert t p x) p ≡ t
+  taken_back absent = same_map nat_list_cmp_total exact _ _ (λ q.
+      get-remove nat_list_cmp_total (insert t p x) p q ∙ ap (cond (eq_by_cmp order q p) None) (get_put q)
+      ∙ by_cases (eq_by_cmp order q p) (λ b. eq_by_cmp order q p ≡ b → cond b None (cond b (Some x) (get t q)) ≡ get t q)
+      (λ _ is. sym (ap (get t) (same_key q p is) ∙ absent))
+      (λ _ _. refl) refl)
+
+-- ---- a name above all is put at the end
+
+above : (j k : List ℕ) → order j k ≡ Less → order k j ≡ Greater
+above j k h = nat_list_cmp_total.antisymm k j ∙ ap ordering_reverse h
+
+module _ {X : Type 0} where
+  -- each name is below k
+  abbrev pub AllBelow : List ℕ → List (List ℕ × X) → Type 0
+  AllBelow k [] = Unit {0}
+  AllBelow k (e ∷ es) = (order e.0 k ≡ Less) × AllBelow k es
+
+  pub below_further : (k j : List ℕ) (es : List (List ℕ × X)) → order k j ≡ Less → AllBelow k es → AllBelow j es
+  below_further k j [] lt h = tt
+  below_further k j (e ∷ es) lt h = (nat_list_cmp_total.trans e.0 k j h.0 lt, below_further k j es lt h.1)
+
+  pub below_append : (k : List ℕ) (es fs : List (List ℕ × X)) → AllBelow k es → AllBelow k fs → AllBelow k (es ++ fs)
+  below_append k [] fs h g = g
+  below_append k (e ∷ es) fs h g = (h.0, below_append k es fs h.1 g)
+
+  put_last : (k : List ℕ) (v : X) (es : List (List ℕ × X)) → AllBelow k es → at_place order k v es ≡ es ++ (k, v) ∷ []
+  put_last k v [] h = refl
+  put_last k v (e ∷ es) h = rw (above e.0 k h.0, put_last k v es h.1) refl
+
+  find_above : (k : List ℕ) (es : List (List ℕ × X)) → AllBelow k es → find order k es ≡ None
+  find_above k [] h = refl
+  find_above k (e ∷ es) h = rw (above e.0 k h.0, find_above k es h.1) refl
+
+  pub entries_push : (t : FinMap order X) (k : List ℕ) (v : X) → AllBelow k (entries t) → entries (insert t k v) ≡ entries t ++ (k, v) ∷ []
+  entries_push t k v h = entries-insert nat_list_cmp_total t k v ∙ put_last k v (entries t) h
+
+  pub get_above : (t : FinMap order X) (k : List ℕ) → AllBelow k (entries t) → get t k ≡ None
+  get_above t k h = get-entries t k ∙ find_above k (entries t) h
+
+  -- in a front of entries in order each name is below the next one
+  pub front_below : (es : List (List ℕ × X)) (e : List ℕ × X) (fs : List (List ℕ × X)) → T (is_sorted order (es ++ e ∷ fs)) → AllBelow e.0 es
+  front_below [] e fs h = tt
+  front_below (x ∷ es) e fs h = (next_below x es e fs (first_T _ _ h), front_below es e fs (second_T _ _ h))
+    where
+      first_T : (a b : Bool) → T (a && b) → T a
+      first_T true b h = tt
+      first_T false b h = h
+
+      second_T : (a b : Bool) → T (a && b) → T b
+      second_T true b h = h
+      second_T false b h = absurd h
+
+      is_less : (r : Ordering) → T (is_lt r) → r ≡ Less
+      is_less Less h = refl
+      is_less Equal h = absurd h
+      is_less Greater h = absurd h
+
+      next_below : (x : List ℕ × X) (es : List (List ℕ × X)) (e : List ℕ × X) (fs : List (List ℕ × X)) → T (below_all order x.0 (es ++ e ∷ fs)) → order x.0 e.0 ≡ Less
+      next_below x [] e fs h = is_less _ (first_T _ _ h)
+      next_below x (y ∷ es) e fs h = next_below x es e fs (second_T _ _ h)
+
+  -- ---- a copy that is made name by name
+
+  pub copy_none : (whole copied : FinMap order X) (rest : List (List ℕ × X)) → copied ≡ empty → rest ≡ entries whole → entries copied ++ rest ≡ entries whole
+  copy_none whole copied rest new all = let none : length (entries copied) ≡ 0 = sym (len-entries copied) ∙ ap len new ∙ len-empty order X in rw (no_entries (entries copied) none) all
+    where
+      no_entries : (es : List (List ℕ × X)) → length es ≡ 0 → es ≡ []
+      no_entries [] e = refl
+      no_entries (e ∷ es) h = absurd (omega arith)
+
+  pub copy_more : (whole copied new : FinMap order X) (e : List ℕ × X) (rest : List (List ℕ × X)) (n : List ℕ) (v : X) → entries copied ++ e ∷ rest ≡ entries whole
+      → n ≡ e.0 → v ≡ e.1 → new ≡ insert copied n v → entries new ++ rest ≡ entries whole
+  copy_more whole copied new e rest n v so_far name value set =
+      let sorted : T (is_sorted order (entries copied ++ e ∷ rest)) = subst (λ es. T (is_sorted order es)) (sym so_far) (entries_sorted whole) in
+      let below : AllBelow n (entries copied) = subst (λ k. AllBelow k (entries copied)) (sym name) (front_below (entries copied) e rest sorted) in
+      let entry : (n, v) ≡ e = λ i. (name i, value i) in
+      rw (set, entries_push copied n v below, append_assoc) (ap (λ x. entries copied ++ x ∷ rest) entry ∙ so_far)
+
+  pub copy_all : (whole copied : FinMap order X) (rest : List (List ℕ × X)) → entries copied ++ rest ≡ entries whole → rest ≡ [] → copied ≡ whole
+  copy_all whole copied rest so_far none =
+      let all : entries copied ≡ entries whole = sym (append-nil (entries copied)) ∙ ap (λ es. entries copied ++ es) (sym none) ∙ so_far in
+      same_map nat_list_cmp_total exact copied whole (λ q. get-entries copied q ∙ ap (find order q) all ∙ sym (get-entries whole q))
 
 -- what holds after an error whatever it is
 pub at_err : {T E : Type 0} (r : Result T E) {P : Type 0} → P → OnErr r P

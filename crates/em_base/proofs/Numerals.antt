@@ -1,4 +1,7 @@
 -- Texts of digits, and the numbers that they write.
+--     decimal_first, decimal_digits, decimal_value      what is written of a number is a numeral, of that number
+--     digits_spell        what a numeral's number is written as
+--     number_law          both, of a number up to a limit
 use Rattle.std.proofs.Common.{◌≡◌, ℕ, ◌<◌, ◌≤◌, ◌^◌, ◌&&◌, not, ◌||◌, eqb, leb, Bool, true, false, cond, List, [], ◌∷◌, length, get_or, Some, None, Result, Ok, Err, refl, sym, subst, ap, ◌∙◌, arith, rules, decimal, inl, inr}
 use Rattle.std.specs.Prelude.{◌↔◌, MatchResult}
 use Rattle.std.specs.List.{list_all}
@@ -6,7 +9,7 @@ use Rattle.std.specs.Char.{is_ascii_digit}
 use Rattle.std.specs.Str.{IsUtf8}
 use Rattle.std.specs.Str.Parse.{digits_value, ParsesUnsigned}
 use Rattle.std.specs.Result.{result_ok}
-use Rattle.std.proofs.lemmas.Bool.{le-leb, leb-true, eqb-true, eq-eqb, cases_lt}
+use Rattle.std.proofs.lemmas.Bool.{le-leb, leb-true, eqb-true, eq-eqb, cases_lt, and_parts}
 use Rattle.std.proofs.lemmas.Str.{IsUtf8-from_ascii}
 use Rattle.std.proofs.lemmas.Str.Parse.{IsNumeralModel, numerals_by_value, parse_gives}
 use Rattle.std.proofs.lemmas.Fmt.{IsAscii-from_digits, decimal_digit, decimal_nonempty, first_decimal, digits_decimal, digits_value-decimal, decimal-digits_value}
@@ -17,10 +20,6 @@ AreDigits ds = list_all is_ascii_digit ds ≡ true
 
 own : IsNumeralModel AreDigits (digits_value 10)
 own = numerals_by_value AreDigits (search rules)
-
-and_true : (a b : Bool) → (a && b) ≡ true → (a ≡ true) × (b ≡ true)
-and_true true b e = (refl, e)
-and_true false b e = absurd cc
 
 numeral_first : (ds : List ℕ) → has_no_leading_zero ds ≡ true → (0 < length ds) × (get_or ds 0 0 ≡ 48 → length ds ≡ 1)
 numeral_first [] e = absurd cc
@@ -61,14 +60,21 @@ not_text limit text (Err x) P Q digits m none = absurd (m.0 (digits_are_utf8 tex
 
 -- ---- numbers and their texts
 
-decimal_is_numeral : (n : ℕ) → n < 2 ^ 64 → is_numeral (decimal n) ≡ true
-decimal_is_numeral n small =
-    let first : has_no_leading_zero (decimal n) ≡ true = numeral_from (decimal n) (decimal_nonempty n small) (λ z.
+pub decimal_first : (n : ℕ) → n < 2 ^ 64 → has_no_leading_zero (decimal n) ≡ true
+decimal_first n small = numeral_from (decimal n) (decimal_nonempty n small) (λ z.
     elim (cases_lt 0 n) [
       | inl pos ↦ absurd (omega (arith, z, first_decimal n pos small))
       | inr le ↦ let k : n ≡ 0 = omega arith in rw (k, decimal_digit 0 (omega arith)) refl
-    ]) in
-    rw (first, digits_decimal own n small) refl
+    ])
+
+pub decimal_digits : (n : ℕ) → n < 2 ^ 64 → list_all is_ascii_digit (decimal n) ≡ true
+decimal_digits n small = digits_decimal own n small
+
+pub decimal_value : (n : ℕ) → n < 2 ^ 64 → digits_value 10 (decimal n) ≡ n
+decimal_value n small = digits_value-decimal own n small
+
+pub digits_spell : (text : List ℕ) → has_no_leading_zero text ≡ true → list_all is_ascii_digit text ≡ true → digits_value 10 text < 2 ^ 64 → decimal (digits_value 10 text) ≡ text
+digits_spell text first digits small = let f = numeral_first text first in decimal-digits_value own text digits f.0 f.1 small
 
 -- the number of a text, where there is one
 given : (b : Bool) (v n : ℕ) → cond b (Some v) None ≡ Some n → (b ≡ true) × (v ≡ n)
@@ -78,17 +84,16 @@ given false v n e = absurd cc
 number_is : (limit : ℕ) (text : List ℕ) (n : ℕ) → limit < 2 ^ 64 → number_of limit text ≡ Some n → (n ≤ limit) × (text ≡ decimal n)
 number_is limit text n small e =
     let g = given (is_numeral text && leb (digits_value 10 text) limit) (digits_value 10 text) n e in
-    let h = and_true _ _ g.0 in
-    let form = and_true _ _ h.0 in
-    let first = numeral_first text form.0 in
+    let h = and_parts _ _ g.0 in
+    let form = and_parts _ _ h.0 in
     let le : digits_value 10 text ≤ limit = leb-true _ _ h.1 in
-    let written : decimal (digits_value 10 text) ≡ text = decimal-digits_value own text form.1 first.0 first.1 (omega arith) in
+    let written : decimal (digits_value 10 text) ≡ text = digits_spell text form.0 form.1 (omega arith) in
     (omega (arith, g.1), sym written ∙ ap decimal g.1)
 
 number_from : (limit n : ℕ) → limit < 2 ^ 64 → n ≤ limit → number_of limit (decimal n) ≡ Some n
 number_from limit n small le =
     let low : n < 2 ^ 64 = omega arith in
-    rw (decimal_is_numeral n low, digits_value-decimal own n low, le-leb _ _ le) refl
+    rw (decimal_first n low, decimal_digits n low, decimal_value n low, le-leb _ _ le) refl
 
 pub number_law : (limit n : ℕ) (text : List ℕ) → limit < 2 ^ 64 → (number_of limit text ≡ Some n) ↔ ((n ≤ limit) × (text ≡ decimal n))
 number_law limit n text small = (number_is limit text n small, λ h. rw h.1 (number_from limit n small h.0))

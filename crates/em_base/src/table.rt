@@ -1,9 +1,12 @@
 //! A table: values by name.
-ghost use Rattle.std.specs.Prelude.{◌≡◌, ◌==◌, None, map, slice_get, option_copied, option_map, OnOk, OnErr};
+ghost use Rattle.std.specs.Prelude.{◌≡◌, ◌==◌, ◌&&◌, nat_eq, None, map, IfOk, slice_get, option_copied, option_map, OnOk, OnErr};
 ghost use Rattle.std.specs.FinMap as table;
+ghost use Rattle.std.specs.Cmp.{partial_equiv_from_equiv, on_per, and_per, on_equiv, and_equiv};
+ghost use Rattle.std.specs.Cmp.Lexicographic.{pointwise, nat_list_eq_equiv, lists_per, lists_equiv};
 
 use crate::memory::NoMemory;
 use crate::text::Text;
+use crate::try_clone::TryClone;
 use std::alloc::Global;
 use std::collections::BTreeMap;
 use std::collections::btree_map::Iter;
@@ -99,4 +102,40 @@ impl<V: Drop> Table<V> {
     {
         self.held.remove(name)
     }
+}
+
+impl<V: TryClone + Drop> Table<V> {
+    /// An equal table.
+    pub fn copy(&self, alloc: Global) -> Result<Table<V>, NoMemory>
+        ensures { IfOk result (λ t. t ≡ self.now) }
+    {
+        let mut copied = Table::new(alloc);
+        for (name, value) in self.iter() {
+            copied.insert(
+                Text::from_slice(alloc, name.as_slice())?,
+                value.try_clone(alloc)?,
+            )?;
+        }
+        Ok(copied)
+    }
+}
+
+impl<V: TryClone + Drop> TryClone for Table<V> {
+    fn try_clone(&self, alloc: Global) -> Result<Table<V>, NoMemory> {
+        self.copy(alloc)
+    }
+}
+
+impl<V: PartialEq> PartialEq for Table<V> {
+    ghost eq = { λ s t. pointwise (λ p q. pointwise nat_eq p.0 q.0 && V.eq p.1 q.1) (table.entries s) (table.entries t) };
+
+    ghost laws = { on_per table.entries (lists_per (and_per (on_per (λ p. p.0) (partial_equiv_from_equiv nat_list_eq_equiv)) (on_per (λ p. p.1) V.laws))) };
+
+    fn eq(&self, other: &Self) -> bool {
+        self.held == other.held
+    }
+}
+
+impl<V: Eq> Eq for Table<V> {
+    ghost laws = { on_equiv table.entries (lists_equiv (and_equiv (on_equiv (λ p. p.0) nat_list_eq_equiv) (on_equiv (λ p. p.1) V.Eq.laws))) };
 }

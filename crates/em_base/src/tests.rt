@@ -1,4 +1,5 @@
 use super::*;
+use std::alloc::Global;
 use std::test::Fail;
 
 #[test]
@@ -61,4 +62,104 @@ fn blanks_are_trimmed_at_the_two_ends(rt: HostRuntime) {
     ] {
         assert!(rt; trim(text) == wanted);
     }
+}
+
+/// A value of a sequence and a table, as those of the crates above are.
+#[derive(Drop, PartialEq, Eq)]
+struct Rule {
+    names: Seq<Text>,
+    lines: Table<Text>,
+}
+
+fn texts(alloc: Global, items: &[&[u8]]) -> Result<Seq<Text>, NoMemory> {
+    let mut texts = Seq::new(alloc);
+    for item in items {
+        texts.push(Text::from_slice(alloc, item)?)?;
+    }
+    Ok(texts)
+}
+
+fn table(alloc: Global, items: &[(&[u8], &[u8])]) -> Result<Table<Text>, NoMemory> {
+    let mut table = Table::new(alloc);
+    for (name, value) in items {
+        table.insert(
+            Text::from_slice(alloc, name)?,
+            Text::from_slice(alloc, value)?,
+        )?;
+    }
+    Ok(table)
+}
+
+#[test]
+fn sequences_are_read_by_place(rt: HostRuntime) -> Result<(), Fail> {
+    let names = texts(rt.alloc(), &[b"a".as_slice(), b"bc"])?;
+    assert_eq!(rt; names.len(), 2);
+    assert!(rt; !names.is_empty());
+    assert!(rt; names.get(1).is_some_and(|t| t.bytes() == b"bc".as_slice()));
+    assert!(rt; names.get(2).is_none());
+    assert!(rt; names.try_clone(rt.alloc())? == names);
+    assert!(rt; Seq::from_vec(names.into_vec()) != texts(rt.alloc(), &[b"a".as_slice()])?);
+    Ok(())
+}
+
+#[test]
+fn a_stack_gives_the_last_first(rt: HostRuntime) -> Result<(), Fail> {
+    let mut stack = Stack::new(rt.alloc());
+    assert!(rt; stack.is_empty());
+    for n in [1u32, 2, 3] {
+        stack.push(n)?;
+    }
+    assert!(rt; stack.top() == Some(&3));
+    assert!(rt; stack.pop() == Some(3));
+    assert_eq!(rt; stack.len(), 2);
+    assert!(rt; stack.pop() == Some(2));
+    assert!(rt; stack.pop() == Some(1));
+    assert!(rt; stack.pop().is_none());
+    Ok(())
+}
+
+#[test]
+fn a_table_keeps_its_names_in_byte_order(rt: HostRuntime) -> Result<(), Fail> {
+    let entries = [
+        (b"b".as_slice(), b"1".as_slice()),
+        (b"a/", b"2"),
+        (b"a", b"3"),
+        (b"b", b"4"),
+    ];
+    let mut made = table(rt.alloc(), &entries)?;
+    assert_eq!(rt; made.len(), 3);
+    for (i, (name, value)) in [
+        (b"a".as_slice(), b"3".as_slice()),
+        (b"a/", b"2"),
+        (b"b", b"4"),
+    ]
+    .iter()
+    .enumerate()
+    {
+        assert!(rt; made.get(*name).is_some_and(|v| v.bytes() == *value));
+        assert!(rt;
+            made.at(i)
+                .is_some_and(|(n, v)| n == *name && v.bytes() == *value)
+        );
+    }
+    assert!(rt; made.at(3).is_none());
+    assert_eq!(rt; made.iter().count(), 3);
+    assert!(rt; made.remove(b"a").is_some());
+    assert!(rt; made.remove(b"c").is_none());
+    assert!(rt; made.get(b"a").is_none());
+    assert!(rt; !made.is_empty());
+    Ok(())
+}
+
+#[test]
+fn what_holds_them_is_compared(rt: HostRuntime) -> Result<(), Fail> {
+    let entries = [(b"b".as_slice(), b"1".as_slice()), (b"a", b"2")];
+    let names = texts(rt.alloc(), &[b"a".as_slice()])?;
+    let lines = table(rt.alloc(), &entries)?;
+    let copied = Rule {
+        names: names.copy(rt.alloc())?,
+        lines: lines.try_clone(rt.alloc())?,
+    };
+    assert!(rt; Rule { names, lines } == copied);
+    Ok(())
 }

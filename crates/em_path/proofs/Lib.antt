@@ -1,2 +1,4 @@
+pub mod Lemmas
 pub mod Spelling
-pub mod Walking
+mod Testing
+mod Walking

@@ -2,7 +2,7 @@
 --     components-path_text      a path's text has the components that it spells
 --     path_text-components      a text that begins with `/` is spelled by what stands between its slashes
 --     IsPath-spelled            what makes a path of components
-use Rattle.std.proofs.Common.{◌≡◌, ◌≢◌, ℕ, ◌+◌, ◌-◌, ◌<◌, ◌≤◌, ◌==◌, Bool, true, false, cond, eqb, List, [], ◌∷◌, ◌++◌, length, drop, take, All, get_or, refl, sym, ap, subst, ◌∙◌, arith, rules, ltb, zero, suc, Some, None, slice_get, length-append, length-drop, length-take, add-one, drop-cons, take-append-drop, get_or-drop, take_at}
+use Rattle.std.proofs.Common.{◌≡◌, ◌≢◌, ℕ, ◌+◌, ◌-◌, ◌<◌, ◌≤◌, ◌==◌, Bool, true, false, cond, List, [], ◌∷◌, ◌++◌, length, drop, take, All, get_or, refl, sym, ap, subst, ◌∙◌, arith, zero, suc, Some, None, slice_get, length-append, length-drop, length-take, add-one, drop-cons, take-append-drop, get_or-drop, take_at}
 use Rattle.std.specs.Bool.{MatchBool, IsTrue}
 use Rattle.std.specs.declared.cmp.Ordering.{Ordering}
 use Rattle.std.specs.Ordering.{nat_cmp, ordering_then}
@@ -16,6 +16,7 @@ use Rattle.std.proofs.lemmas.List.Splits.{slice_split_none, slice_split_at, join
 use Rattle.std.proofs.lemmas.List.Concat.{flat_map-append}
 use Rattle.std.proofs.lemmas.List.Elements.{recursion_from_All, All-push, All-take}
 use Rattle.std.proofs.lemmas.Bool.{ne_eqb}
+use Rattle.em_base.proofs.Lemmas.{holds_last, last_push}
 use Rattle.em_path.specs.Paths.{IsComponent, IsPath, root_text, path_text, components, child_text, parent_of, parent_text, last_of}
 
 -- each behind a `/`
@@ -198,12 +199,8 @@ components-last p i n h =
     subst (λ (q : List ℕ). components q ≡ heads (take i p) ++ drop (i + 1) p ∷ []) (sym e)
     (components-cut (take i p) (drop (i + 1) p) (subst (λ (q : List ℕ). length q ≢ 1) e n) (plain_after p i h))
 
-last-push : {X : Type 0} (xs : List X) (x : X) → slice_get (xs ++ x ∷ []) (length xs) ≡ Some x
-last-push [] x = refl
-last-push (y ∷ ys) x = last-push ys x
-
 last-push-less : {X : Type 0} (xs : List X) (x : X) → slice_get (xs ++ x ∷ []) (length (xs ++ x ∷ []) - 1) ≡ Some x
-last-push-less xs x = let e : length (xs ++ x ∷ []) - 1 ≡ length xs = omega (arith, length-append xs (x ∷ [])) in subst (λ n. slice_get (xs ++ x ∷ []) n ≡ Some x) (sym e) (last-push xs x)
+last-push-less xs x = let e : length (xs ++ x ∷ []) - 1 ≡ length xs = omega (arith, length-append xs (x ∷ [])) in subst (λ n. slice_get (xs ++ x ∷ []) n ≡ Some x) (sym e) (last_push xs x)
 
 pub last_is : (p : List ℕ) (i : ℕ) → length p ≢ 1 → IsLastSlash p i → Some (take (length p - (i + 1)) (drop (i + 1) p)) ≡ last_of p
 last_is p i n h = ap (λ k. Some (take k (drop (i + 1) p))) (sym (length-drop (i + 1) p)) ∙ ap (λ r. Some r) (take-length (drop (i + 1) p)) ∙ sym (ap (λ (cs : List (List ℕ)). slice_get cs (length cs - 1)) (components-last p i n h) ∙ last-push-less (heads (take i p)) (drop (i + 1) p))
@@ -238,6 +235,13 @@ parent_is_path p i path n h s m =
     let few : length (heads (take i p)) ≤ 64 = omega (arith, path.deep, ap length (components-last p i n h), length-append (heads (take i p)) (drop (i + 1) p ∷ [])) in
     subst IsPath e (IsPath-spelled (heads (take i p)) (heads_names p i path n h) few (subst (λ (q : List ℕ). length q ≤ 1024) (sym e) (omega (arith, path.long, length-take i p))))
 
+-- a last slash that isn't the first byte has more than the root before it
+pub not_under_root : (p : List ℕ) (i : ℕ) → IsPath p → length p ≢ 1 → IsLastSlash p i → get_or p 0 0 ≡ 47 → 0 < i → parent_text p ≡ Some root_text → ⊥
+not_under_root p i path n h s m up =
+    let front : take i p ≡ root_text = cc (parent_is p i n h s m) in
+    let names : All IsComponent (heads root_text) = subst (λ (f : List ℕ). All IsComponent (heads f)) front (heads_names p i path n h) in
+    (names 0 [] (omega arith)).filled refl
+
 -- a path begins with a slash
 pub path_begins : (p : List ℕ) → IsPath p → (1 ≤ length p) × (get_or p 0 0 ≡ 47)
 path_begins p h = subst (λ (q : List ℕ). (1 ≤ length q) × (get_or q 0 0 ≡ 47)) (sym h.spelled) (text_begins (components p))
@@ -253,15 +257,19 @@ root_is_path = record { spelled = refl; names = λ k d l. absurd (omega arith); 
 pub IsPath-under_root : (x : List ℕ) → IsComponent x → length x ≤ 1023 → IsPath (47 ∷ x)
 IsPath-under_root x h l = subst IsPath (child_of_root x) (child_is_path root_text x root_is_path h (omega arith) (omega (arith, ap length (child_of_root x))))
 
+-- ---- a child has its parent and its name
+
+pub child_parent : (p x : List ℕ) → IsPath p → IsComponent x → parent_text (child_text p x) ≡ Some p
+child_parent p x h name = ap parent_of (components-child p x h name) ∙ parent_of-push (components p) x ∙ ap (λ t. Some t) (sym h.spelled)
+
+pub child_last : (p x : List ℕ) → IsPath p → IsComponent x → last_of (child_text p x) ≡ Some x
+child_last p x h name = ap (λ (cs : List (List ℕ)). slice_get cs (length cs - 1)) (components-child p x h name) ∙ last-push-less (components p) x
+
 -- ---- a path that has a parent is a child of it
 
 pub split_last : {X : Type 0} (c : X) (cs : List X) → (x : X) × ((c ∷ cs) ≡ take (length cs) (c ∷ cs) ++ x ∷ []) × (slice_get (c ∷ cs) (length cs) ≡ Some x)
 split_last c [] = (c, refl, refl)
 split_last c (d ∷ ds) = let r = split_last d ds in (r.0, ap (λ xs. c ∷ xs) r.1, r.2)
-
-pub holds_last : {X : Type 0} (P : X → Type 0) (xs : List X) (x : X) → AllByRecursion P (xs ++ x ∷ []) → P x
-holds_last P [] x h = h.0
-holds_last P (y ∷ ys) x h = holds_last P ys x h.1
 
 -- the last component, and what it says of the path
 pub record IsChild (k p x : List ℕ) : Type 0 where

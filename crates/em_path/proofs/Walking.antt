@@ -1,20 +1,21 @@
 -- Going through the parts of a name.
 --     up_to          what stands before the last slash are all components but the last
 --     walk_names     what a walk comes to are components
-use Rattle.std.proofs.Common.{◌≡◌, ◌≢◌, ◌<◌, ◌≤◌, ◌+◌, ◌-◌, ◌==◌, ℕ, zero, suc, Bool, true, false, cond, ◌||◌, List, [], ◌∷◌, ◌++◌, Option, Some, None, All, length, take, drop, get_or, slice_get, refl, sym, ap, subst, ◌∙◌, arith, eqb, ⊎_elim, take_at, drop_at, get_or-drop, length-append, take_all, append_assoc}
-use Rattle.std.specs.List.{AllByRecursion, flat_map, list_any, onto_first, slice_split}
+use Rattle.std.proofs.Common.{◌≡◌, ◌≢◌, ◌<◌, ◌+◌, ◌-◌, ◌==◌, ℕ, Bool, true, false, cond, ◌||◌, List, [], ◌∷◌, ◌++◌, Some, None, All, length, take, drop, get_or, refl, sym, ap, subst, ◌∙◌, arith, ⊎_elim, take_at, drop_at, get_or-drop, length-append, append_assoc}
+use Rattle.std.specs.List.{AllByRecursion, list_any, onto_first}
 use Rattle.std.specs.Prelude.{slice_index}
 use Rattle.std.specs.Str.{bytes_eq}
 use Rattle.std.proofs.Common.{codes}
-use Rattle.std.proofs.lemmas.List.{append-nil, take_more, get_or_default}
+use Rattle.std.proofs.lemmas.List.{append-nil, take_more}
 use Rattle.std.proofs.lemmas.List.Concat.{flat_map-append}
 use Rattle.std.proofs.lemmas.List.Elements.{recursion_from_All, All-from_recursion, All-take, All-push, All-nil}
-use Rattle.std.proofs.lemmas.Bool.{eqb-false, eqb-true, cases_lt}
+use Rattle.std.proofs.lemmas.Bool.{eqb-false, cases_lt, false_from_ne_true}
 use Rattle.std.proofs.lemmas.Slice.Eq.{bytes_eq-Decides}
+use Rattle.em_base.proofs.Lemmas.{holds_last}
 use Rattle.em_path.specs.Paths.{IsComponent, IsPath, root_text, path_text, components}
 use Rattle.em_path.specs.Spelled.{spelled}
 use Rattle.em_path.specs.Reading.{step, walk, name_fault_of, start_of, resolve, resolved_text}
-use Rattle.em_path.proofs.Spelling.{IsLastSlash, parts, split_last, holds_last, one_less, components-path_text}
+use Rattle.em_path.proofs.Spelling.{IsLastSlash, parts, split_last, one_less, components-path_text, components-long, parts-IsPath, path_begins}
 
 -- ---- the last component off
 
@@ -159,3 +160,28 @@ text_spelled text cs names e = e ∙ ap path_text (sym (ap components e ∙ comp
 
 pub text_names : (text : List ℕ) (cs : List (List ℕ)) → All IsComponent cs → text ≡ path_text cs → All IsComponent (components text)
 text_names text cs names e = subst (λ (ds : List (List ℕ)). All IsComponent ds) (sym (ap components e ∙ components-path_text cs names)) names
+
+-- ---- the text of a path resolves to itself
+
+component_step : (cs : List (List ℕ)) (c : List ℕ) → IsComponent c → step cs c ≡ cs ++ c ∷ []
+component_step cs c h = rw (other [] h.filled, other (codes ".") h.not_here, other (codes "..") h.not_above) refl
+  where
+    other : (t : List ℕ) → c ≢ t → bytes_eq c t ≡ false
+    other t ne = false_from_ne_true (bytes_eq c t) (λ e. ne ((bytes_eq-Decides c t).0 e))
+
+components_walk : (cs ds : List (List ℕ)) → AllByRecursion IsComponent ds → walk cs ds ≡ cs ++ ds
+components_walk cs [] h = sym (append-nil cs)
+components_walk cs (d ∷ ds) h = ap (λ es. walk es ds) (component_step cs d h.0) ∙ components_walk (cs ++ d ∷ []) ds h.1 ∙ append_assoc cs (d ∷ []) ds
+
+pub resolves_itself : (cwd text : List ℕ) → IsPath text → resolved_text cwd text ≡ text
+resolves_itself cwd [] h = absurd (let long = (path_begins [] h).0 in omega arith)
+resolves_itself cwd (x ∷ t) h =
+    let slash : x ≡ 47 = (path_begins (x ∷ t) h).1 in
+    let whole : x ∷ t ≡ 47 ∷ t = ap (λ y. y ∷ t) slash in
+    subst (λ (q : List ℕ). resolved_text cwd q ≡ q) (sym whole) (behind_slash t (subst IsPath whole h))
+  where
+    behind_slash : (t : List ℕ) → IsPath (47 ∷ t) → resolved_text cwd (47 ∷ t) ≡ 47 ∷ t
+    behind_slash [] h = refl
+    behind_slash (y ∷ ys) h =
+        let some : y ∷ ys ≢ [] = λ e. cc in
+        ap path_text (components_walk [] (parts (y ∷ ys)) (recursion_from_All IsComponent (parts (y ∷ ys)) (parts-IsPath (y ∷ ys) some h)) ∙ sym (components-long (y ∷ ys) some)) ∙ sym h.spelled

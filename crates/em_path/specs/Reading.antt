@@ -2,7 +2,7 @@
 --     resolve cwd name        the components that the name comes to
 --     resolved_text cwd name      their text
 --     read_fault cwd name     why the name is no path: the first of PathNo that applies; none where it is one
-use Rattle.std.specs.Prelude.{ℕ, ◌-◌, ◌==◌, ◌||◌, if◌then◌else◌, Bool, List, [], ◌∷◌, ◌++◌, length, take, codes, slice_index, nat_lt, Option, Some, None}
+use Rattle.std.specs.Prelude.{ℕ, ◌-◌, ◌==◌, ◌||◌, if◌then◌else◌, List, [], ◌∷◌, ◌++◌, length, take, codes, slice_index, nat_lt, Option, Some, None}
 use Rattle.std.specs.List.{slice_split, list_any}
 use Rattle.std.specs.Str.{bytes_eq}
 use Rattle.em_path.specs.declared.path.PathNo.{PathNo}

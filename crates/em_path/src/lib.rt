@@ -1,6 +1,7 @@
 //! Paths: normal names of places in a tree.
 #![tactic(auto)]
 
+pub mod laws;
 mod name;
 mod path;
 mod read;

@@ -1,5 +1,5 @@
 //! A path in a tree.
-ghost use Rattle.std.specs.Prelude.{◌≡◌, ◌+◌, ◌<◌, ◌≤◌, ◌∷◌, ◌↔◌, ◌==◌, ◌⊎◌, if◌then◌else◌, nat_eq, refl, length, Some, None, All, IfOk, IfSome, IfErr, IsNone, IsErrOf, option_copied};
+ghost use Rattle.std.specs.Prelude.{◌≡◌, ◌+◌, ◌<◌, ◌≤◌, ◌∷◌, ◌↔◌, ◌==◌, ◌⊎◌, if◌then◌else◌, nat_eq, refl, length, Some, None, Ok, All, IfOk, IfSome, IfErr, IsNone, IsErrOf, option_copied};
 ghost use Rattle.std.specs.Ordering.{nat_cmp};
 ghost use Rattle.std.specs.Cmp.Lexicographic.{pointwise, slice_cmp, nat_list_eq_equiv, nat_list_cmp_total, texts_ties, texts_po};
 ghost use Rattle.std.specs.Cmp.{partial_equiv_from_equiv};
@@ -85,10 +85,12 @@ impl Path {
         }
     }
 
-    /// The path that this text spells. `None` comes exactly where it spells none.
+    /// The path that this text spells. `None` comes exactly where it spells none, and then also where memory is short. Steps for
+    /// each byte.
     pub fn from_text(alloc: Global, text: &[u8]) -> Result<Option<Path>, NoMemory>
         ensures some { IfOk result (λ r. IfSome r (λ p. p ≡ text.now)) }
         ensures none { IfOk result (λ r. IsNone r ↔ (IsPath text.now → ⊥)) }
+        ensures refused { (IsPath text.now → ⊥) → result ≡ Ok None }
     {
         if !is_path(text) {
             return Ok(None);
@@ -117,10 +119,13 @@ impl Path {
         Some(&text[last_slash(text) + 1..])
     }
 
-    /// The path without its last component; `None` for the root alone. The only error is `NoMemory`.
+    /// The path without its last component; `None` for the root alone. The only error is `NoMemory`, which comes neither for the
+    /// root nor for what stands right under it.
     pub fn parent(&self, alloc: Global) -> Result<Option<Path>, PathNo>
         ensures ok { IfOk result (λ r. r ≡ parent_text self.now) }
         ensures only { IfErr result (λ e. e ≡ PathNo.NoMemory) }
+        ensures root { parent_text self.now ≡ None → result ≡ Ok None }
+        ensures top { parent_text self.now ≡ Some root_text → result ≡ Ok (Some root_text) }
     {
         let text = self.text();
         if text.len() == 1 {
@@ -139,7 +144,8 @@ impl Path {
     /// `..` are resolved in the text, and `..` at the root is the root. The errors are the first of `PathNo` that applies;
     /// `TooLong` and `TooDeep` speak of the result.
     pub fn read(alloc: Global, cwd: &Path, name: &[u8]) -> Result<Path, PathNo>
-        ensures ok { IfOk result (λ p. (read_fault cwd.now name.now ≡ None) × (p ≡ resolved_text cwd.now name.now)) }
+        ensures ok { IfOk result (λ p. (read_fault cwd.now name.now ≡ None)
+            × (p ≡ resolved_text cwd.now name.now)) }
         ensures err { IfErr result (λ e. (e ≡ PathNo.NoMemory) ⊎ (read_fault cwd.now name.now ≡ Some e)) }
         ensures named { (e : PathNo) → name_fault_of name.now ≡ Some e → IsErrOf result e }
     {
@@ -167,15 +173,18 @@ impl Path {
         })
     }
 
-    #[tactic(auto, using(crate::proofs::Spelling::child_spelled, crate::proofs::Spelling::child_depth, crate::proofs::Spelling::child_is_path))]
     /// The path of one component more. Errors: `TooLong` and `TooDeep`, exactly as the limits say, and `NoMemory`.
+    #[tactic(auto, using(crate::proofs::Spelling::child_spelled, crate::proofs::Spelling::child_depth, crate::proofs::Spelling::child_is_path))]
     pub fn child(&self, alloc: Global, name: &[u8]) -> Result<Path, PathNo>
         requires component { IsComponent name.now }
         ensures ok { IfOk result (λ p. p ≡ child_text self.now name.now) }
         ensures long { IsErrOf result PathNo.TooLong ↔ (1024 < length (child_text self.now name.now)) }
-        ensures deep { IsErrOf result PathNo.TooDeep ↔ (length (child_text self.now name.now) ≤ 1024) × (64 < length (components (child_text self.now name.now))) }
-        ensures only { IfErr result (λ e. (e ≡ PathNo.TooLong) ⊎ (e ≡ PathNo.TooDeep) ⊎ (e ≡ PathNo.NoMemory)) }
-        ensures under_root { self.now ≡ root_text → child_text self.now name.now ≡ 47 ∷ name.now }
+        ensures deep { IsErrOf result PathNo.TooDeep
+            ↔ (length (child_text self.now name.now) ≤ 1024)
+            × (64 < length (components (child_text self.now name.now))) }
+        ensures only { IfErr result (λ e. (e ≡ PathNo.TooLong) ⊎ (e ≡ PathNo.TooDeep)
+            ⊎ (e ≡ PathNo.NoMemory)) }
+        ensures under_root { self.now ≡ root_text → IfOk result (λ p. p ≡ 47 ∷ name.now) }
     {
         let front = front(self.text());
         if front.len() + 1 + name.len() > 1024 {

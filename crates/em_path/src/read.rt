@@ -44,7 +44,8 @@ fn start(alloc: Global, cwd: &[u8], name: &[u8]) -> Result<Vec<u8>, AllocError>
 
 /// Takes the last component off, if there is one.
 fn up(text: &mut Vec<u8>)
-    ensures { (cs : List (List ℕ)) → All IsComponent cs → text.old.items ≡ spelled cs → text.new.items ≡ spelled (take (length cs - 1) cs) }
+    ensures { (cs : List (List ℕ)) → All IsComponent cs → text.old.items ≡ spelled cs
+        → text.new.items ≡ spelled (take (length cs - 1) cs) }
 {
     if text.is_empty() || text[0] != b'/' {
         return;
@@ -55,7 +56,8 @@ fn up(text: &mut Vec<u8>)
 
 /// Goes one part of the name on.
 fn go(text: &mut Vec<u8>, part: &[u8]) -> Result<(), AllocError>
-    ensures { OnOk result ((cs : List (List ℕ)) → All IsComponent cs → text.old.items ≡ spelled cs → text.new.items ≡ spelled (step cs part.now)) }
+    ensures { OnOk result ((cs : List (List ℕ)) → All IsComponent cs → text.old.items ≡ spelled cs
+        → text.new.items ≡ spelled (step cs part.now)) }
 {
     if part == b"".as_slice() || part == b".".as_slice() {
         return Ok(());
@@ -72,7 +74,8 @@ fn go(text: &mut Vec<u8>, part: &[u8]) -> Result<(), AllocError>
 /// Goes all parts of the name on.
 fn go_on(text: &mut Vec<u8>, name: &[u8]) -> Result<(), AllocError>
     requires { name_fault_of name.now ≡ None }
-    ensures { OnOk result ((cs : List (List ℕ)) → All IsComponent cs → text.old.items ≡ spelled cs → text.new.items ≡ spelled (walk cs (slice_split (λ b. b == 47) name.now))) }
+    ensures { OnOk result ((cs : List (List ℕ)) → All IsComponent cs → text.old.items ≡ spelled cs
+        → text.new.items ≡ spelled (walk cs (slice_split (λ b. b == 47) name.now))) }
 {
     for part in name.split(|b| *b == b'/') {
         go(text, part)?;
@@ -82,7 +85,8 @@ fn go_on(text: &mut Vec<u8>, name: &[u8]) -> Result<(), AllocError>
 
 /// Makes the root's text of nothing.
 fn rooted(text: &mut Vec<u8>) -> Result<(), AllocError>
-    ensures { OnOk result ((cs : List (List ℕ)) → text.old.items ≡ spelled cs → text.new.items ≡ path_text cs) }
+    ensures { OnOk result ((cs : List (List ℕ)) → text.old.items ≡ spelled cs
+        → text.new.items ≡ path_text cs) }
 {
     if text.is_empty() {
         text.push(b'/')?;

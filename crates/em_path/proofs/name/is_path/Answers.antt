@@ -1,4 +1,4 @@
-use Rattle.std.proofs.Common.{◌≡◌, ◌∙◌, sym, subst, ap, arith, length, ◌≤◌, ℕ}
+use Rattle.std.proofs.Common.{◌∙◌, sym, subst, arith, ◌≤◌, ℕ}
 use Rattle.std.proofs.lemmas.Bool.{leb-true}
 use Rattle.em_path.proofs.Spelling.{path_answer}
 use Rattle.em_path.proofs.name.is_path.Goals as goal

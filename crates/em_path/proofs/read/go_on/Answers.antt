@@ -1,8 +1,6 @@
-use Rattle.std.proofs.Common.{◌≡◌, ◌∙◌, ◌==◌, ◌+◌, ◌<◌, ◌++◌, ◌∷◌, [], rules, tests, sym, ap, subst, List, ℕ, All, length, take, take_all, length-append, arith, get_or}
-use Rattle.std.specs.List.{slice_split}
+use Rattle.std.proofs.Common.{◌∙◌, ◌==◌, ◌∷◌, [], rules, tests, sym, ap, List, ℕ, length, take, take_all, length-append, arith}
 use Rattle.std.proofs.lemmas.Iterator.Consumers.{YieldsList-turn, YieldsList-end}
 use Rattle.std.proofs.lemmas.Iterator.Splits.{YieldsList-from_slice_split}
-use Rattle.em_path.specs.Paths.{IsComponent}
 use Rattle.em_path.specs.Spelled.{spelled}
 use Rattle.em_path.specs.Reading.{walk}
 use Rattle.em_path.proofs.Spelling.{parts}

@@ -1,7 +1,6 @@
-use Rattle.std.proofs.Common.{◌≡◌, ◌∙◌, ◌-◌, sym, ap, subst, List, ℕ, [], length, take}
-use Rattle.em_path.specs.Spelled.{spelled}
+use Rattle.std.proofs.Common.{◌∙◌, subst, List, ℕ}
 use Rattle.em_path.proofs.Spelling.{IsLastSlash}
-use Rattle.em_path.proofs.Walking.{up_to, no_slash}
+use Rattle.em_path.proofs.Walking.{up_to}
 use Rattle.em_path.proofs.read.up.Goals as goal
 
 pub returns : goal.returns

@@ -1,4 +1,4 @@
-use Rattle.std.proofs.Common.{◌∙◌, sym, subst}
+use Rattle.std.proofs.Common.{◌∙◌, sym}
 use Rattle.em_base.proofs.Maps.{at_err, text_put, text_found}
 use Rattle.em_base.proofs.table.Table.insert.Goals as goal
 

@@ -1,4 +1,4 @@
-use Rattle.std.proofs.Common.{◌≡◌, ◌≤◌, ◌<◌, sym, ap, subst, ◌∙◌, refl, length, List, ℕ, arith}
+use Rattle.std.proofs.Common.{◌≤◌, ◌<◌, sym, ap, subst, ◌∙◌, refl, length, List, ℕ, arith}
 use Rattle.em_path.specs.Paths.{IsPath, child_text, components}
 use Rattle.em_path.proofs.Spelling.{child_from, child_length, child_depth, child_is_path}
 use Rattle.em_path.proofs.path.Path.child.Goals as goal

@@ -1,5 +1,4 @@
-use Rattle.std.proofs.Common.{◌≡◌, ◌∙◌, sym, ap, subst, List, ℕ}
-use Rattle.em_path.specs.Paths.{IsPath}
+use Rattle.std.proofs.Common.{◌∙◌, sym, ap, List, ℕ}
 use Rattle.em_path.specs.Reading.{resolve, resolved_text}
 use Rattle.em_path.proofs.Walking.{resolve_names, text_spelled, text_names}
 use Rattle.em_path.proofs.path.Path.read.Goals as goal
