@@ -7,8 +7,8 @@ mod part;
 mod read;
 
 pub use no::RefNo;
-pub use part::Part;
-pub use read::parts;
+pub use part::{Bracket, Part, Parted};
+pub use read::{parts, parts_before};
 
 #[cfg(test)]
 mod tests;

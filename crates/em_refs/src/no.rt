@@ -2,7 +2,6 @@
 ghost use Rattle.std.specs.Prelude.{◌≡◌};
 ghost use Rattle.em_refs.specs.declared.no.RefNo.TheVariants.{NoMemory};
 
-use std::alloc::{AllocError, AllocFailed};
 use thiserror::Error;
 
 /// Why a text isn't parted.
@@ -13,22 +12,6 @@ pub enum RefNo {
     Unclosed(usize),
     #[error("out of memory")]
     NoMemory,
-}
-
-impl From<AllocError> for RefNo {
-    ghost from_gives = { λ _ e. e ≡ NoMemory };
-
-    fn from(_e: AllocError) -> RefNo {
-        RefNo::NoMemory
-    }
-}
-
-impl<T: Drop> From<AllocFailed<T>> for RefNo {
-    ghost from_gives = { λ _ e. e ≡ NoMemory };
-
-    fn from(_e: AllocFailed<T>) -> RefNo {
-        RefNo::NoMemory
-    }
 }
 
 impl From<em_base::NoMemory> for RefNo {

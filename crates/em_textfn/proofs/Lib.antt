@@ -1,3 +1,2 @@
-pub mod Finding
-pub mod Listing
-pub mod Sorting
+mod Listing
+mod Sorting

@@ -1,12 +1,10 @@
 -- Lists of words, and of references to words.
-use Rattle.std.proofs.Common.{◌≡◌, ℕ, ◌+◌, ◌-◌, ◌<◌, ◌≤◌, ◌==◌, inl, inr, Bool, Bor, true, false, cond, not, ◌||◌, List, [], ◌∷◌, ◌++◌, length, map, take, drop, get_or, All, min, arith, refl, sym, ap, ◌∙◌, length-append, length-drop, ltb, zero, suc}
+use Rattle.std.proofs.Common.{◌≡◌, ℕ, ◌+◌, ◌-◌, ◌<◌, ◌≤◌, inl, inr, Bool, Bor, true, false, cond, not, ◌||◌, List, [], ◌∷◌, ◌++◌, length, map, take, drop, get_or, min, arith, refl, sym, ap, ◌∙◌, length-drop, ltb, zero, suc}
 use Rattle.std.specs.List.{list_any, filter, Contains}
-use Rattle.std.proofs.lemmas.Bool.{cases_lt, both_ways, not-true, cond-false, ltb-true, lt-ltb, le-ltb, ne_eqb}
-use Rattle.std.proofs.lemmas.List.{take_all, take_rest, drop_all, take-map, drop-map, take_more, map-append, append-nil}
-use Rattle.std.proofs.lemmas.List.Elements.{All-head, All-contains, filter-append, filter_passes}
-use Rattle.em_wordlist.specs.Words.{joined}
-use Rattle.em_wordlist.proofs.Spelling.{joined_more}
-use Rattle.em_textfn.specs.Texts.{filled, word_range}
+use Rattle.std.proofs.lemmas.Bool.{cases_lt, both_ways, not-true}
+use Rattle.std.proofs.lemmas.List.{take_all, take_rest, drop_all, take-map, drop-map, take_more, map-append}
+use Rattle.std.proofs.lemmas.List.Elements.{All-contains, filter-append, filter_passes}
+use Rattle.em_textfn.specs.Texts.{nonempty, word_range}
 
 pub any_map : {X Y : Type 0} (p : Y → Bool) (h : X → Y) (xs : List X) → list_any p (map h xs) ≡ list_any (λ x. p (h x)) xs
 any_map p h [] = refl
@@ -52,43 +50,15 @@ range_of_words rs s e start end one high low =
     ap (map (λ r. r.now)) (range_is rs s e start end one high low)
     ∙ sym (ap (take (e + 1 - s)) (drop-map (λ (r : Bor (List ℕ)). r.now) (s - 1) rs) ∙ take-map (λ (r : Bor (List ℕ)). r.now) (e + 1 - s) (drop (s - 1) rs))
 
--- ---- words that are joined one by one
+-- ---- words that are replaced one by one
 
-nonempty : (ws : List (List ℕ)) → All (λ w. 0 < length w) ws → 0 < length ws → 0 < length (joined ws)
-nonempty [] all l = l
-nonempty (w ∷ []) all l = All-head (λ w. 0 < length w) w [] all
-nonempty (w ∷ v ∷ ws) all l = let h = All-head (λ w. 0 < length w) w (v ∷ ws) all in omega (arith, length-append w (32 ∷ joined (v ∷ ws)))
-
-one_more : (ws : List (List ℕ)) (w : List ℕ) → All (λ w. 0 < length w) ws → joined (ws ++ w ∷ []) ≡ cond (length (joined ws) == 0) w (joined ws ++ 32 ∷ w)
-one_more [] w all = refl
-one_more (v ∷ ws) w all =
-    let l = nonempty (v ∷ ws) all (omega arith) in
-    joined_more (v ∷ ws) w (omega arith) ∙ sym (cond-false _ _ _ (ne_eqb (length (joined (v ∷ ws))) 0 (λ e. omega arith)))
-
-all_filled : (ws : List (List ℕ)) → All (λ w. 0 < length w) (filled ws)
-all_filled ws = λ k d low. ltb-true 0 _ (filter_passes (λ w. ltb 0 (length w)) ws k d low)
-
-kept_more : (ws : List (List ℕ)) (w : List ℕ) → filled (ws ++ w ∷ []) ≡ filled ws ++ cond (ltb 0 (length w)) (w ∷ []) []
-kept_more ws w = filter-append (λ w. ltb 0 (length w)) ws (w ∷ [])
-
-mapped_more : (f : List ℕ → List ℕ) (rs : List (Bor (List ℕ))) (i : ℕ) (d : Bor (List ℕ)) → i < length rs → filled (map (λ r. f r.now) (take (i + 1) rs)) ≡ filled (map (λ r. f r.now) (take i rs)) ++ cond (ltb 0 (length (f (get_or rs i d).now))) (f (get_or rs i d).now ∷ []) []
-mapped_more f rs i d low =
-    ap (λ (qs : List (Bor (List ℕ))). filled (map (λ r. f r.now) qs)) (take_more rs i d low)
-    ∙ ap filled (map-append (λ r. f r.now) (take i rs) (get_or rs i d ∷ []))
-    ∙ kept_more (map (λ r. f r.now) (take i rs)) (f (get_or rs i d).now)
-
--- what a loop makes of one word more, where it isn't empty and where it is
-pub filled_more : (f : List ℕ → List ℕ) (rs : List (Bor (List ℕ))) (i : ℕ) (d : Bor (List ℕ)) (text : List ℕ) → i < length rs → text ≡ joined (filled (map (λ r. f r.now) (take i rs))) → 0 < length (f (get_or rs i d).now) → cond (length text == 0) (f (get_or rs i d).now) (text ++ 32 ∷ f (get_or rs i d).now) ≡ joined (filled (map (λ r. f r.now) (take (i + 1) rs)))
-filled_more f rs i d text low is some =
-    let w = f (get_or rs i d).now in
-    let ws = filled (map (λ r. f r.now) (take i rs)) in
-    ap (λ (t : List ℕ). cond (length t == 0) w (t ++ 32 ∷ w)) is
-    ∙ sym (ap joined (mapped_more f rs i d low ∙ ap (λ (b : Bool). ws ++ cond b (w ∷ []) []) (lt-ltb 0 (length w) some)) ∙ one_more ws w (all_filled (map (λ r. f r.now) (take i rs))))
-
-pub filled_same : (f : List ℕ → List ℕ) (rs : List (Bor (List ℕ))) (i : ℕ) (d : Bor (List ℕ)) → i < length rs → length (f (get_or rs i d).now) ≡ 0 → joined (filled (map (λ r. f r.now) (take i rs))) ≡ joined (filled (map (λ r. f r.now) (take (i + 1) rs)))
-filled_same f rs i d low none =
-    let ws = filled (map (λ r. f r.now) (take i rs)) in
-    sym (ap joined (mapped_more f rs i d low ∙ ap (λ (b : Bool). ws ++ cond b (f (get_or rs i d).now ∷ []) []) (le-ltb 0 (length (f (get_or rs i d).now)) (omega arith)) ∙ append-nil ws))
+-- a word more, which stays unless it is empty
+pub replaced_more : (f : List ℕ → List ℕ) (rs : List (Bor (List ℕ))) (i : ℕ) (d : Bor (List ℕ)) → i < length rs
+    → nonempty (map (λ r. f r.now) (take (i + 1) rs)) ≡ nonempty (map (λ r. f r.now) (take i rs)) ++ cond (ltb 0 (length (f (get_or rs i d).now))) (f (get_or rs i d).now ∷ []) []
+replaced_more f rs i d low =
+    ap (λ (qs : List (Bor (List ℕ))). nonempty (map (λ r. f r.now) qs)) (take_more rs i d low)
+    ∙ ap nonempty (map-append (λ r. f r.now) (take i rs) (get_or rs i d ∷ []))
+    ∙ filter-append (λ w. ltb 0 (length w)) (map (λ r. f r.now) (take i rs)) (f (get_or rs i d).now ∷ [])
 
 pub mapped : {X Y Z : Type 0} (g : Y → Z) (h : X → Y) (xs : List X) → map g (map h xs) ≡ map (λ x. g (h x)) xs
 mapped g h [] = refl

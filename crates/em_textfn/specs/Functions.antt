@@ -12,7 +12,7 @@ use Rattle.em_textfn.specs.declared.function.Function.{Function}
 use Rattle.em_textfn.specs.declared.function.Function.TheVariants.{Subst, Patsubst, Strip, Words, FirstWord, LastWord, FindString, Filter, FilterOut, Sort, Word, WordList}
 use Rattle.em_textfn.specs.declared.no.TextfnNo.{TextfnNo}
 use Rattle.em_textfn.specs.declared.no.TextfnNo.TheVariants.{BadArgument}
-use Rattle.em_textfn.specs.Texts.{substituted, occurs, filled, matches, sorted, nth_word, word_range, first_word, last_word, from_one}
+use Rattle.em_textfn.specs.Texts.{substituted, occurs, nonempty, matches, sorted, nth_word, word_range, first_word, last_word, from_one}
 
 abbrev pub function_of : List ℕ → Option Function
 function_of name =
@@ -48,7 +48,7 @@ range_of _ _ ws = Err BadArgument
 
 abbrev pub value_of : Function → List (List ℕ) → Result (List ℕ) TextfnNo
 value_of Subst (f ∷ t ∷ x ∷ more) = Ok (substituted f t x)
-value_of Patsubst (p ∷ r ∷ x ∷ more) = Ok (joined (filled (map (replaced p r) (words_of x))))
+value_of Patsubst (p ∷ r ∷ x ∷ more) = Ok (joined (nonempty (map (replaced p r) (words_of x))))
 value_of Strip (x ∷ more) = Ok (joined (words_of x))
 value_of Words (x ∷ more) = Ok (decimal (length (words_of x)))
 value_of FirstWord (x ∷ more) = Ok (first_word (words_of x))

@@ -1,28 +1,23 @@
 -- What the text functions make of texts and of lists of words.
-use Rattle.std.specs.Prelude.{ℕ, ◌-◌, ◌+◌, suc, zero, Bool, true, is_some, nat_eq, nat_lt, List, [], ◌∷◌, ◌++◌, length, map, Option, Some, None, slice_get, take, drop, unwrap_or, if◌then◌else◌}
+use Rattle.std.specs.Prelude.{ℕ, ◌-◌, ◌+◌, ◌==◌, suc, zero, Bool, is_some, nat_lt, List, [], ◌++◌, length, map, Option, Some, None, slice_get, take, drop, unwrap_or, if◌then◌else◌}
 use Rattle.std.specs.Ordering.{nat_cmp}
 use Rattle.std.specs.Cmp.Lexicographic.{slice_cmp}
-use Rattle.std.specs.List.{list_any, filter, starts_with}
+use Rattle.std.specs.List.{list_any, filter}
 use Rattle.std.specs.FinMap as map_of
+use Rattle.bstr.specs.Find.{first_of, matches as matches_in}
+use Rattle.bstr.specs.Text.{replaced_at}
 use Rattle.em_wordlist.specs.Stems.{stem_of}
 
--- each f in the text replaced by t, from the left; of what follows, the first bytes may still belong to an f that was replaced
-abbrev pub replaced_from : ℕ → List ℕ → List ℕ → List ℕ → List ℕ
-replaced_from taken f t [] = []
-replaced_from (suc taken) f t (b ∷ bs) = replaced_from taken f t bs
-replaced_from zero f t (b ∷ bs) = if starts_with nat_eq (b ∷ bs) f then t ++ replaced_from (length f - 1) f t bs else b ∷ replaced_from zero f t bs
-
--- an empty f stands at the end alone
+-- each f in the text replaced by t, from the left; an empty f stands at the end alone
 abbrev pub substituted : List ℕ → List ℕ → List ℕ → List ℕ
-substituted f t x = if nat_eq (length f) 0 then x ++ t else replaced_from 0 f t x
+substituted f t x = if length f == 0 then x ++ t else replaced_at x (length f) t 0 (matches_in x f 0)
 
 -- f stands somewhere in the text
 abbrev pub occurs : List ℕ → List ℕ → Bool
-occurs f [] = nat_eq (length f) 0
-occurs f (b ∷ bs) = if starts_with nat_eq (b ∷ bs) f then true else occurs f bs
+occurs f x = is_some (first_of (matches_in x f 0))
 
-abbrev pub filled : List (List ℕ) → List (List ℕ)
-filled ws = filter (λ w. nat_lt 0 (length w)) ws
+abbrev pub nonempty : List (List ℕ) → List (List ℕ)
+nonempty ws = filter (λ w. nat_lt 0 (length w)) ws
 
 -- some pattern matches the word
 abbrev pub matches : List (List ℕ) → List ℕ → Bool

@@ -1,5 +1,5 @@
 //! The text functions by their names.
-ghost use Rattle.std.specs.Prelude.{◌≡◌, ◌⊎◌, ◌↔◌, Ok, Err, None, IfOk, IfErr, IsNone};
+ghost use Rattle.std.specs.Prelude.{◌≡◌, ◌⊎◌, ◌↔◌, Ok, Err, None, IfOk, IfErr, IsOk, IsOkAnd, IsNone, IsSome};
 ghost use Rattle.em_textfn.specs.Functions as functions;
 ghost use Rattle.em_textfn.specs.Functions.{value_of, index_of, positive_of, nth_of, range_of};
 ghost use Rattle.em_wordlist.specs.Words.{words_of};
@@ -68,6 +68,7 @@ fn positive(text: &Text) -> Option<usize>
 fn word(alloc: Global, n: &Text, x: &Text) -> Result<Text, TextfnNo>
     ensures ok { IfOk result (λ t. nth_of (positive_of n.now) (words_of x.now) ≡ Ok t) }
     ensures err { IfErr result (λ e. (e ≡ TextfnNo.NoMemory) ⊎ (nth_of (positive_of n.now) (words_of x.now) ≡ Err e)) }
+    ensures memory { result ≡ Err TextfnNo.NoMemory → IsOk (nth_of (positive_of n.now) (words_of x.now)) }
 {
     match positive(n) {
         Some(n) => Ok(list::word(alloc, n, x.bytes())?),
@@ -79,6 +80,7 @@ fn word(alloc: Global, n: &Text, x: &Text) -> Result<Text, TextfnNo>
 fn word_list(alloc: Global, s: &Text, e: &Text, x: &Text) -> Result<Text, TextfnNo>
     ensures ok { IfOk result (λ t. range_of (positive_of s.now) (index_of e.now) (words_of x.now) ≡ Ok t) }
     ensures err { IfErr result (λ no. (no ≡ TextfnNo.NoMemory) ⊎ (range_of (positive_of s.now) (index_of e.now) (words_of x.now) ≡ Err no)) }
+    ensures memory { result ≡ Err TextfnNo.NoMemory → IsOk (range_of (positive_of s.now) (index_of e.now) (words_of x.now)) }
 {
     match (positive(s), index(e)) {
         (Some(s), Some(e)) => Ok(list::word_list(alloc, s, e, x.bytes())?),
@@ -90,6 +92,7 @@ fn word_list(alloc: Global, s: &Text, e: &Text, x: &Text) -> Result<Text, Textfn
 fn value(alloc: Global, function: Function, args: &[Text]) -> Result<Text, TextfnNo>
     ensures ok { IfOk result (λ t. value_of function args.now ≡ Ok t) }
     ensures err { IfErr result (λ e. (e ≡ TextfnNo.NoMemory) ⊎ (value_of function args.now ≡ Err e)) }
+    ensures memory { result ≡ Err TextfnNo.NoMemory → IsOk (value_of function args.now) }
 {
     let text = match (function, args) {
         (Function::Subst, [f, t, x, ..]) => text::subst(alloc, f.bytes(), t.bytes(), x.bytes())?,
@@ -118,11 +121,15 @@ fn value(alloc: Global, function: Function, args: &[Text]) -> Result<Text, Textf
 /// the name. Arguments beyond those that it needs are ignored.
 ///
 /// The error is `BadArgument` for too few arguments, and where the first of `word` or one of the first two of `wordlist`
-/// isn't a canonical decimal number below 2^32, or the first is 0; else it is `NoMemory`.
+/// isn't a canonical decimal number below 2^32, or the first is 0; else it is `NoMemory`, which comes only where there is a
+/// text to give.
 pub fn text_function(alloc: Global, name: &[u8], args: &[Text]) -> Result<Option<Text>, TextfnNo>
     ensures ok { IfOk result (λ r. functions.text_function name.now args.now ≡ Ok r) }
     ensures err { IfErr result (λ e. (e ≡ TextfnNo.NoMemory) ⊎ (functions.text_function name.now args.now ≡ Err e)) }
     ensures none { IfOk result (λ r. IsNone r ↔ functions.function_of name.now ≡ None) }
+
+    // another name and bad arguments are told without memory
+    ensures memory { result ≡ Err TextfnNo.NoMemory → IsOkAnd (functions.text_function name.now args.now) IsSome }
 {
     match function_of(name) {
         Some(function) => Ok(Some(value(alloc, function, args)?)),

@@ -1,38 +1,35 @@
 //! The functions on words.
-ghost use Rattle.std.specs.Prelude.{◌≡◌, ◌≤◌, ◌==◌, [], ◌∷◌, ◌++◌, not, length, map, decimal, slice_get, unwrap_or, IfOk, OnOk, if◌then◌else◌};
+ghost use Rattle.std.specs.Prelude.{◌≡◌, ◌≤◌, [], not, length, map, decimal, slice_get, unwrap_or, IfOk};
 ghost use Rattle.std.specs.List.{filter};
 ghost use Rattle.em_wordlist.specs.Words.{words_of, joined};
 ghost use Rattle.em_wordlist.specs.Stems.{replaced};
 ghost use Rattle.em_textfn.specs.Texts as texts;
-ghost use Rattle.em_textfn.specs.Texts.{filled, sorted, nth_word, word_range};
+ghost use Rattle.em_textfn.specs.Texts.{nonempty, sorted, nth_word, word_range};
 
 use em_base::{NoMemory, Text};
-use em_wordlist::{join, replace, stem, texts};
+use em_wordlist::{join, join_texts, replace, stem, texts};
 use itoa::Buffer;
 use std::alloc::Global;
 
-/// Appends a word, with a space before it where there is something before it.
-fn add_word(text: &mut Text, word: &[u8]) -> Result<(), NoMemory>
-    ensures { OnOk result (text.new ≡ (if length text.old == 0 then word.now else text.old ++ 32 ∷ word.now)) }
+/// The words, where each that matches p is replaced by r with the stem put in; none that becomes empty.
+fn replaced_words(alloc: Global, p: &[u8], r: &[u8], x: &[u8]) -> Result<Vec<Text>, NoMemory>
+    ensures { IfOk result (λ v. v.items ≡ nonempty (map (replaced p.now r.now) (words_of x.now))) }
 {
-    if !text.bytes().is_empty() {
-        text.add(b" ")?;
-    }
-    text.add(word)
-}
-
-/// `patsubst p,r,x`: the words, where each that matches p is replaced by r with the stem put in; none that becomes empty.
-pub(crate) fn patsubst(alloc: Global, p: &[u8], r: &[u8], x: &[u8]) -> Result<Text, NoMemory>
-    ensures { IfOk result (λ t. t ≡ joined (filled (map (replaced p.now r.now) (words_of x.now)))) }
-{
-    let mut text = Text::new(alloc);
+    let mut kept = Vec::new(alloc);
     for word in &texts(alloc, x)? {
         let replaced = replace(alloc, p, r, word)?;
         if !replaced.bytes().is_empty() {
-            add_word(&mut text, replaced.bytes())?;
+            kept.push(replaced)?;
         }
     }
-    Ok(text)
+    Ok(kept)
+}
+
+/// `patsubst p,r,x`: those words with one space between each two.
+pub(crate) fn patsubst(alloc: Global, p: &[u8], r: &[u8], x: &[u8]) -> Result<Text, NoMemory>
+    ensures { IfOk result (λ t. t ≡ joined (nonempty (map (replaced p.now r.now) (words_of x.now)))) }
+{
+    join_texts(alloc, &replaced_words(alloc, p, r, x)?)
 }
 
 /// `strip x`: the words with one space between each two.

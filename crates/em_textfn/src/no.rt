@@ -2,7 +2,6 @@
 ghost use Rattle.std.specs.Prelude.{◌≡◌};
 ghost use Rattle.em_textfn.specs.declared.no.TextfnNo.TheVariants.{NoMemory};
 
-use std::alloc::{AllocError, AllocFailed};
 use thiserror::Error;
 
 /// Why a text function gives no text.
@@ -13,22 +12,6 @@ pub enum TextfnNo {
     BadArgument,
     #[error("out of memory")]
     NoMemory,
-}
-
-impl From<AllocError> for TextfnNo {
-    ghost from_gives = { λ _ e. e ≡ NoMemory };
-
-    fn from(_e: AllocError) -> TextfnNo {
-        TextfnNo::NoMemory
-    }
-}
-
-impl<T: Drop> From<AllocFailed<T>> for TextfnNo {
-    ghost from_gives = { λ _ e. e ≡ NoMemory };
-
-    fn from(_e: AllocFailed<T>) -> TextfnNo {
-        TextfnNo::NoMemory
-    }
 }
 
 impl From<em_base::NoMemory> for TextfnNo {

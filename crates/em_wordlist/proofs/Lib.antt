@@ -1,3 +1,3 @@
-pub mod Wording
-pub mod Spelling
-pub mod Matching
+mod Wording
+mod Spelling
+mod Matching

@@ -97,6 +97,16 @@ itself_at : (o : Option ℕ) (pattern word stem : List ℕ) → position is_perc
 itself_at None pattern word stem p h = sym h.0
 itself_at (Some i) pattern word stem p h = ap (λ (o : Option ℕ). filled_at o pattern stem) p ∙ sym h
 
+pub filled_matches : (pattern stem : List ℕ) (i : ℕ) → position is_percent pattern ≡ Some i → IsMatch pattern (filled pattern stem) stem
+filled_matches pattern stem i p = rw p refl
+
+filled_is : (o : Option ℕ) (pattern word stem : List ℕ) → IsMatchAt o pattern word stem → filled_at o pattern stem ≡ word
+filled_is None pattern word stem h = sym h.0
+filled_is (Some i) pattern word stem h = sym h
+
+pub match_is_filled : (pattern word stem : List ℕ) → IsMatch pattern word stem → filled pattern stem ≡ word
+match_is_filled pattern word stem h = filled_is (position is_percent pattern) pattern word stem h
+
 pub replaced_by_itself : (pattern word stem : List ℕ) → IsMatch pattern word stem → replaced pattern pattern word ≡ word
 replaced_by_itself pattern word stem h = replaced_of_match pattern pattern word stem h ∙ itself_at (position is_percent pattern) pattern word stem refl h
 

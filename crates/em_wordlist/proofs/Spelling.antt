@@ -2,16 +2,17 @@
 --     WordsTo text at ss      the words up to `at`, as a loop has found them
 --     texts_are               their texts are the words of the text
 --     words_are_one           there is one list of them
-use Rattle.std.proofs.Common.{◌≡◌, ◌≢◌, ℕ, ◌+◌, ◌-◌, ◌<◌, ◌≤◌, inl, inr, Bool, true, false, List, [], ◌∷◌, ◌++◌, length, map, take, drop, get_or, All, arith, refl, subst, sym, ap, ◌∙◌, get_or-drop, get_or-take, length-drop, take-append-drop, append_assoc, length-append, zero, suc, cond, ltb, Bor}
+use Rattle.std.proofs.Common.{◌≡◌, ◌≢◌, ℕ, ◌+◌, ◌-◌, ◌<◌, ◌≤◌, inl, inr, Bool, true, false, List, [], ◌∷◌, ◌++◌, length, map, take, drop, get_or, All, ◌==◌, arith, refl, subst, sym, ap, ◌∙◌, get_or-drop, get_or-take, length-drop, take-append-drop, append_assoc, length-append, zero, suc, cond, ltb}
 use Rattle.std.specs.List.{slice_split, onto_first, filter}
-use Rattle.std.proofs.lemmas.Bool.{both_ways, cases_lt, cases_order, cases_Bool, lt-ltb, ltb-true}
-use Rattle.std.proofs.lemmas.List.{get_or_append_left, drop-drop, drop_all, append-nil, length-take-le, length-map, map-append, take_more}
+use Rattle.std.proofs.lemmas.Bool.{both_ways, cases_lt, cases_order, cases_Bool, lt-ltb, ltb-true, ne_eqb}
+use Rattle.std.proofs.lemmas.List.{get_or_append_left, drop-drop, drop_all, append-nil, length-take-le, take_more}
 use Rattle.std.proofs.lemmas.List.Elements.{All-nil, All-push, All-weaker, All-head, All-tail, All-from_get_or, All-cons, All-same, All-filter, filter_passes}
 use Rattle.std.proofs.lemmas.List.Splits.{slice_split-cons_yes, slice_split-cons_no, slice_split_none, slice_split_at}
 use Rattle.std.proofs.lemmas.List.Quantifiers.{Any-push}
 use Rattle.em_base.specs.declared.place.Span.{Span}
 use Rattle.em_base.specs.Spans.{cut}
-use Rattle.em_wordlist.specs.Words.{is_blank, IsWord, IsApart, Rising, IsHeld, AreWords, words_of, joined}
+use Rattle.em_base.specs.Blanks.{is_blank}
+use Rattle.em_wordlist.specs.Words.{IsWord, IsApart, Rising, IsHeld, AreWords, words_of, joined}
 
 pub record WordsTo (text : List ℕ) (at : ℕ) (ss : List Span) : Type 0 where
   pub within : at ≤ length text
@@ -236,27 +237,16 @@ words_of_joined (w ∷ v ∷ ws) h =
 pub joined_and_cut : (text : List ℕ) → words_of (joined (words_of text)) ≡ words_of text
 joined_and_cut text = words_of_joined (words_of text) (words_filled text)
 
--- one word more, as a loop joins them
-pub joined_more : (ws : List (List ℕ)) (w : List ℕ) → 0 < length ws → joined (ws ++ w ∷ []) ≡ joined ws ++ (32 ∷ w)
+-- ---- one text more, as a loop joins them
+
+joined_more : (ws : List (List ℕ)) (w : List ℕ) → 0 < length ws → joined (ws ++ w ∷ []) ≡ joined ws ++ (32 ∷ w)
 joined_more [] w h = absurd (omega arith)
 joined_more (u ∷ []) w h = refl
 joined_more (u ∷ v ∷ ws) w h = ap (λ r. u ++ (32 ∷ r)) (joined_more (v ∷ ws) w (omega arith)) ∙ sym (append_assoc u (32 ∷ joined (v ∷ ws)) (32 ∷ w))
 
-joined_push : (rs : List (Bor (List ℕ))) (i : ℕ) (d : Bor (List ℕ)) → i < length rs → map (λ r. r.now) (take (i + 1) rs) ≡ map (λ r. r.now) (take i rs) ++ (get_or rs i d).now ∷ []
-joined_push rs i d low = ap (map (λ r. r.now)) (take_more rs i d low) ∙ map-append (λ r. r.now) (take i rs) (get_or rs i d ∷ [])
-
--- what a loop has made of the first i words, and what it makes of the next one behind `mid`
-pub joined_first : (rs : List (Bor (List ℕ))) (i : ℕ) (d : Bor (List ℕ)) (text mid : List ℕ) → i < length rs → i ≡ 0 → text ≡ joined (map (λ r. r.now) (take i rs)) → mid ≡ text → mid ++ (get_or rs i d).now ≡ joined (map (λ r. r.now) (take (i + 1) rs))
-joined_first rs i d text mid low first is same =
-    let none : take i rs ≡ [] = ap (λ k. take k rs) first in
-    let empty : mid ≡ [] = same ∙ is ∙ ap (λ (qs : List (Bor (List ℕ))). joined (map (λ r. r.now) qs)) none in
-    ap (λ (t : List ℕ). t ++ (get_or rs i d).now) empty
-    ∙ sym (ap joined (joined_push rs i d low ∙ ap (λ (qs : List (Bor (List ℕ))). map (λ r. r.now) qs ++ (get_or rs i d).now ∷ []) none))
-
-pub joined_next : (rs : List (Bor (List ℕ))) (i : ℕ) (d : Bor (List ℕ)) (text mid : List ℕ) → i < length rs → 0 < i → text ≡ joined (map (λ r. r.now) (take i rs)) → mid ≡ text ++ 32 ∷ [] → mid ++ (get_or rs i d).now ≡ joined (map (λ r. r.now) (take (i + 1) rs))
-joined_next rs i d text mid low more is spaced =
-    let l : length (map (λ (r : Bor (List ℕ)). r.now) (take i rs)) ≡ i = length-map (take i rs) (λ r. r.now) ∙ length-take-le i rs (omega arith) in
-    ap (λ (t : List ℕ). t ++ (get_or rs i d).now) spaced
-    ∙ append_assoc text (32 ∷ []) (get_or rs i d).now
-    ∙ ap (λ (t : List ℕ). t ++ (32 ∷ (get_or rs i d).now)) is
-    ∙ sym (ap joined (joined_push rs i d low) ∙ joined_more (map (λ r. r.now) (take i rs)) (get_or rs i d).now (omega arith))
+pub joined_next : (ws : List (List ℕ)) (i : ℕ) (d : List ℕ) → i < length ws → joined (take (i + 1) ws) ≡ joined (take i ws) ++ cond (i == 0) (get_or ws i d) (32 ∷ get_or ws i d)
+joined_next ws zero d low = ap joined (take_more ws 0 d low)
+joined_next ws (suc i) d low =
+    ap joined (take_more ws (suc i) d low)
+    ∙ joined_more (take (suc i) ws) (get_or ws (suc i) d) (omega (arith, length-take-le (suc i) ws (omega arith)))
+    ∙ sym (ap (λ (b : Bool). joined (take (suc i) ws) ++ cond b (get_or ws (suc i) d) (32 ∷ get_or ws (suc i) d)) (ne_eqb (suc i) 0 (λ e. omega arith)))

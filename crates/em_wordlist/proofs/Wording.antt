@@ -5,7 +5,8 @@ use Rattle.std.proofs.lemmas.Bool.{not-true, not-false, both_ways, cases_eq, cas
 use Rattle.std.proofs.lemmas.List.{take_rest}
 use Rattle.std.proofs.lemmas.List.Quantifiers.{position-Some}
 use Rattle.std.proofs.lemmas.List.Sums.{fails_before_first}
-use Rattle.em_wordlist.specs.Words.{is_blank, IsWord, IsApart}
+use Rattle.em_base.specs.Blanks.{is_blank}
+use Rattle.em_wordlist.specs.Words.{IsWord, IsApart}
 
 position-None : (p : ℕ → Bool) (xs : List ℕ) (i : ℕ) → position p xs ≡ None → i < length xs → p (get_or xs i 0) ≡ false
 position-None p xs i none low =

@@ -1,14 +1,11 @@
 -- The words of a text: its longest runs without blanks.
---     is_blank b          a space or a tab; a newline is none
 --     AreWords text ss    the spans are the words of the text, in order
 --     words_of text       the words, as texts
 --     joined ws           the words with one space between each two
-use Rattle.std.specs.Prelude.{◌≡◌, ℕ, ◌-◌, ◌<◌, ◌≤◌, ◌==◌, ◌||◌, ◌⊎◌, nat_lt, Bool, true, false, List, [], ◌∷◌, length, All, Any, slice_index}
+use Rattle.std.specs.Prelude.{◌≡◌, ℕ, ◌-◌, ◌<◌, ◌≤◌, ◌⊎◌, nat_lt, true, false, List, [], ◌∷◌, length, All, Any, slice_index}
 use Rattle.std.specs.List.{slice_split, filter, join_with_byte}
 use Rattle.em_base.specs.declared.place.Span.{Span}
-
-abbrev pub is_blank : ℕ → Bool
-is_blank b = (b == 32) || (b == 9)
+use Rattle.em_base.specs.Blanks.{is_blank}
 
 -- a run without blanks that isn't empty, and that ends on both sides at a blank or at an end of the text
 pub record IsWord (text : List ℕ) (s : Span) : Type 0 where

@@ -4,7 +4,8 @@ ghost use Rattle.std.specs.List.{position};
 ghost use Rattle.em_base.specs.declared.place.Span.{Span};
 ghost use Rattle.em_base.specs.Spans.{cut};
 ghost use Rattle.em_wordlist.specs.Stems.{is_percent, IsMatch, filled, replaced};
-ghost use Rattle.em_wordlist.specs.Words.{is_blank, AreWords, words_of, joined};
+ghost use Rattle.em_base.specs.Blanks.{is_blank};
+ghost use Rattle.em_wordlist.specs.Words.{AreWords, words_of, joined};
 
 /// A text has one list of words.
 pub fn law_words_are_one()
@@ -29,6 +30,13 @@ pub fn law_words()
 /// A word that matches a pattern with a `%` becomes the other text with its stem put in.
 pub fn law_stem_is_put_back()
     ensures { (pattern to word stem : List ℕ) (i : ℕ) → position is_percent pattern ≡ Some i → IsMatch pattern word stem → replaced pattern to word ≡ filled to stem }
+{}
+
+/// A pattern with a `%` that is filled with a stem matches with this stem, and a word that matches is the pattern filled with
+/// its stem.
+pub fn law_filled_matches()
+    ensures matches { (pattern stem : List ℕ) (i : ℕ) → position is_percent pattern ≡ Some i → IsMatch pattern (filled pattern stem) stem }
+    ensures only { (pattern word stem : List ℕ) → IsMatch pattern word stem → filled pattern stem ≡ word }
 {}
 
 /// A word that matches, replaced by the pattern itself, stays.

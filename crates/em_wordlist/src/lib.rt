@@ -5,8 +5,8 @@ pub mod laws;
 mod pattern;
 mod word;
 
-pub use pattern::{replace, stem};
-pub use word::{join, texts, words};
+pub use pattern::{fill, replace, stem};
+pub use word::{join, join_texts, texts, words};
 
 #[cfg(test)]
 mod tests;

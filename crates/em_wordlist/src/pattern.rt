@@ -2,7 +2,7 @@
 ghost use Rattle.std.specs.Prelude.{◌≡◌, ℕ, ◌↔◌, List, IfOk, IfSome, IsNone};
 ghost use Rattle.std.specs.List.{position};
 ghost use Rattle.em_base.specs.Spans.{cut};
-ghost use Rattle.em_wordlist.specs.Stems.{is_percent, IsMatch, stem_of, replaced};
+ghost use Rattle.em_wordlist.specs.Stems.{is_percent, IsMatch, stem_of, filled, replaced};
 
 use em_base::{NoMemory, Span, Text};
 use std::alloc::Global;
@@ -41,6 +41,19 @@ pub fn stem(pattern: &[u8], word: &[u8]) -> Option<Span>
     }
 }
 
+/// The pattern with the stem for its first `%`. A pattern without `%` stands as it is.
+pub fn fill(alloc: Global, pattern: &[u8], stem: &[u8]) -> Result<Text, NoMemory>
+    ensures { IfOk result (λ t. t ≡ filled pattern.now stem.now) }
+{
+    let Some(at) = percent(pattern) else {
+        return Text::from_slice(alloc, pattern);
+    };
+    let mut text = Text::from_slice(alloc, &pattern[..at])?;
+    text.add(stem)?;
+    text.add(&pattern[at + 1..])?;
+    Ok(text)
+}
+
 /// The word, and where it matches the pattern the text `to` with the stem for its first `%`. A pattern without `%` has no
 /// stem to give: then `to` stands as it is.
 pub fn replace(alloc: Global, pattern: &[u8], to: &[u8], word: &[u8]) -> Result<Text, NoMemory>
@@ -49,13 +62,8 @@ pub fn replace(alloc: Global, pattern: &[u8], to: &[u8], word: &[u8]) -> Result<
     let Some(span) = stem(pattern, word) else {
         return Text::from_slice(alloc, word);
     };
-    match (percent(pattern), percent(to)) {
-        (Some(_), Some(at)) => {
-            let mut text = Text::from_slice(alloc, &to[..at])?;
-            text.add(span.of(word))?;
-            text.add(&to[at + 1..])?;
-            Ok(text)
-        }
-        _ => Text::from_slice(alloc, to),
+    match percent(pattern) {
+        Some(_) => fill(alloc, to, span.of(word)),
+        None => Text::from_slice(alloc, to),
     }
 }

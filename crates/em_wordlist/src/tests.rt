@@ -1,5 +1,5 @@
 use super::*;
-use em_base::Span;
+use em_base::{Span, Text};
 use std::test::Fail;
 
 #[test]
@@ -7,13 +7,21 @@ fn words_stand_between_blanks(rt: HostRuntime) -> Result<(), Fail> {
     let spans = words(rt.alloc(), b" a  bc ")?;
     let want = [Span { start: 1, end: 2 }, Span { start: 4, end: 6 }];
     assert_eq!(rt; spans.as_slice(), want.as_slice());
+    let pieces = texts(rt.alloc(), b"\ta\nb \t\tc")?;
+    assert_eq!(rt; join(rt.alloc(), &pieces)?.bytes(), b"a\nb c".as_slice());
     Ok(())
 }
 
 #[test]
-fn a_newline_is_no_blank(rt: HostRuntime) -> Result<(), Fail> {
-    let pieces = texts(rt.alloc(), b"\ta\nb \t\tc")?;
-    assert_eq!(rt; join(rt.alloc(), &pieces)?.bytes(), b"a\nb c".as_slice());
+fn empty_texts_are_joined_too(rt: HostRuntime) -> Result<(), Fail> {
+    let mut texts = Vec::new(rt.alloc());
+    for text in [b"".as_slice(), b"a", b"", b"b c", b""] {
+        texts.push(Text::from_slice(rt.alloc(), text)?)?;
+    }
+    assert_eq!(rt;
+        join_texts(rt.alloc(), &texts)?.bytes(),
+        b" a  b c ".as_slice()
+    );
     Ok(())
 }
 
@@ -21,13 +29,13 @@ fn a_newline_is_no_blank(rt: HostRuntime) -> Result<(), Fail> {
 fn a_stem_stands_for_the_first_percent(rt: HostRuntime) {
     for (pattern, word, want) in [
         (b"%.c".as_slice(), b"d/x.c".as_slice(), Some((0, 3))),
-        (b"ab%ba".as_slice(), b"aba".as_slice(), None),
-        (b"ab%ba".as_slice(), b"abba".as_slice(), Some((2, 2))),
-        (b"%%".as_slice(), b"a%".as_slice(), Some((0, 1))),
-        (b"%%".as_slice(), b"a".as_slice(), None),
-        (b"a".as_slice(), b"a".as_slice(), Some((0, 0))),
-        (b"a".as_slice(), b"ab".as_slice(), None),
-        (b"\\%".as_slice(), b"\\x".as_slice(), Some((1, 2))),
+        (b"ab%ba", b"aba", None),
+        (b"ab%ba", b"abba", Some((2, 2))),
+        (b"%%", b"a%", Some((0, 1))),
+        (b"%%", b"a", None),
+        (b"a", b"a", Some((0, 0))),
+        (b"a", b"ab", None),
+        (b"\\%", b"\\x", Some((1, 2))),
     ] {
         let want = want.map(|(start, end)| Span { start, end });
         assert_eq!(rt; stem(pattern, word), want);
@@ -52,5 +60,10 @@ fn the_stem_is_put_into_the_other_text(rt: HostRuntime) -> Result<(), Fail> {
     ] {
         assert_eq!(rt; replace(rt.alloc(), pattern, to, word)?.bytes(), want);
     }
+    assert_eq!(rt;
+        fill(rt.alloc(), b"%.o", b"d/x")?.bytes(),
+        b"d/x.o".as_slice()
+    );
+    assert_eq!(rt; fill(rt.alloc(), b"x.o", b"y")?.bytes(), b"x.o".as_slice());
     Ok(())
 }

@@ -1,17 +1,12 @@
 //! Words of a text.
-ghost use Rattle.std.specs.Prelude.{◌≡◌, ℕ, ◌<◌, ◌≤◌, true, not, map, length, slice_index, IfOk, MatchOption};
+ghost use Rattle.std.specs.Prelude.{◌≡◌, ℕ, ◌<◌, ◌≤◌, ◌==◌, ◌∷◌, ◌++◌, true, not, map, length, slice_index, IfOk, OnOk, MatchOption, if◌then◌else◌};
 ghost use Rattle.std.specs.List.{position};
 ghost use Rattle.em_base.specs.Spans.{cut};
-ghost use Rattle.em_wordlist.specs.Words.{is_blank, IsWord, IsApart, AreWords, words_of, joined};
+ghost use Rattle.em_base.specs.Blanks.{is_blank};
+ghost use Rattle.em_wordlist.specs.Words.{IsWord, IsApart, AreWords, words_of, joined};
 
-use em_base::{NoMemory, Span, Text};
+use em_base::{NoMemory, Span, Text, is_blank};
 use std::alloc::Global;
-
-fn is_blank(b: u8) -> bool
-    ensures { result ≡ is_blank b }
-{
-    b == b' ' || b == b'\t'
-}
 
 /// Where the first blank stands.
 fn blank_at(text: &[u8]) -> Option<usize>
@@ -71,16 +66,34 @@ pub fn texts<'a>(alloc: Global, text: &'a [u8]) -> Result<Vec<&'a [u8]>, NoMemor
     Ok(texts)
 }
 
-/// The words with one space between each two.
+/// Appends a text behind so many others that are joined: with a space before it, unless it is the first.
+fn add_next(joined: &mut Text, before: usize, next: &[u8]) -> Result<(), NoMemory>
+    ensures { OnOk result (joined.new ≡ joined.old ++ (if before == 0 then next.now else 32 ∷ next.now)) }
+{
+    if before > 0 {
+        joined.add(b" ")?;
+    }
+    joined.add(next)
+}
+
+/// The words with one space between each two, also where some are empty.
 pub fn join(alloc: Global, words: &[&[u8]]) -> Result<Text, NoMemory>
     ensures { IfOk result (λ t. t ≡ joined (map (λ w. w.now) words.now)) }
 {
     let mut text = Text::new(alloc);
     for (i, word) in words.iter().enumerate() {
-        if i > 0 {
-            text.add(b" ")?;
-        }
-        text.add(word)?;
+        add_next(&mut text, i, word)?;
+    }
+    Ok(text)
+}
+
+/// The texts with one space between each two, also where some are empty.
+pub fn join_texts(alloc: Global, texts: &[Text]) -> Result<Text, NoMemory>
+    ensures { IfOk result (λ t. t ≡ joined texts.now) }
+{
+    let mut text = Text::new(alloc);
+    for (i, next) in texts.iter().enumerate() {
+        add_next(&mut text, i, next.bytes())?;
     }
     Ok(text)
 }

@@ -6,5 +6,5 @@ use Rattle.em_refs.proofs.read.closing.Given as goal
 abbrev pub invariant-loop-at : goal.invariant-loop-at
 invariant-loop-at l = record {
   few : l.deep ≤ l.at;
-  goes_on : (from : ℕ) → parts_from (inside from l.bracket l.close 0) (from + 2) l.rest ≡ parts_from (inside from l.bracket l.close l.deep) (from + 2 + l.at) (drop l.at l.rest);
+  goes_on : (from : ℕ) → parts_from (inside from l.bracket 0) (from + 2) l.rest ≡ parts_from (inside from l.bracket l.deep) (from + 2 + l.at) (drop l.at l.rest);
 }

@@ -3,4 +3,4 @@ use Rattle.em_wordlist.specs.Words.{joined}
 use Rattle.em_wordlist.proofs.word.join.Given as goal
 
 abbrev pub invariant-loop-i : goal.invariant-loop-i
-invariant-loop-i l = l.text ≡ joined (map (λ w. w.now) (take l.i l.words))
+invariant-loop-i l = l.text ≡ joined (take l.i (map (λ w. w.now) l.words))

@@ -1,6 +1,6 @@
 use Rattle.std.proofs.Common.{◌+◌, ◌∙◌, not, length, sym, arith}
 use Rattle.std.proofs.lemmas.Bool.{not-false}
-use Rattle.em_wordlist.specs.Words.{is_blank}
+use Rattle.em_base.specs.Blanks.{is_blank}
 use Rattle.em_wordlist.proofs.Wording.{runs_to, runs_out, word_of_runs}
 use Rattle.em_wordlist.proofs.word.next_word.Goals as goal
 

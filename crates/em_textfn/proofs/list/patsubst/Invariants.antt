@@ -1,8 +1,0 @@
-use Rattle.std.proofs.Common.{◌≡◌, map, take}
-use Rattle.em_wordlist.specs.Words.{joined}
-use Rattle.em_wordlist.specs.Stems.{replaced}
-use Rattle.em_textfn.specs.Texts.{filled}
-use Rattle.em_textfn.proofs.list.patsubst.Given as goal
-
-abbrev pub invariant-loop-word : goal.invariant-loop-word
-invariant-loop-word l = l.text ≡ joined (filled (map (λ w. replaced l.p l.r w.now) (take l.word-index l.word-items)))
