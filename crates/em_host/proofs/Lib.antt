@@ -1,3 +1,2 @@
-pub mod Counts
 mod Named
 pub mod Telling

@@ -1,6 +1,8 @@
 //! The outside: files under names, and one output.
 #![tactic(auto)]
 
+mod call;
+mod calls;
 mod faults;
 mod host;
 mod mem;
@@ -8,6 +10,7 @@ mod no;
 mod real;
 mod table;
 
+pub use call::{Call, Called};
 pub use host::Host;
 pub use mem::MemHost;
 pub use no::HostNo;

@@ -1,12 +1,13 @@
 //! A host over memory.
-ghost use Rattle.std.specs.Prelude.{◌≡◌, ◌↔◌, ◌++◌, ◌∷◌, [], Some, Contains, IsTrue, IsErrOf, IfOk, IfErr, OnOk, OnErr, is_err};
+ghost use Rattle.std.specs.Prelude.{◌≡◌, ◌↔◌, ◌++◌, ◌∷◌, [], Some, Contains, IsTrue, IsErr, IsErrOf, IfOk, OnOk, OnErr};
 ghost use Rattle.std.specs.Option.{option_copied};
 ghost use Rattle.std.specs.FinMap as map;
 ghost use Rattle.em_host.specs.Outside.{Takes, Replaces, Prints, contents};
-ghost use Rattle.em_host.specs.Faults.{count_after, next_count};
-ghost use Rattle.em_host.specs.Memory.{Course, nothing, with_files};
+ghost use Rattle.em_host.specs.Faults.{count_after};
+ghost use Rattle.em_host.specs.Memory.{number_of, nothing, with_files};
 
-use crate::faults::faults_after;
+use crate::call::{Call, Called};
+use crate::calls::Calls;
 use crate::host::Host;
 use crate::no::HostNo;
 use crate::table::FileTable;
@@ -14,25 +15,17 @@ use em_base::{NoMemory, Text};
 use std::alloc::Global;
 use std::marker::Model;
 
-/// Files and one output in memory, for tests. Chosen calls on it fail.
+/// Files and one output in memory, for tests. Chosen calls on it fail, and it notes its calls.
 ///
 /// A call's number is how many calls on the host were made before it. `put` and `fail_at` set the
-/// host up and are no calls. A call that fails because it was chosen changes neither the files nor
-/// what was printed.
+/// host up and are no calls. A call is noted before it acts: where there is no memory for that, it
+/// answers `NoMemory` and does nothing. A call that fails because it was chosen changes neither the
+/// files nor what was printed.
 #[derive(Drop)]
 pub struct MemHost {
     files: FileTable,
     printed: Text,
-    course: Calls,
-}
-
-/// Which calls were made, and which are to fail.
-#[derive(Drop)]
-struct Calls {
-    made: u64,
-    failing: Vec<u64>,
-    faults: u64,
-    failed: bool,
+    calls: Calls,
 }
 
 impl Model for MemHost {
@@ -43,31 +36,10 @@ impl Model for MemHost {
     ghost coded = { memory_code };
 
     ghost view = { λ h. record {
-      outside = record { files = h.files; printed = h.printed; failed = h.course.failed };
-      faults = h.course.faults;
-      calls = h.course.made;
-      failing = h.course.failing.items;
+      outside = record { files = h.files; printed = h.printed; calls = h.calls.noted.items; lost = h.calls.lost; failed = h.calls.failed };
+      faults = h.calls.faults;
+      failing = h.calls.failing.items;
     } };
-}
-
-impl Calls {
-    /// Counts a call, and tells whether it is to fail.
-    fn begin(&mut self) -> bool
-        ensures fails { IsTrue result ↔ Contains self.old.failing.items self.old.made }
-        ensures counted { self.new ≡ record self.old { made = next_count self.old.made } }
-    {
-        let fails = self.failing.contains(&self.made);
-        self.made = self.made.saturating_add(1);
-        fails
-    }
-
-    /// Keeps how the call ended.
-    fn end<T>(&mut self, answer: &Result<T, HostNo>)
-        ensures { self.new ≡ record self.old { faults = count_after answer.now self.old.faults; failed = is_err answer.now } }
-    {
-        self.faults = faults_after(self.faults, answer);
-        self.failed = answer.is_err();
-    }
 }
 
 impl MemHost {
@@ -78,8 +50,9 @@ impl MemHost {
         MemHost {
             files: FileTable::new(alloc),
             printed: Text::new(alloc),
-            course: Calls {
-                made: 0,
+            calls: Calls {
+                noted: Vec::new(alloc),
+                lost: 0,
                 failing: Vec::new(alloc),
                 faults: 0,
                 failed: false,
@@ -101,7 +74,7 @@ impl MemHost {
         ensures ok { OnOk result (self.new ≡ record self.old { failing = self.old.failing ++ number ∷ [] }) }
         ensures err { OnErr result (self.new ≡ self.old) }
     {
-        self.course.failing.push(number)?;
+        self.calls.failing.push(number)?;
         Ok(())
     }
 
@@ -119,11 +92,11 @@ impl MemHost {
         self.printed.bytes()
     }
 
-    /// How many calls were made, up to 2^64 - 1.
-    pub fn calls(&self) -> u64
-        ensures { result ≡ self.now.calls }
+    /// The calls that were noted, in order.
+    pub fn calls(&self) -> &[Called]
+        ensures { result.now ≡ self.now.outside.calls }
     {
-        self.course.made
+        self.calls.noted.as_slice()
     }
 }
 
@@ -133,59 +106,89 @@ impl Host for MemHost {
     ghost faults = { λ m. m.faults };
 
     fn take(&mut self, alloc: Global, name: &[u8]) -> Result<Option<Vec<u8>>, HostNo>
-        ensures fails { IsErrOf result HostNo.Failed ↔ Contains self.old.failing self.old.calls }
+        ensures chosen { Contains self.old.failing (number_of self.old.outside) → IsErr result }
+        ensures fails { IsErrOf result HostNo.Failed → Contains self.old.failing (number_of self.old.outside) }
         ensures takes { Takes name.now (contents result) self.old.outside self.new.outside }
         ensures faults { self.new.faults ≡ count_after result self.old.faults }
-        ensures course { Course self.old self.new }
+        ensures failing { self.new.failing ≡ self.old.failing }
     {
-        let answer = if self.course.begin() {
-            Err(HostNo::Failed)
-        } else {
-            copied(alloc, self.files.get(name))
-        };
-        self.course.end(&answer);
+        let begun = self.calls.begin(Call::take(alloc, name))?;
+        let answer = copied(alloc, begun.fails, self.files.get(name));
+        self.calls.end(begun.call, &answer);
         answer
     }
 
     fn replace(&mut self, alloc: Global, name: &[u8], bytes: &[u8]) -> Result<(), HostNo>
-        ensures fails { IsErrOf result HostNo.Failed ↔ Contains self.old.failing self.old.calls }
+        ensures chosen { Contains self.old.failing (number_of self.old.outside) → IsErr result }
+        ensures fails { IsErrOf result HostNo.Failed → Contains self.old.failing (number_of self.old.outside) }
         ensures replaces { Replaces name.now bytes.now result self.old.outside self.new.outside }
         ensures faults { self.new.faults ≡ count_after result self.old.faults }
-        ensures course { Course self.old self.new }
+        ensures failing { self.new.failing ≡ self.old.failing }
     {
-        let answer = if self.course.begin() {
-            Err(HostNo::Failed)
-        } else {
-            self.files.insert(alloc, name, bytes).map_err(HostNo::from)
-        };
-        self.course.end(&answer);
+        let begun = self.calls.begin(Call::replace(alloc, name, bytes))?;
+        let answer = written(alloc, begun.fails, &mut self.files, name, bytes);
+        self.calls.end(begun.call, &answer);
         answer
     }
 
     fn print(&mut self, bytes: &[u8]) -> Result<(), HostNo>
-        ensures fails { IsErrOf result HostNo.Failed ↔ Contains self.old.failing self.old.calls }
+        ensures chosen { Contains self.old.failing (number_of self.old.outside) → IsErr result }
+        ensures fails { IsErrOf result HostNo.Failed → Contains self.old.failing (number_of self.old.outside) }
         ensures prints { Prints bytes.now result self.old.outside self.new.outside }
         ensures whole_or_nothing { OnErr result (self.new.outside.printed ≡ self.old.outside.printed) }
         ensures faults { self.new.faults ≡ count_after result self.old.faults }
-        ensures course { Course self.old self.new }
+        ensures failing { self.new.failing ≡ self.old.failing }
     {
-        let answer = if self.course.begin() {
-            Err(HostNo::Failed)
-        } else {
-            self.printed.add(bytes).map_err(HostNo::from)
-        };
-        self.course.end(&answer);
+        let alloc = *self.calls.noted.allocator();
+        let begun = self.calls.begin(Call::print(alloc, bytes))?;
+        let answer = appended(begun.fails, &mut self.printed, bytes);
+        self.calls.end(begun.call, &answer);
         answer
     }
 }
 
-/// A copy of the bytes, where there are any.
-fn copied(alloc: Global, bytes: Option<&[u8]>) -> Result<Option<Vec<u8>>, HostNo>
+/// A copy of the bytes, where there are any, unless the call is to fail.
+fn copied(alloc: Global, fails: bool, bytes: Option<&[u8]>) -> Result<Option<Vec<u8>>, HostNo>
+    ensures fails { IsErrOf result HostNo.Failed ↔ IsTrue fails }
     ensures copy { IfOk (contents result) (λ copy. copy ≡ option_copied bytes.entry) }
-    ensures memory { IfErr result (λ e. e ≡ HostNo.NoMemory) }
 {
+    if fails {
+        return Err(HostNo::Failed);
+    }
     match bytes {
         Some(bytes) => Ok(Some(Vec::from_slice(alloc, bytes)?)),
         None => Ok(None),
     }
+}
+
+/// Makes the file these bytes, unless the call is to fail.
+fn written(
+    alloc: Global,
+    fails: bool,
+    files: &mut FileTable,
+    name: &[u8],
+    bytes: &[u8],
+) -> Result<(), HostNo>
+    ensures fails { IsErrOf result HostNo.Failed ↔ IsTrue fails }
+    ensures ok { OnOk result (files.new ≡ map.insert files.old name.now bytes.now) }
+    ensures err { OnErr result (files.new ≡ files.old) }
+{
+    if fails {
+        return Err(HostNo::Failed);
+    }
+    files.insert(alloc, name, bytes)?;
+    Ok(())
+}
+
+/// Appends the bytes, unless the call is to fail.
+fn appended(fails: bool, printed: &mut Text, bytes: &[u8]) -> Result<(), HostNo>
+    ensures fails { IsErrOf result HostNo.Failed ↔ IsTrue fails }
+    ensures ok { OnOk result (printed.new ≡ printed.old ++ bytes.now) }
+    ensures err { OnErr result (printed.new ≡ printed.old) }
+{
+    if fails {
+        return Err(HostNo::Failed);
+    }
+    printed.add(bytes)?;
+    Ok(())
 }

@@ -1,5 +1,6 @@
 //! The real outside: the system's files and standard output.
-ghost use Rattle.std.specs.Prelude.{◌≡◌, None};
+ghost use Rattle.std.specs.Prelude.{◌≡◌, ℕ, None, take, IfOk, OnOk, OnErr};
+ghost use Rattle.std.specs.Io.KnownBytes.{Appends, Consumes, IsAtEnd};
 
 use crate::faults::faults_after;
 use crate::host::Host;
@@ -12,11 +13,8 @@ use std::path::{Path, PathBuf};
 use std::rt::Files;
 use std::{fs, io, str};
 
-/// How many reads or writes one call makes at most. One that needs more fails.
+/// How many writes one call makes at most. One that needs more fails.
 const MOST_TURNS: u64 = 4_294_967_296;
-
-/// How many bytes one read asks for.
-const PIECE_SIZE: usize = 65_536;
 
 /// How many names are tried for a new file.
 const MOST_NAMES: u32 = 1_000;
@@ -82,7 +80,10 @@ fn path_of(name: &[u8]) -> Result<&str, HostNo> {
 /// The bytes of a file, or None where the system says that there is no such file.
 fn take_file<R: Files>(rt: &R, alloc: Global, name: &[u8]) -> Result<Option<Vec<u8>>, HostNo> {
     match fs::open(rt, path_of(name)?) {
-        Ok(mut file) => Ok(Some(read_whole(alloc, &mut file)?)),
+        Ok(mut file) => {
+            let length = file.metadata()?.len() as usize;
+            Ok(Some(read_whole(alloc, &mut file, length.saturating_add(1))?))
+        }
         Err(e) => {
             if e.kind() == ErrorKind::NotFound {
                 Ok(None)
@@ -135,26 +136,25 @@ fn fill<F: Write + OpenFile>(file: &mut F, bytes: &[u8]) -> Result<(), HostNo> {
     Ok(())
 }
 
-/// Everything that is left to read.
-fn read_whole(alloc: Global, from: &mut impl Read) -> Result<Vec<u8>, HostNo> {
-    let mut piece = vec![in alloc; 0u8; PIECE_SIZE]?;
-    let mut whole = Vec::new(alloc);
-    for _ in 0..MOST_TURNS {
-        match from.read(&mut piece) {
-            Ok(0) => return Ok(whole),
-            Ok(n) => whole.extend_from_slice(&piece[..n])?,
-            Err(e) => go_on_after(e)?,
-        }
-    }
-    Err(HostNo::Failed)
+/// Everything that is left to read, with room for so many bytes at once.
+fn read_whole<R: Read>(alloc: Global, from: &mut R, room: usize) -> Result<Vec<u8>, HostNo>
+    ensures whole { IfOk result (λ bytes. Consumes (R.remaining from.old) (R.remaining from.new) bytes.items) }
+    ensures end { OnOk result (IsAtEnd (R.remaining from.new)) }
+{
+    let mut whole = Vec::with_capacity(alloc, room)?;
+    from.read_to_end(&mut whole)?;
+    Ok(whole)
 }
 
 /// Writes all of the bytes. On Err a front of them was written.
-fn write_whole(to: &mut impl Write, bytes: &[u8]) -> Result<(), HostNo> {
+fn write_whole<W: Write>(to: &mut W, bytes: &[u8]) -> Result<(), HostNo>
+    ensures whole { OnOk result (Appends (W.contents to.old) (W.contents to.new) bytes.now) }
+    ensures front { OnErr result ((n : ℕ) × Appends (W.contents to.old) (W.contents to.new) (take n bytes.now)) }
+{
     let mut rest = bytes;
     for _ in 0..MOST_TURNS {
         if rest.is_empty() {
-            break;
+            return Ok(());
         }
         match to.write(rest) {
             Ok(0) => return Err(HostNo::Failed),
@@ -162,14 +162,10 @@ fn write_whole(to: &mut impl Write, bytes: &[u8]) -> Result<(), HostNo> {
             Err(e) => go_on_after(e)?,
         }
     }
-    if rest.is_empty() {
-        Ok(())
-    } else {
-        Err(HostNo::Failed)
-    }
+    Err(HostNo::Failed)
 }
 
-/// Only a read or write that a signal interrupted is tried again.
+/// Only a write that a signal interrupted is tried again.
 fn go_on_after(e: Error) -> Result<(), HostNo> {
     if e.kind() == ErrorKind::Interrupted {
         Ok(())

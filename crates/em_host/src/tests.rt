@@ -1,50 +1,47 @@
 use super::*;
+use crate::no::HostNo;
+use em_base::{NoMemory, Seq};
+use std::alloc::Global;
 use std::test::Fail;
 
-#[test]
-fn a_memory_host_keeps_files(rt: HostRuntime) -> Result<(), Fail> {
-    let mut host = MemHost::new(rt.alloc());
-    host.put(rt.alloc(), b"a", b"1")?;
-    host.replace(rt.alloc(), b"b", b"2")?;
-    host.replace(rt.alloc(), b"a", b"3")?;
-    assert_eq!(rt; host.file(b"a").ok_or("absent")?, b"3".as_slice());
-    assert_eq!(rt; host.file(b"b").ok_or("absent")?, b"2".as_slice());
-    assert!(rt; host.file(b"c").is_none());
-    assert_eq!(rt; host.calls(), 2);
-    Ok(())
+/// The calls with these answers, in order.
+fn noted(
+    alloc: Global,
+    calls: [(Result<Call, NoMemory>, bool); 6],
+) -> Result<Seq<Called>, NoMemory> {
+    let mut noted = Seq::new(alloc);
+    for (call, ok) in calls {
+        noted.push(Called { call: call?, ok })?;
+    }
+    Ok(noted)
 }
 
 #[test]
-fn a_memory_host_gives_files(rt: HostRuntime) -> Result<(), Fail> {
-    let mut host = MemHost::new(rt.alloc());
-    host.put(rt.alloc(), b"a", b"1")?;
-    let bytes = host.take(rt.alloc(), b"a")?.ok_or("absent")?;
-    assert_eq!(rt; bytes.as_slice(), b"1".as_slice());
-    assert!(rt; host.take(rt.alloc(), b"b")?.is_none());
-    Ok(())
-}
-
-#[test]
-fn a_memory_host_prints_and_fails_where_it_is_told(rt: HostRuntime) -> Result<(), Fail> {
-    let mut host = MemHost::new(rt.alloc());
+fn a_memory_host_keeps_files_output_and_calls(rt: HostRuntime) -> Result<(), Fail> {
+    let alloc = rt.alloc();
+    let mut host = MemHost::new(alloc);
+    host.put(alloc, b"a", b"1")?;
     host.fail_at(1)?;
+    host.fail_at(3)?;
+    host.replace(alloc, b"b", b"2")?;
+    let lost = host.replace(alloc, b"a", b"3");
     host.print(b"x = 1\n")?;
-    assert!(rt; host.print(b"lost") == Err(HostNo::Failed));
-    host.print(b"y\n")?;
-    assert_eq!(rt; host.printed(), b"x = 1\ny\n".as_slice());
-    assert_eq!(rt; host.calls(), 3);
-    Ok(())
-}
-
-#[test]
-fn a_failing_call_keeps_the_files(rt: HostRuntime) -> Result<(), Fail> {
-    let mut host = MemHost::new(rt.alloc());
-    host.put(rt.alloc(), b"tree", b"old")?;
-    host.fail_at(0)?;
-    host.fail_at(1)?;
-    assert!(rt; host.replace(rt.alloc(), b"tree", b"new") == Err(HostNo::Failed));
-    assert!(rt; host.take(rt.alloc(), b"tree").is_err());
-    assert_eq!(rt; host.file(b"tree").ok_or("absent")?, b"old".as_slice());
+    let unsaid = host.print(b"lost");
+    let bytes = host.take(alloc, b"a")?.ok_or("absent")?;
+    let none = host.take(alloc, b"c")?;
+    let wanted = [
+        (Call::replace(alloc, b"b", b"2"), true),
+        (Call::replace(alloc, b"a", b"3"), false),
+        (Call::print(alloc, b"x = 1\n"), true),
+        (Call::print(alloc, b"lost"), false),
+        (Call::take(alloc, b"a"), true),
+        (Call::take(alloc, b"c"), true),
+    ];
+    assert!(rt; lost == Err(HostNo::Failed) && unsaid == Err(HostNo::Failed));
+    assert!(rt; bytes.as_slice() == b"1".as_slice() && none.is_none());
+    assert!(rt; host.file(b"b") == Some(b"2".as_slice()) && host.file(b"c").is_none());
+    assert!(rt; host.printed() == b"x = 1\n".as_slice());
+    assert!(rt; host.calls() == noted(alloc, wanted)?.items());
     Ok(())
 }
 
