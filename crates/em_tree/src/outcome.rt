@@ -10,7 +10,7 @@ use std::alloc::Global;
 pub enum Outcome {
     /// Nothing was to be done.
     Upto,
-    /// A phony target, or one without a recipe, whose prerequisites are counted.
+    /// Remaking was due and there is no recipe: the target counts as updated.
     Counted,
     /// The recipe ran.
     Made,
