@@ -6,9 +6,9 @@
 use Rattle.std.specs.Prelude.{ℕ, ◌+◌, ◌*◌, ◌/◌, ◌^◌, Bool, true, false, nat_lt, List, [], ◌∷◌, length, Result, Ok, Option, Some, None, unwrap_or, option_map, if◌then◌else◌}
 use Rattle.std.specs.FinMap.{insert}
 use Rattle.em_path.specs.Paths.{parent_text}
-use Rattle.em_tree.specs.declared.question.Question.TheVariants as ask
+use Rattle.em_tree.specs.declared.question.Question.TheVariants as question
 use Rattle.em_tree.specs.declared.question.Answer.{Answer}
-use Rattle.em_tree.specs.declared.question.Answer.TheVariants as told
+use Rattle.em_tree.specs.declared.question.Answer.TheVariants as answer
 use Rattle.em_tree.specs.declared.node.Kind.{Kind}
 use Rattle.em_tree.specs.declared.node.Kind.TheVariants as kind
 use Rattle.em_tree.specs.declared.node.Node.{Node}
@@ -19,8 +19,7 @@ use Rattle.em_view.specs.declared.no.FileNo.{FileNo}
 use Rattle.em_view.specs.declared.no.FileNo.TheVariants as file
 use Rattle.em_view.specs.declared.no.DeskNo.{DeskNo}
 use Rattle.em_view.specs.declared.no.DeskNo.TheVariants as no
-use Rattle.em_view.specs.Actions.{Workspace, Action, ◌>>=◌, done, fail, mine, ready, spend}
-use Rattle.em_view.specs.Actions.{ask as asking}
+use Rattle.em_view.specs.Actions.{Workspace, Action, ◌>>=◌, done, fail, mine, ask, ready, spend}
 use Rattle.em_view.specs.Performs.{DeskState, Told, Performs}
 use Rattle.em_view.specs.Names.{with_own, names_size}
 
@@ -44,23 +43,23 @@ blocks n = (n + 255) / 256
 -- ---- what an answer says
 
 abbrev pub kind_in : Answer → Kind
-kind_in (told.Kind k) = k
+kind_in (answer.Kind k) = k
 kind_in _ = kind.Absent
 
 abbrev pub stamp_in : Answer → Option ℕ
-stamp_in (told.Stamp s) = s
+stamp_in (answer.Stamp s) = s
 stamp_in _ = None
 
 abbrev pub content_in : Answer → Option (List ℕ)
-content_in (told.Content b) = b
+content_in (answer.Content b) = b
 content_in _ = None
 
 abbrev pub names_in : Answer → Option (List (List ℕ))
-names_in (told.Names ns) = ns
+names_in (answer.Names ns) = ns
 names_in _ = None
 
 abbrev pub outcome_in : Answer → Option Outcome
-outcome_in (told.Outcome o) = o
+outcome_in (answer.Outcome o) = o
 outcome_in _ = None
 
 -- ---- what stands at a path, under the job's own changes
@@ -68,7 +67,7 @@ outcome_in _ = None
 abbrev pub kind_by : Option (Option Node) → List ℕ → Action DeskNo Kind
 kind_by (Some n) p = done (kind_of n)
 kind_by None p = do
-  a ← asking (ask.Kind p)
+  a ← ask (question.Kind p)
   done (kind_in a)
 
 unfoldable pub kind_below : List ℕ → Action DeskNo Kind
@@ -79,7 +78,7 @@ kind_below p = do
 abbrev pub stamp_by : Option (Option Node) → List ℕ → Action DeskNo (Option ℕ)
 stamp_by (Some n) p = done (stamp_of n)
 stamp_by None p = do
-  a ← asking (ask.Stamp p)
+  a ← ask (question.Stamp p)
   done (stamp_in a)
 
 unfoldable pub stamp_below : List ℕ → Action DeskNo (Option ℕ)
@@ -90,7 +89,7 @@ stamp_below p = do
 abbrev pub content_by : Option (Option Node) → List ℕ → Action DeskNo (Option (List ℕ))
 content_by (Some n) p = done (content_of n)
 content_by None p = do
-  a ← asking (ask.Content p)
+  a ← ask (question.Content p)
   done (content_in a)
 
 unfoldable pub content_below : List ℕ → Action DeskNo (Option (List ℕ))
@@ -105,7 +104,7 @@ is_dir _ = false
 -- what is told of the names of a path
 unfoldable pub told_names : List ℕ → Action DeskNo (Option (List (List ℕ)))
 told_names p = do
-  a ← asking (ask.Names p)
+  a ← ask (question.Names p)
   done (names_in a)
 
 -- names with the own children among them
@@ -165,7 +164,7 @@ names p = do
 unfoldable pub outcome : ℕ → Action DeskNo (Option Outcome)
 outcome j = do
   u ← spend 1
-  a ← asking (ask.Outcome j)
+  a ← ask (question.Outcome j)
   done (outcome_in a)
 
 -- ---- changes

@@ -4,16 +4,16 @@
 --     nth_or_last xs i    the i-th item, from 0, and beyond the end the last one
 use Rattle.std.specs.Prelude.{◌≡◌, ℕ, ◌-◌, List, length, Option, Some, None, slice_get, min}
 use Rattle.em_tree.specs.declared.question.Question.{Question}
-use Rattle.em_tree.specs.declared.question.Question.TheVariants as ask
+use Rattle.em_tree.specs.declared.question.Question.TheVariants as question
 use Rattle.em_tree.specs.declared.question.Answer.{Answer}
-use Rattle.em_tree.specs.declared.question.Answer.TheVariants as told
+use Rattle.em_tree.specs.declared.question.Answer.TheVariants as answer
 
 abbrev pub IsAnswerTo : Question → Answer → Type 0
-IsAnswerTo (ask.Kind p) (told.Kind k) = Unit {0}
-IsAnswerTo (ask.Stamp p) (told.Stamp s) = Unit {0}
-IsAnswerTo (ask.Content p) (told.Content b) = Unit {0}
-IsAnswerTo (ask.Names p) (told.Names ns) = Unit {0}
-IsAnswerTo (ask.Outcome j) (told.Outcome o) = Unit {0}
+IsAnswerTo (question.Kind p) (answer.Kind k) = Unit {0}
+IsAnswerTo (question.Stamp p) (answer.Stamp s) = Unit {0}
+IsAnswerTo (question.Content p) (answer.Content b) = Unit {0}
+IsAnswerTo (question.Names p) (answer.Names ns) = Unit {0}
+IsAnswerTo (question.Outcome j) (answer.Outcome o) = Unit {0}
 IsAnswerTo _ _ = ⊥
 
 abbrev pub IsTold : Option Answer → Answer → Type 0
