@@ -105,6 +105,13 @@ fn a_name_stays_at_its_place(rt: HostRuntime) -> Result<(), Fail> {
     set(rt.alloc(), &mut vars, b"C", Origin::File, b"C")?;
     vars.undefine(b"A");
     assert!(rt; vars == two(rt.alloc(), b"B", b"C")?);
+    assert_eq!(rt; vars.len(), 2);
+    assert!(rt; !vars.is_empty());
+    assert!(rt;
+        vars.at(1).is_some_and(|(n, v)| n == b"C".as_slice() && v.text.bytes() == b"C".as_slice())
+    );
+    assert!(rt; vars.at(2).is_none());
+    assert_eq!(rt; vars.iter().count(), 2);
     let v = var(rt.alloc(), Origin::File, b"x")?;
     assert!(rt; v.copy(rt.alloc())? == v);
     Ok(())
