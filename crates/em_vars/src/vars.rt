@@ -1,8 +1,8 @@
 //! Variables by name.
-ghost use Rattle.std.specs.Prelude.{◌≡◌, ◌&&◌, Bool, true, false, not, nat_eq, option_copied, [], IfOk, OnErr, IfSome};
+ghost use Rattle.std.specs.Prelude.{◌≡◌, ◌==◌, ◌&&◌, Bool, true, false, not, nat_eq, map, length, slice_get, option_copied, option_map, [], IfOk, OnErr};
 ghost use Rattle.std.specs.Cmp.{partial_equiv_from_equiv, on_equiv, and_equiv};
 ghost use Rattle.std.specs.Cmp.Lexicographic.{pointwise, nat_list_eq_equiv, lists_equiv};
-ghost use Rattle.em_vars.specs.Entries.{value_of, keeps, rank, with_value, without};
+ghost use Rattle.em_vars.specs.Entries.{AreDistinct, value_of, keeps, rank, with_value, without};
 ghost use Rattle.em_vars.specs.declared.var.Origin.{Origin as Source};
 ghost use Rattle.em_vars.specs.contracts.var.VarPartialEq.TheImpl as var_eq;
 ghost use Rattle.em_vars.specs.contracts.var.VarEq.TheImpl.Laws as var_eq_laws;
@@ -10,6 +10,7 @@ ghost use Rattle.em_vars.specs.contracts.var.VarEq.TheImpl.Laws as var_eq_laws;
 use crate::var::{Origin, Var};
 use em_base::{NoMemory, Text};
 use indexmap::IndexMap;
+use indexmap::map::Iter;
 use std::alloc::Global;
 use std::marker::Model;
 
@@ -64,18 +65,51 @@ impl Vars {
         })
     }
 
-    /// The variable of this name.
+    /// The variable of this name; `None` exactly where there is none. One search.
     pub fn get(&self, name: &[u8]) -> Option<&Var>
         ensures { option_copied result ≡ value_of self.now name.now }
     {
         self.held.get(name)
     }
 
+    /// How many variables there are. Each name stands once.
+    pub fn len(&self) -> usize
+        ensures len { result ≡ length self.now }
+        ensures names { AreDistinct self.now }
+    {
+        self.held.len()
+    }
+
+    /// Whether there is none.
+    pub fn is_empty(&self) -> bool
+        ensures { result ≡ length self.now == 0 }
+    {
+        self.len() == 0
+    }
+
+    /// The i-th name, in the order in which they were first defined, with its variable; `None` exactly where there are no more
+    /// than i. One step.
+    pub fn at(&self, i: usize) -> Option<(&[u8], &Var)>
+        ensures { option_map (λ e. (e.0.now, e.1.now)) result ≡ slice_get self.now i }
+    {
+        let (name, v) = self.held.get_index(i)?;
+        Some((name.as_slice(), v))
+    }
+
+    /// The names with their variables, in the order in which the names were first defined.
+    pub fn iter(&self) -> Iter<'_, Vec<u8>, Var>
+        ensures entries { map (λ e. (e.0.items, e.1)) result ≡ self.now }
+        ensures names { AreDistinct self.now }
+    {
+        self.held.iter()
+    }
+
     /// Gives the name the variable, at the place where the name was first defined. The answer is false exactly where a
-    /// variable is there whose origin ranks above the new one's; it keeps its value. From the lowest the ranks are `Default`,
-    /// `File`, `CommandLine`, `Override`, `Automatic`.
+    /// variable is there whose origin ranks above the new one's; it keeps its value, and no memory is asked for. From the lowest
+    /// the ranks are `Default`, `File`, `CommandLine`, `Override`, `Automatic`.
     pub fn set(&mut self, name: Text, v: Var) -> Result<bool, NoMemory>
         ensures answer { IfOk result (λ b. b ≡ not (keeps (value_of self.old name) v)) }
+        ensures refused { keeps (value_of self.old name) v ≡ true → result ≡ Ok false }
         ensures set { IfOk result (λ b. b ≡ true → self.new ≡ with_value self.old name v) }
         ensures kept { IfOk result (λ b. b ≡ false → self.new ≡ self.old) }
         ensures err { OnErr result (self.new ≡ self.old) }
@@ -99,7 +133,7 @@ impl Vars {
         ensures { IfOk result (λ v. v ≡ self.now) }
     {
         let mut copied = Vars::new(alloc)?;
-        for (name, v) in &self.held {
+        for (name, v) in self.iter() {
             copied.set(Text::from_slice(alloc, name.as_slice())?, v.copy(alloc)?)?;
         }
         Ok(copied)
