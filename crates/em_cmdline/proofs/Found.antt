@@ -13,6 +13,7 @@ use Rattle.std.proofs.lemmas.Str.Pattern.{IsSplitOnceResult, split_once_first}
 use Rattle.std.specs.List.{cons_option, filter, filter_map}
 use Rattle.std.proofs.lemmas.List.{map_more}
 use Rattle.std.proofs.lemmas.List.Elements.{filter-append, filter_map-append}
+use Rattle.em_base.proofs.Lemmas.{find_map}
 use Rattle.em_cmdline.specs.Words.{assignment, is_goal}
 
 abbrev pub Str : Type 0
@@ -94,19 +95,10 @@ assigned_left ws i d done new lt so_far is made =
 
 -- ---- the first word that passes a test
 
-find_texts : (t : List ℕ → Bool) (ws : List Str) → option_map (λ s. s.now) (find (λ s. t s.now) ws) ≡ find t (map (λ s. s.now) ws)
-find_texts t [] = refl
-find_texts t (w ∷ ws) = by (t w.now) (find_texts t ws)
-  where
-    by : (b : Bool) → option_map (λ s. s.now) (find (λ s. t s.now) ws) ≡ find t (map (λ s. s.now) ws)
-        → option_map (λ s. s.now) (cond b (Some w) (find (λ s. t s.now) ws)) ≡ cond b (Some w.now) (find t (map (λ s. s.now) ws))
-    by true rest = refl
-    by false rest = rest
-
 pub found_text : (t : List ℕ → Bool) (ws : List Str) (all : Option (List (List ℕ))) (r : Option Str) → Some (map (λ s. s.now) ws) ≡ all → option_map (λ s. s) r ≡ find (λ s. t s.now) ws
     → option_map (λ s. s.now) r ≡ find t (unwrap_or all [])
 found_text t ws all r is told =
-    same_map r ∙ ap (option_map (λ s. s.now)) told ∙ find_texts t ws ∙ ap (λ o. find t (unwrap_or o [])) is
+    same_map r ∙ ap (option_map (λ s. s.now)) told ∙ find_map t (λ (s : Str). s.now) ws ∙ ap (λ o. find t (unwrap_or o [])) is
   where
     same_map : (r : Option Str) → option_map (λ s. s.now) r ≡ option_map (λ s. s.now) (option_map (λ s. s) r)
     same_map None = refl

@@ -1,2 +1,3 @@
 pub mod Clap
-pub mod Found
+mod Found
+mod Sound

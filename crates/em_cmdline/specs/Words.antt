@@ -3,12 +3,15 @@
 --     refusal words      the first cause for which they are refused, or none
 --     order_of words     what they order
 --     HasRanges o        the numbers of an order are in their ranges
-use Rattle.std.specs.Prelude.{◌≤◌, IfSome, ℕ, Bool, true, false, not, fold, ◌||◌, ◌==◌, nat_lt, List, [], ◌∷◌, length, codes, find, Option, Some, None, is_some, unwrap_or, option_map, option_and_then, if◌then◌else◌}
+--     HasSource o        it has either an image or the size of a project
+--     HasNames o         the host's files that it names differ
+use Rattle.std.specs.Prelude.{◌≡◌, ◌≢◌, ◌≤◌, IfSome, ℕ, Bool, true, false, not, fold, ◌||◌, ◌==◌, nat_lt, List, [], ◌∷◌, length, codes, find, Option, Some, None, is_some, unwrap_or, option_map, option_and_then, if◌then◌else◌}
 use Rattle.std.specs.List.{filter, filter_map, list_all, list_any, before_first, after_first}
 use Rattle.std.specs.Option.{option_map_or}
 use Rattle.std.specs.Str.{bytes_eq, is_utf8}
 use Rattle.clap.specs.Words.{App, Kinds, Row, Rule, Text, all_of, first_of, fault_of, matches_of, new_app, new_rule, with_rule}
 use Rattle.clap.specs.declared.builder.action.ArgAction.TheVariants.{Append, Set, SetTrue}
+use Rattle.em_base.specs.Blanks.{is_blank}
 use Rattle.em_base.specs.Numbers.{number_of}
 use Rattle.em_cmdline.specs.declared.order.Order.{Order}
 use Rattle.em_cmdline.specs.declared.order.HistoryMode.{HistoryMode}
@@ -131,9 +134,9 @@ bad_number rows = first_some (
     ∷ bad_value 1000000 (first_of (codes "fuel") rows)
     ∷ bad_value 10000 (first_of (codes "generate") rows) ∷ [])
 
--- a space, a tab, `:`, `#` or `$`
+-- a blank, `:`, `#` or `$`
 abbrev pub breaks_name : ℕ → Bool
-breaks_name b = b == 32 || b == 9 || b == 58 || b == 35 || b == 36
+breaks_name b = is_blank b || b == 58 || b == 35 || b == 36
 
 abbrev pub is_bad_name : Text → Bool
 is_bad_name name = length name == 0 || list_any breaks_name name
@@ -201,3 +204,14 @@ pub record HasRanges (o : Order) : Type 0 where
   pub workers : (1 ≤ o.workers) × (o.workers ≤ 64)
   pub fuel : (1 ≤ o.fuel) × (o.fuel ≤ 1000000)
   pub generate : IfSome o.generate (λ n. (1 ≤ n) × (n ≤ 10000))
+
+abbrev pub HasSource : Order → Type 0
+HasSource o = is_some o.image ≡ not (is_some o.generate)
+
+abbrev pub Differ : Option Text → Option Text → Type 0
+Differ a b = IfSome a (λ s. IfSome b (λ t. s ≢ t))
+
+pub record HasNames (o : Order) : Type 0 where
+  pub image_history : Differ o.image o.history
+  pub image_report : Differ o.image o.report
+  pub history_report : Differ o.history o.report

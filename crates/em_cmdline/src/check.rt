@@ -6,7 +6,7 @@ ghost use Rattle.em_cmdline.specs.Words as spec;
 use crate::command::{others, value};
 use crate::order::{HistoryMode, WordNo};
 use clap::ArgMatches;
-use em_base::{Text, number};
+use em_base::{Text, is_blank, number};
 use std::alloc::Global;
 
 /// The number that a text writes in canonical decimal, from 1 to the limit.
@@ -63,7 +63,7 @@ fn bad_number<'a>(found: &ArgMatches<'a>) -> Option<&'a str>
 fn breaks_name(b: u8) -> bool
     ensures { result ≡ spec.breaks_name b }
 {
-    b == b' ' || b == b'\t' || b == b':' || b == b'#' || b == b'$'
+    is_blank(b) || b == b':' || b == b'#' || b == b'$'
 }
 
 /// Whether the name is empty or holds such a byte.

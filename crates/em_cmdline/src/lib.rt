@@ -3,6 +3,7 @@
 
 mod check;
 mod command;
+pub mod laws;
 mod order;
 mod read;
 

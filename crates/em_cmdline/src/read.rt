@@ -2,7 +2,7 @@
 ghost use Rattle.std.specs.Prelude.{◌≡◌, ◌≤◌, ◌⊎◌, map, not, is_some, option_map, option_and_then, IfOk, IfErr, IfSome, None, Some};
 ghost use Rattle.std.specs.List.{filter, filter_map};
 ghost use Rattle.clap.specs.Words.{found_of, rows_of};
-ghost use Rattle.em_cmdline.specs.Words.{refusal, order_of, order_from, HasRanges};
+ghost use Rattle.em_cmdline.specs.Words.{refusal, order_of, order_from, HasNames, HasRanges, HasSource};
 ghost use Rattle.em_cmdline.specs.Words as spec;
 
 use crate::check::{assignment, check, is_goal, mode, positive};
@@ -59,8 +59,11 @@ fn assigned(alloc: Global, words: &[&str]) -> Result<Seq<(Text, Text)>, NoMemory
 
 /// What words that aren't refused order.
 fn order(alloc: Global, found: &ArgMatches<'_>) -> Result<Order, NoMemory>
+    requires { spec.first_some (spec.causes (rows_of (found_of found.now))) ≡ None }
     ensures value { IfOk result (λ o. o ≡ order_from (rows_of (found_of found.now))) }
     ensures ranges { IfOk result HasRanges }
+    ensures source { IfOk result HasSource }
+    ensures names { IfOk result HasNames }
 {
     let words = others(found).unwrap_or(&[]);
     Ok(Order {
@@ -86,11 +89,14 @@ fn order(alloc: Global, found: &ArgMatches<'_>) -> Result<Order, NoMemory>
 
 /// Reads the words after the program's name. Each option may stand once, before or after the other words; `--` ends the
 /// options. Of the other words those with `=` are assignments, which are split at their first `=` and never expanded, and the
-/// rest are goals. The error is the first of `WordNo` that applies, or `NoMemory`.
+/// rest are goals. An order has either an image or the size of a project, and the host's files that it names differ. The error
+/// is the first of `WordNo` that applies, or `NoMemory`.
 #[tactic(auto, unfolding(crate::specs::Words::refusal, crate::specs::Words::order_of))]
 pub fn read_words(alloc: Global, words: &[Text]) -> Result<Order, WordNo>
     ensures ok { IfOk result (λ o. (refusal words.now ≡ None) × (o ≡ order_of words.now)) }
     ensures ranges { IfOk result HasRanges }
+    ensures source { IfOk result HasSource }
+    ensures names { IfOk result HasNames }
     ensures err { IfErr result (λ e. (e ≡ WordNo.NoMemory) ⊎ (refusal words.now ≡ Some e)) }
 {
     let texts = texts(alloc, words)?;

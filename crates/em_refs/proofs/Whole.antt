@@ -3,11 +3,12 @@ use Rattle.std.proofs.Common.{◌≡◌, inl, inr, ℕ, zero, suc, ◌+◌, ◌-
 use Rattle.std.specs.Prelude.{All, IfSome, slice_get}
 use Rattle.std.specs.List.{flat_map}
 use Rattle.std.proofs.lemmas.Bool.{eqb-true, eq-eqb}
-use Rattle.std.proofs.lemmas.List.{drop-drop, take-append-drop, take_all, drop_all}
+use Rattle.std.proofs.lemmas.List.{take_all, drop_all}
 use Rattle.std.proofs.lemmas.List.Elements.{All-nil, All-cons, All-append}
 use Rattle.std.proofs.lemmas.Option.{slice_get-get_or}
 use Rattle.std.proofs.lemmas.Grind.{flat_map-append}
 use Rattle.em_base.specs.Spans.{cut}
+use Rattle.em_base.proofs.Lemmas.{cell, cut_drop}
 use Rattle.em_refs.specs.declared.part.Bracket.{Bracket}
 use Rattle.em_refs.specs.declared.part.Bracket.TheVariants.{Round, Curly}
 use Rattle.em_refs.specs.declared.part.Part.{Part}
@@ -29,21 +30,12 @@ Stands text (plain from) at = from ≤ at
 Stands text (behind from) at = (from + 1 ≡ at) × (get_or text from 0 ≡ 36)
 Stands text (inside from k deep) at = (from + 2 ≤ at) × (get_or text from 0 ≡ 36) × (get_or text (from + 1) 0 ≡ opening_of k) × Pairs text from k deep at
 
-cut_drop : (text : List ℕ) (from at : ℕ) → from ≤ at → cut text (span from at) ++ drop at text ≡ drop from text
-cut_drop text from at le =
-    let k : from + (at - from) ≡ at = omega arith in
-    let rest : drop at text ≡ drop (at - from) (drop from text) = sym (drop-drop (at - from) from text ∙ ap (λ n. drop n text) k) in
-    rw rest (take-append-drop (at - from) (drop from text))
-
 literal_is : (text : List ℕ) (from at : ℕ) → from ≤ at → flat_map (source text) (literal from at) ++ drop at text ≡ drop from text
 literal_is text from at le =
     elim (eqb from at) as (λ b. eqb from at ≡ b → flat_map (source text) (literal from at) ++ drop at text ≡ drop from text) [
       | true ↦ λ e. rw (e, eqb-true from at e) refl
-      | false ↦ λ e. rw e (rw append-nil (cut_drop text from at le))
+      | false ↦ λ e. rw e (rw append-nil (cut_drop text (span from at) le))
     ] refl
-
-cell : (text : List ℕ) (at b : ℕ) → at < length text → get_or text at 0 ≡ b → drop at text ≡ b ∷ drop (at + 1) text
-cell text at b lt is = rw (add-one, ← is) (drop-cons text at 0 lt)
 
 two : (text : List ℕ) (at a b : ℕ) → at + 1 < length text → get_or text at 0 ≡ a → get_or text (at + 1) 0 ≡ b → drop at text ≡ a ∷ b ∷ drop (at + 2) text
 two text at a b lt first second =
@@ -76,14 +68,14 @@ short_is : (text : List ℕ) (from at b : ℕ) → from + 1 ≡ at → at < leng
 short_is text from at b next lt is dollar =
     let before : bracket_before text (span at (at + 1)) ≡ None = before_is text at from 36 (omega arith) (omega arith) dollar (at + 1) in
     let start : drop from text ≡ 36 ∷ drop at text = cell text from 36 (omega arith) dollar ∙ ap (λ n. 36 ∷ drop n text) next in
-    rw (before, start) (ap (λ l. 36 ∷ l) (cut_drop text at (at + 1) (omega arith)))
+    rw (before, start) (ap (λ l. 36 ∷ l) (cut_drop text (span at (at + 1)) (omega arith)))
 
 long_before : (text : List ℕ) (from at : ℕ) (k : Bracket) → from + 2 ≤ at → at < length text → get_or text (from + 1) 0 ≡ opening_of k → bracket_before text (span (from + 2) at) ≡ Some k
 long_before text from at k low lt is = before_is text (from + 2) (from + 1) (opening_of k) (omega arith) (omega arith) is at ∙ opens k
 
 long_is : (text : List ℕ) (from at : ℕ) (k : Bracket) (deep : ℕ) → at < length text → get_or text at 0 ≡ closing_of k → Stands text (inside from k deep) at → source text (Ref (span (from + 2) at)) ++ drop (at + 1) text ≡ drop from text
 long_is text from at k deep lt is stands =
-    let inner : cut text (span (from + 2) at) ++ (closing_of k ∷ drop (at + 1) text) ≡ drop (from + 2) text = rw (← cell text at (closing_of k) lt is) (cut_drop text (from + 2) at stands.0) in
+    let inner : cut text (span (from + 2) at) ++ (closing_of k ∷ drop (at + 1) text) ≡ drop (from + 2) text = rw (← cell text at (closing_of k) lt is) (cut_drop text (span (from + 2) at) stands.0) in
     rw (long_before text from at k stands.0 lt stands.2, two text from 36 (opening_of k) (omega (arith, stands.0)) stands.1 stands.2, append_assoc (cut text (span (from + 2) at)) (closing_of k ∷ []) (drop (at + 1) text)) (ap (λ l. 36 ∷ opening_of k ∷ l) inner)
 
 -- what the byte at `at` makes, against the text: nothing is lost, and brackets pair off
@@ -161,8 +153,8 @@ pub record Told (text : List ℕ) (start : ℕ) (p : Parted) : Type 0 where
   pub nested : All (IsNested text) p.parts
   pub unclosed : IfSome p.unclosed (IsUnclosed text)
 
-cut_all : (text : List ℕ) (from at : ℕ) → at ≡ length text → cut text (span from at) ≡ drop from text
-cut_all text from at is = take_all (at - from) (drop from text) (omega (arith, length-drop from text))
+cut_rest : (text : List ℕ) (from at : ℕ) → at ≡ length text → cut text (span from at) ≡ drop from text
+cut_rest text from at is = take_all (at - from) (drop from text) (omega (arith, length-drop from text))
 
 last : (text : List ℕ) (mode : Mode) (at : ℕ) → at ≡ length text → Stands text mode at → Told text (begin mode) (ended mode at)
 last text (plain from) at is stands =
@@ -178,7 +170,7 @@ last text (inside from k deep) at is stands = record {
   nested = All-nil (IsNested text);
   unclosed = record {
     dollar = there text from 36 (omega (arith, stands.0)) stands.1;
-    unfinished = inr (k, there text (from + 1) (opening_of k) (omega (arith, stands.0)) stands.2, pairs_left text from at k deep (cut_all text (from + 2) at is) stands.3);
+    unfinished = inr (k, there text (from + 1) (opening_of k) (omega (arith, stands.0)) stands.2, pairs_left text from at k deep (cut_rest text (from + 2) at is) stands.3);
   };
 }
 

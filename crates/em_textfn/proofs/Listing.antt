@@ -1,22 +1,10 @@
 -- Lists of words, and of references to words.
-use Rattle.std.proofs.Common.{◌≡◌, ℕ, ◌+◌, ◌-◌, ◌<◌, ◌≤◌, inl, inr, Bool, Bor, true, false, cond, not, ◌||◌, List, [], ◌∷◌, ◌++◌, length, map, take, drop, get_or, min, arith, refl, sym, ap, ◌∙◌, length-drop, ltb, zero, suc}
-use Rattle.std.specs.List.{list_any, filter, Contains}
+use Rattle.std.proofs.Common.{◌≡◌, ℕ, ◌+◌, ◌-◌, ◌<◌, ◌≤◌, inl, inr, Bool, Bor, true, cond, not, List, [], ◌∷◌, ◌++◌, length, map, take, drop, get_or, min, arith, refl, sym, ap, ◌∙◌, length-drop, ltb, zero, suc}
+use Rattle.std.specs.List.{filter, Contains}
 use Rattle.std.proofs.lemmas.Bool.{cases_lt, both_ways, not-true}
 use Rattle.std.proofs.lemmas.List.{take_all, take_rest, drop_all, take-map, drop-map, take_more, map-append}
 use Rattle.std.proofs.lemmas.List.Elements.{All-contains, filter-append, filter_passes}
 use Rattle.em_textfn.specs.Texts.{nonempty, word_range}
-
-pub any_map : {X Y : Type 0} (p : Y → Bool) (h : X → Y) (xs : List X) → list_any p (map h xs) ≡ list_any (λ x. p (h x)) xs
-any_map p h [] = refl
-any_map p h (x ∷ xs) = ap (λ b. p (h x) || b) (any_map p h xs)
-
-cond_map : {X Y : Type 0} (h : X → Y) (b : Bool) (x : X) (xs : List X) (ys : List Y) → map h xs ≡ ys → map h (cond b (x ∷ xs) xs) ≡ cond b (h x ∷ ys) ys
-cond_map h true x xs ys e = ap (λ zs. h x ∷ zs) e
-cond_map h false x xs ys e = e
-
-pub filter_map : {X Y : Type 0} (p : Y → Bool) (h : X → Y) (xs : List X) → map h (filter (λ x. p (h x)) xs) ≡ filter p (map h xs)
-filter_map p h [] = refl
-filter_map p h (x ∷ xs) = cond_map h (p (h x)) x _ _ (filter_map p h xs)
 
 -- ---- the words from one number up to another
 
@@ -59,10 +47,6 @@ replaced_more f rs i d low =
     ap (λ (qs : List (Bor (List ℕ))). nonempty (map (λ r. f r.now) qs)) (take_more rs i d low)
     ∙ ap nonempty (map-append (λ r. f r.now) (take i rs) (get_or rs i d ∷ []))
     ∙ filter-append (λ w. ltb 0 (length w)) (map (λ r. f r.now) (take i rs)) (f (get_or rs i d).now ∷ [])
-
-pub mapped : {X Y Z : Type 0} (g : Y → Z) (h : X → Y) (xs : List X) → map g (map h xs) ≡ map (λ x. g (h x)) xs
-mapped g h [] = refl
-mapped g h (x ∷ xs) = ap (λ zs. g (h x) ∷ zs) (mapped g h xs)
 
 -- what passes a test doesn't fail it
 pub filters_apart : {X : Type 0} (p : X → Bool) (xs : List X) (x : X) → Contains (filter p xs) x → Contains (filter (λ y. not (p y)) xs) x → ⊥

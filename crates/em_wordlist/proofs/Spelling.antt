@@ -2,16 +2,17 @@
 --     WordsTo text at ss      the words up to `at`, as a loop has found them
 --     texts_are               their texts are the words of the text
 --     words_are_one           there is one list of them
-use Rattle.std.proofs.Common.{◌≡◌, ◌≢◌, ℕ, ◌+◌, ◌-◌, ◌<◌, ◌≤◌, inl, inr, Bool, true, false, List, [], ◌∷◌, ◌++◌, length, map, take, drop, get_or, All, ◌==◌, arith, refl, subst, sym, ap, ◌∙◌, get_or-drop, get_or-take, length-drop, take-append-drop, append_assoc, length-append, zero, suc, cond, ltb}
+use Rattle.std.proofs.Common.{◌≡◌, ◌≢◌, ℕ, ◌+◌, ◌-◌, ◌<◌, ◌≤◌, inl, inr, Bool, true, false, List, [], ◌∷◌, ◌++◌, length, map, take, drop, get_or, All, ◌==◌, arith, refl, subst, sym, ap, ◌∙◌, get_or-drop, length-drop, take-append-drop, append_assoc, length-append, zero, suc, cond, ltb}
 use Rattle.std.specs.List.{slice_split, onto_first, filter}
 use Rattle.std.proofs.lemmas.Bool.{both_ways, cases_lt, cases_order, cases_Bool, lt-ltb, ltb-true, ne_eqb}
 use Rattle.std.proofs.lemmas.List.{get_or_append_left, drop-drop, drop_all, append-nil, length-take-le, take_more}
-use Rattle.std.proofs.lemmas.List.Elements.{All-nil, All-push, All-weaker, All-head, All-tail, All-from_get_or, All-cons, All-same, All-filter, filter_passes}
+use Rattle.std.proofs.lemmas.List.Elements.{All-nil, All-push, All-weaker, All-head, All-tail, All-cons, All-same, All-filter, filter_passes}
 use Rattle.std.proofs.lemmas.List.Splits.{slice_split-cons_yes, slice_split-cons_no, slice_split_none, slice_split_at}
 use Rattle.std.proofs.lemmas.List.Quantifiers.{Any-push}
 use Rattle.em_base.specs.declared.place.Span.{Span}
 use Rattle.em_base.specs.Spans.{cut}
 use Rattle.em_base.specs.Blanks.{is_blank}
+use Rattle.em_base.proofs.Lemmas.{cut_all, cut_length}
 use Rattle.em_wordlist.specs.Words.{IsWord, IsApart, Rising, IsHeld, AreWords, words_of, joined}
 
 pub record WordsTo (text : List ℕ) (at : ℕ) (ss : List Span) : Type 0 where
@@ -162,13 +163,8 @@ words_of_word w (y ∷ ys) filled plain behind =
     let blank = behind (omega arith) in
     ap (filter (λ w. ltb 0 (length w))) (slice_split_at is_blank w y ys plain blank) ∙ keeps_filled w (slice_split is_blank ys) filled ∙ ap (λ ws. w ∷ ws) (sym (words_of_blank y ys blank))
 
-cut_length : (text : List ℕ) (s : Span) → s.end ≤ length text → length (cut text s) ≡ s.end - s.start
-cut_length text s within = length-take-le (s.end - s.start) (drop s.start text) (omega (arith, length-drop s.start text))
-
 cut_plain : (text : List ℕ) (s : Span) → IsWord text s → All (λ b. is_blank b ≡ false) (cut text s)
-cut_plain text s word = All-from_get_or (λ b. is_blank b ≡ false) (cut text s) 0 (λ k low.
-    let l = cut_length text s word.within in
-    ap is_blank (get_or-take (s.end - s.start) (drop s.start text) k 0 (omega arith) ∙ get_or-drop s.start text k 0) ∙ word.plain (s.start + k) (omega arith) (omega arith))
+cut_plain text s word = cut_all (λ b. is_blank b ≡ false) text s word.within word.plain
 
 words_of_first : (text : List ℕ) (s : Span) → IsWord text s → words_of (drop s.start text) ≡ cut text s ∷ words_of (drop s.end text)
 words_of_first text s word =

@@ -1,10 +1,11 @@
-use Rattle.std.proofs.Common.{◌≡◌, ◌∙◌, ap, rules, List, codes, map, option_and_then, unwrap_or}
+use Rattle.std.proofs.Common.{◌≡◌, ◌∙◌, ap, subst, sym, rules, List, codes, map, option_and_then, unwrap_or}
 use Rattle.std.specs.Borrow.{Bor}
 use Rattle.std.specs.List.{filter, filter_map}
 use Rattle.clap.specs.Words.{first_of, found_of, rows_of}
 use Rattle.em_cmdline.specs.declared.order.HistoryMode.TheVariants.{Merge}
-use Rattle.em_cmdline.specs.Words.{assignment, is_goal, other_words, positive}
+use Rattle.em_cmdline.specs.Words.{HasNames, HasSource, assignment, is_goal, other_words, positive}
 use Rattle.em_cmdline.proofs.Found.{Str, value_or}
+use Rattle.em_cmdline.proofs.Sound.{has_names, has_source}
 use Rattle.em_cmdline.proofs.read.order.Goals as goal
 
 pub returns-clause-value : goal.returns-clause-value
@@ -33,3 +34,9 @@ returns-clause-value c =
       goals = (c.in_ok-goals.ensures ∙ ap (filter is_goal) words) i;
       assigned = (c.in_ok-assigned.ensures ∙ ap (filter_map assignment) words) i;
     }
+
+pub returns-clause-source : goal.returns-clause-source
+returns-clause-source c = subst HasSource (sym (returns-clause-value c)) (has_source (rows_of (found_of c.args.found.now)) c.requires)
+
+pub returns-clause-names : goal.returns-clause-names
+returns-clause-names c = subst HasNames (sym (returns-clause-value c)) (has_names (rows_of (found_of c.args.found.now)) c.requires)

@@ -4,7 +4,7 @@ use Rattle.std.specs.List.{list_any}
 use Rattle.std.proofs.lemmas.Iterator.{YieldsList-from_slice}
 use Rattle.std.proofs.lemmas.Iterator.Search.{any_from_yields_List}
 use Rattle.em_wordlist.specs.Stems.{stem_of}
-use Rattle.em_textfn.proofs.Listing.{any_map}
+use Rattle.em_base.proofs.Lemmas.{any_map}
 use Rattle.em_textfn.proofs.list.matches.Goals as goal
 
 pub returns : goal.returns

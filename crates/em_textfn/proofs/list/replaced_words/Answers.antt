@@ -4,7 +4,8 @@ use Rattle.std.proofs.lemmas.Bool.Decides.{nat_tests}
 use Rattle.std.proofs.lemmas.List.{take_all}
 use Rattle.em_wordlist.specs.Stems.{replaced}
 use Rattle.em_textfn.specs.Texts.{nonempty}
-use Rattle.em_textfn.proofs.Listing.{replaced_more, mapped}
+use Rattle.em_base.proofs.Lemmas.{map_map}
+use Rattle.em_textfn.proofs.Listing.{replaced_more}
 use Rattle.em_textfn.proofs.list.replaced_words.Goals as goal
 use Rattle.em_textfn.proofs.list.replaced_words.Goals.{then-not-is_empty+in_ok-push, else-not-is_empty}
 
@@ -38,4 +39,4 @@ returns c =
     let f = replaced c.args.p.now c.args.r.now in
     c.loop-word.invariant
     ∙ ap (λ (rs : List (Bor (List ℕ))). nonempty (map (λ r. f r.now) rs)) (take_all c.loop-word.word-index words (omega arith))
-    ∙ ap nonempty (sym (mapped f (λ r. r.now) words) ∙ ap (map f) (ap (map (λ (w : Bor (List ℕ)). w.now)) c.deref-word-items.ensures.value ∙ c.in_ok-texts.ensures))
+    ∙ ap nonempty (sym (map_map f (λ r. r.now) words) ∙ ap (map f) (ap (map (λ (w : Bor (List ℕ)). w.now)) c.deref-word-items.ensures.value ∙ c.in_ok-texts.ensures))

@@ -1,7 +1,8 @@
 use Rattle.std.proofs.Common.{◌+◌, ◌∙◌, not, length, sym, arith}
 use Rattle.std.proofs.lemmas.Bool.{not-false}
 use Rattle.em_base.specs.Blanks.{is_blank}
-use Rattle.em_wordlist.proofs.Wording.{runs_to, runs_out, word_of_runs}
+use Rattle.em_base.proofs.Lemmas.{runs_to, runs_out}
+use Rattle.em_wordlist.proofs.Wording.{word_of_runs}
 use Rattle.em_wordlist.proofs.word.next_word.Goals as goal
 
 pub returns-in_default : goal.returns-in_default
