@@ -1,5 +1,5 @@
 //! Changes of a tree.
-ghost use Rattle.std.specs.Prelude.{◌≡◌, ◌≢◌, [], unwrap_or, IfOk, OnOk, OnErr, length, slice_get, option_copied, option_map, Some, None};
+ghost use Rattle.std.specs.Prelude.{◌≡◌, ◌≢◌, ◌⊎◌, [], unwrap_or, IfOk, OnOk, OnErr, length, slice_get, option_copied, option_map, Some, None};
 ghost use Rattle.std.specs.FinMap as map;
 ghost use Rattle.em_tree.specs.Names.{children_of};
 ghost use Rattle.em_tree.specs.contracts.node.NodePartialEq.TheImpl as nodes;
@@ -111,7 +111,7 @@ impl Delta {
         take_out(&mut self.named, &mut self.children, place);
     }
 
-    /// Makes two paths nodes or absent, or neither where memory runs out.
+    /// Makes two paths nodes or absent, or neither where memory runs out. Only a path that isn't named yet can fail.
     pub fn set_both(
         &mut self,
         p: Path,
@@ -122,6 +122,7 @@ impl Delta {
         requires other { p ≢ q }
         ensures ok { OnOk result (self.new ≡ map.insert (map.insert self.old p n) q m) }
         ensures err { OnErr result (self.new ≡ self.old) }
+        ensures absent { OnErr result ((map.get self.old p ≡ None) ⊎ (map.get self.old q ≡ None)) }
     {
         if self.get(&p).is_some() {
             self.set(q, m)?;

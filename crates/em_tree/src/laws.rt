@@ -1,14 +1,15 @@
 //! Laws of the definitions: each function's contract is the law, and its body is empty.
-ghost use Rattle.std.specs.Prelude.{◌≡◌, ℕ, List, Option, None, Some, slice_get, IsSome};
+ghost use Rattle.std.specs.Prelude.{◌≡◌, ℕ, List, Option, None, Some, IsSome};
 ghost use Rattle.std.specs.FinMap as map;
 ghost use Rattle.em_path.specs.Paths.{IsPath, parent_text};
 ghost use Rattle.em_tree.specs.declared.node.Kind.TheVariants as kind;
 ghost use Rattle.em_tree.specs.declared.node.Node.{Node};
 ghost use Rattle.em_tree.specs.declared.state.State.{State};
+ghost use Rattle.em_tree.specs.declared.outcome.Outcome.{Outcome};
 ghost use Rattle.em_tree.specs.declared.question.Question.{Question};
 ghost use Rattle.em_tree.specs.declared.question.Question.TheVariants as ask;
 ghost use Rattle.em_tree.specs.Trees.{Table, Changes, IsTree, kind_of, laid_over};
-ghost use Rattle.em_tree.specs.Answers.{answer};
+ghost use Rattle.em_tree.specs.Answers.{answer, answer_on};
 
 /// A path that a delta names becomes what it says.
 pub fn law_named_paths()
@@ -27,17 +28,21 @@ pub fn law_laid_twice()
 
 /// What is said of one path depends on that path alone.
 pub fn law_one_path()
-    ensures kind { (s t : State) (p : List ℕ) → map.get s.tree p ≡ map.get t.tree p → answer s (ask.Kind p) ≡ answer t (ask.Kind p) }
-    ensures stamp { (s t : State) (p : List ℕ) → map.get s.tree p ≡ map.get t.tree p → answer s (ask.Stamp p) ≡ answer t (ask.Stamp p) }
-    ensures content { (s t : State) (p : List ℕ) → map.get s.tree p ≡ map.get t.tree p → answer s (ask.Content p) ≡ answer t (ask.Content p) }
-    ensures outcome { (s t : State) (k : ℕ) → slice_get s.outcomes k ≡ slice_get t.outcomes k → answer s (ask.Outcome k) ≡ answer t (ask.Outcome k) }
+    ensures kind { (s t : Table) (a b : ℕ → Option Outcome) (p : List ℕ) → map.get s p ≡ map.get t p
+        → answer_on s a (ask.Kind p) ≡ answer_on t b (ask.Kind p) }
+    ensures stamp { (s t : Table) (a b : ℕ → Option Outcome) (p : List ℕ) → map.get s p ≡ map.get t p
+        → answer_on s a (ask.Stamp p) ≡ answer_on t b (ask.Stamp p) }
+    ensures content { (s t : Table) (a b : ℕ → Option Outcome) (p : List ℕ) → map.get s p ≡ map.get t p
+        → answer_on s a (ask.Content p) ≡ answer_on t b (ask.Content p) }
+    ensures outcome { (s t : Table) (a b : ℕ → Option Outcome) (k : ℕ) → a k ≡ b k
+        → answer_on s a (ask.Outcome k) ≡ answer_on t b (ask.Outcome k) }
 {}
 
 /// The names of a directory depend on its kind and on which children there are.
 pub fn law_children()
-    ensures { (s t : State) (p : List ℕ) → kind_of (map.get s.tree p) ≡ kind_of (map.get t.tree p)
-        → ((k : List ℕ) → parent_text k ≡ Some p → map.contains_key s.tree k ≡ map.contains_key t.tree k)
-        → answer s (ask.Names p) ≡ answer t (ask.Names p) }
+    ensures { (s t : Table) (a b : ℕ → Option Outcome) (p : List ℕ) → kind_of (map.get s p) ≡ kind_of (map.get t p)
+        → ((k : List ℕ) → parent_text k ≡ Some p → map.contains_key s k ≡ map.contains_key t k)
+        → answer_on s a (ask.Names p) ≡ answer_on t b (ask.Names p) }
 {}
 
 /// States that answer all questions alike are equal.

@@ -1,5 +1,6 @@
 //! What stands at a path.
-ghost use Rattle.std.specs.Prelude.{◌≡◌, IfOk, nat_eq, Some};
+ghost use Rattle.std.specs.Prelude.{◌≡◌, IfOk, OnErr, nat_eq, Some};
+ghost use Rattle.em_tree.specs.declared.node.Kind.TheVariants as kind;
 ghost use Rattle.em_tree.specs.Trees.{kind_of, stamp_in};
 ghost use Rattle.std.specs.Cmp.Lexicographic.{pointwise, nat_list_eq_equiv};
 ghost use Rattle.std.specs.Cmp.{partial_equiv_from_equiv};
@@ -107,11 +108,18 @@ impl Node {
         }
     }
 
-    /// An equal node, over the same bytes.
+    /// An equal node, over the same bytes. A directory always comes.
     pub fn copy(&self) -> Result<Node, NoMemory>
-        ensures { IfOk result (λ n. n ≡ self.now) }
+        ensures ok { IfOk result (λ n. n ≡ self.now) }
+        ensures err { OnErr result (kind_of (Some self.now) ≡ kind.File) }
     {
-        Ok(self.clone()?)
+        Ok(match self {
+            Node::File { body, stamp } => Node::File {
+                body: body.copy()?,
+                stamp: *stamp,
+            },
+            Node::Dir { stamp } => Node::Dir { stamp: *stamp },
+        })
     }
 }
 

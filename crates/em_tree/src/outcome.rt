@@ -1,5 +1,6 @@
 //! How jobs end.
-ghost use Rattle.std.specs.Prelude.{◌≡◌, ◌++◌, [], ◌∷◌, length, IfOk, OnOk, OnErr, slice_get, option_copied};
+ghost use Rattle.std.specs.Prelude.{◌≡◌, ◌++◌, [], ◌∷◌, length, IfOk, OnOk, OnErr, IsTrue, slice_get, option_copied};
+ghost use Rattle.em_tree.specs.Answers.{holds_text};
 ghost use Rattle.em_tree.specs.contracts.outcome.OutcomePartialEq.TheImpl as outcome;
 ghost use Rattle.em_tree.specs.contracts.outcome.OutcomeEq.TheImpl.Laws as outcome_eq_laws;
 ghost use Rattle.std.specs.Cmp.{partial_equiv_from_equiv};
@@ -33,9 +34,10 @@ pub enum Outcome {
 }
 
 impl Outcome {
-    /// An equal outcome.
+    /// An equal outcome. One without a text always comes.
     pub fn copy(&self, alloc: Global) -> Result<Outcome, NoMemory>
-        ensures { IfOk result (λ o. o ≡ self.now) }
+        ensures ok { IfOk result (λ o. o ≡ self.now) }
+        ensures err { OnErr result (IsTrue (holds_text self.now)) }
     {
         Ok(match self {
             Outcome::Upto => Outcome::Upto,

@@ -1,5 +1,6 @@
 //! What can be asked, and what is answered.
-ghost use Rattle.std.specs.Prelude.{◌≡◌, IfOk};
+ghost use Rattle.std.specs.Prelude.{◌≡◌, IfOk, OnErr, IsTrue};
+ghost use Rattle.em_tree.specs.Answers.{holds_memory};
 
 use crate::names::NameList;
 use crate::node::{Body, Kind};
@@ -60,9 +61,10 @@ pub struct Entry {
 }
 
 impl Answer {
-    /// An equal answer.
+    /// An equal answer. One that holds no memory always comes.
     pub fn copy(&self, alloc: Global) -> Result<Answer, NoMemory>
-        ensures { IfOk result (λ a. a ≡ self.now) }
+        ensures ok { IfOk result (λ a. a ≡ self.now) }
+        ensures err { OnErr result (IsTrue (holds_memory self.now)) }
     {
         Ok(match self {
             Answer::Kind(kind) => Answer::Kind(*kind),

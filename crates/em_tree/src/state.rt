@@ -1,6 +1,6 @@
 //! What jobs ask of.
-ghost use Rattle.std.specs.Prelude.{◌≡◌, ◌↔◌, IfOk, IsTrue};
-ghost use Rattle.em_tree.specs.Answers.{answer};
+ghost use Rattle.std.specs.Prelude.{◌≡◌, ◌↔◌, IfOk, OnErr, IsTrue};
+ghost use Rattle.em_tree.specs.Answers.{answer, holds_memory};
 
 use crate::outcome::Outcomes;
 use crate::question::{Answer, Entry, Question};
@@ -16,9 +16,10 @@ pub struct State {
 }
 
 impl State {
-    /// The answer to a question.
+    /// The answer to a question. One that holds no memory always comes.
     pub fn answer(&self, alloc: Global, q: &Question) -> Result<Answer, NoMemory>
-        ensures { IfOk result (λ a. a ≡ answer self.now q.now) }
+        ensures ok { IfOk result (λ a. a ≡ answer self.now q.now) }
+        ensures err { OnErr result (IsTrue (holds_memory (answer self.now q.now))) }
     {
         Ok(match q {
             Question::Kind(p) => Answer::Kind(self.tree.kind(p)),

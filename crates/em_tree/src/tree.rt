@@ -1,5 +1,5 @@
 //! Trees.
-ghost use Rattle.std.specs.Prelude.{◌≡◌, ◌≤◌, [], ◌∷◌, IfOk, OnOk, OnErr, Some, length, option_copied, option_map, slice_get, unwrap_or, IsTrue, ◌↔◌};
+ghost use Rattle.std.specs.Prelude.{◌≡◌, ◌≤◌, [], ◌∷◌, IfOk, OnOk, OnErr, Some, None, IsSome, length, option_copied, option_map, slice_get, unwrap_or, IsTrue, ◌↔◌};
 ghost use Rattle.em_tree.specs.Names.{children_of, names_of};
 ghost use Rattle.std.specs.FinMap as map;
 ghost use Rattle.em_path.specs.Paths.{root_text};
@@ -155,9 +155,10 @@ impl Tree {
         }
     }
 
-    /// The names of a directory; `None` where the path is none.
+    /// The names of a directory; `None` where the path is none, which always comes.
     pub(crate) fn names(&self, alloc: Global, p: &Path) -> Result<Option<NameList>, NoMemory>
-        ensures { IfOk result (λ r. r ≡ names_of self.now p.now) }
+        ensures ok { IfOk result (λ r. r ≡ names_of self.now p.now) }
+        ensures err { OnErr result (IsSome (names_of self.now p.now)) }
     {
         if self.kind(p) != Kind::Dir {
             return Ok(None);
@@ -182,11 +183,12 @@ impl Tree {
         }
     }
 
-    /// Puts a node at a path. The table with it must be a tree.
+    /// Puts a node at a path. The table with it must be a tree. Only an absent path can fail.
     pub fn set(&mut self, p: Path, n: Node) -> Result<(), NoMemory>
         requires tree { IsTree (map.insert self.old p n) }
         ensures ok { OnOk result (self.new ≡ map.insert self.old p n) }
         ensures err { OnErr result (self.new ≡ self.old) }
+        ensures absent { OnErr result (map.get self.old p ≡ None) }
     {
         put(&mut self.nodes, &mut self.children, self.alloc, p, n)
     }

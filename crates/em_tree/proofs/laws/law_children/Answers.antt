@@ -9,4 +9,4 @@ use Rattle.em_tree.proofs.Lawful.{same_children}
 use Rattle.em_tree.proofs.laws.law_children.Goals as goal
 
 pub returns : goal.returns
-returns c = λ s t p k e. ap (λ x. told.Names (in_dir x (filter_map last_of (children_of s.tree p)))) k ∙ ap (λ (ks : List (List ℕ)). told.Names (in_dir (kind_of (get t.tree p)) (filter_map last_of ks))) (same_children s.tree t.tree p e)
+returns c = λ s t a b p k e. ap (λ x. told.Names (in_dir x (filter_map last_of (children_of s p)))) k ∙ ap (λ (ks : List (List ℕ)). told.Names (in_dir (kind_of (get t p)) (filter_map last_of ks))) (same_children s t p e)

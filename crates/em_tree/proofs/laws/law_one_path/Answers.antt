@@ -5,8 +5,8 @@ use Rattle.em_tree.proofs.laws.law_one_path.Goals as goal
 
 pub returns : goal.returns
 returns c = record {
-  kind = λ s t p e. ap (λ n. told.Kind (kind_of n)) e;
-  stamp = λ s t p e. ap (λ n. told.Stamp (stamp_of n)) e;
-  content = λ s t p e. ap (λ n. told.Content (content_of n)) e;
-  outcome = λ s t k e. ap (λ o. told.Outcome o) e;
+  kind = λ s t a b p e. ap (λ n. told.Kind (kind_of n)) e;
+  stamp = λ s t a b p e. ap (λ n. told.Stamp (stamp_of n)) e;
+  content = λ s t a b p e. ap (λ n. told.Content (content_of n)) e;
+  outcome = λ s t a b k e. ap (λ o. told.Outcome o) e;
 }
