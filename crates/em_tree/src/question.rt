@@ -5,7 +5,7 @@ ghost use Rattle.em_tree.specs.Answers.{holds_memory};
 use crate::names::NameList;
 use crate::node::{Body, Kind};
 use crate::outcome::Outcome;
-use em_base::NoMemory;
+use em_base::{NoMemory, TryClone};
 use em_path::Path;
 use std::alloc::Global;
 
@@ -88,5 +88,23 @@ impl Entry {
             question: self.question.copy()?,
             answer: self.answer.copy(alloc)?,
         })
+    }
+}
+
+impl TryClone for Question {
+    fn try_clone(&self, _alloc: Global) -> Result<Question, NoMemory> {
+        self.copy()
+    }
+}
+
+impl TryClone for Answer {
+    fn try_clone(&self, alloc: Global) -> Result<Answer, NoMemory> {
+        self.copy(alloc)
+    }
+}
+
+impl TryClone for Entry {
+    fn try_clone(&self, alloc: Global) -> Result<Entry, NoMemory> {
+        self.copy(alloc)
     }
 }

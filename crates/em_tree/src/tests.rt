@@ -1,7 +1,7 @@
 use super::*;
-use em_base::{NoMemory, Text};
+use em_base::{Construct, NoMemory, Place, Text, TryClone};
 use em_path::Path;
-use std::alloc::Global;
+use std::alloc::{AllocError, Global};
 use std::test::Fail;
 
 fn path(alloc: Global, text: &[u8]) -> Result<Path, Fail> {
@@ -16,6 +16,22 @@ fn put(tree: &mut Tree, alloc: Global, p: Path, n: Node) -> Result<(), NoMemory>
     let _text = p.text();
     match (tree.kind(&above), tree.kind(&p)) {
         (Kind::Dir, Kind::Absent) => tree.set(p, n),
+        _ => Ok(()),
+    }
+}
+
+/// The same by a delta.
+fn lay_new(tree: &mut Tree, alloc: Global, p: Path, n: Node) -> Result<(), NoMemory> {
+    let Ok(Some(above)) = p.parent(alloc) else {
+        return Ok(());
+    };
+    let _text = p.text();
+    match (tree.kind(&above), tree.kind(&p)) {
+        (Kind::Dir, Kind::Absent) => {
+            let mut d = Delta::new(alloc);
+            d.set(p, Some(n))?;
+            tree.lay(&d)
+        }
         _ => Ok(()),
     }
 }
@@ -59,155 +75,245 @@ fn sample(alloc: Global) -> Result<Tree, Fail> {
     Ok(tree)
 }
 
-fn names(alloc: Global, state: &State, text: &[u8]) -> Result<Text, Fail> {
-    let mut all = Text::new(alloc);
-    let q = Question::Names(path(alloc, text)?);
-    if let Answer::Names(Some(list)) = state.answer(alloc, &q)? {
-        for name in list.names() {
-            all.add(name.bytes())?;
-            all.add(b" ")?;
-        }
+/// One outcome of each variant.
+fn outcomes(alloc: Global) -> Result<Outcomes, NoMemory> {
+    let place = Place {
+        file: Text::from_slice(alloc, b"Makefile")?,
+        line: 3,
+    };
+    let halted = Outcome::Halted {
+        text: Text::from_slice(alloc, b"stop")?,
+        place: place.copy(alloc)?,
+    };
+    let refused = Outcome::Refused {
+        construct: Construct::Command(Text::from_slice(alloc, b"ssh")?),
+        place,
+    };
+    let all = vec![in alloc;
+        Outcome::Upto,
+        Outcome::Counted,
+        Outcome::Made,
+        Outcome::Failed(3),
+        Outcome::NoRule,
+        Outcome::Skipped,
+        halted,
+        refused,
+        Outcome::Spent,
+    ]?;
+    Ok(Outcomes::from_vec(all))
+}
+
+/// Each question on each of a few paths, and on jobs with each outcome and one without.
+fn questions(alloc: Global) -> Result<Vec<Question>, Fail> {
+    let mut all = Vec::new(alloc);
+    for text in [
+        b"/".as_slice(),
+        b"/d".as_slice(),
+        b"/d/a0".as_slice(),
+        b"/x".as_slice(),
+    ] {
+        let p = path(alloc, text)?;
+        all.push(Question::Kind(p.copy()?))?;
+        all.push(Question::Stamp(p.copy()?))?;
+        all.push(Question::Content(p.copy()?))?;
+        all.push(Question::Names(p))?;
+    }
+    for job in 0..10 {
+        all.push(Question::Outcome(job))?;
     }
     Ok(all)
 }
 
-#[test]
-fn names_are_those_of_the_children_in_order(rt: HostRuntime) -> Result<(), Fail> {
-    let state = State {
-        tree: sample(rt.alloc())?,
-        outcomes: Outcomes::new(rt.alloc()),
-    };
-    assert_eq!(rt;
-        names(rt.alloc(), &state, b"/d")?.bytes(),
-        b"a a.b a0 ".as_slice()
-    );
-    assert_eq!(rt;
-        names(rt.alloc(), &state, b"/d/a")?.bytes(),
-        b"b ".as_slice()
-    );
-    assert_eq!(rt; names(rt.alloc(), &state, b"/")?.bytes(), b"d ".as_slice());
-    assert_eq!(rt;
-        names(rt.alloc(), &state, b"/d/a0")?.bytes(),
-        b"".as_slice()
-    );
-    Ok(())
-}
-
-#[test]
-fn a_tree_is_gone_over_in_byte_order(rt: HostRuntime) -> Result<(), Fail> {
-    let tree = sample(rt.alloc())?;
-    let mut all = Text::new(rt.alloc());
-    for (p, _) in tree.nodes() {
-        all.add(p.text())?;
-    }
-    assert_eq!(rt; all.bytes(), b"//d/d/a/d/a.b/d/a/b/d/a0".as_slice());
-    assert_eq!(rt; tree.count(), 6);
-    assert_eq!(rt; tree.base(), 7);
-    assert!(rt;
-        tree.at(1)
-            .is_some_and(|(p, _)| p.text() == b"/d".as_slice())
-    );
-    assert!(rt; tree.at(6).is_none());
-    Ok(())
-}
-
-#[test]
-fn a_delta_takes_a_file_out(rt: HostRuntime) -> Result<(), Fail> {
-    let mut tree = sample(rt.alloc())?;
-    let before = tree.copy()?;
-    take_out(&mut tree, rt.alloc(), path(rt.alloc(), b"/d/a.b")?)?;
-    assert!(rt; tree != before);
-    let state = State {
-        tree,
-        outcomes: Outcomes::new(rt.alloc()),
-    };
-    assert_eq!(rt;
-        names(rt.alloc(), &state, b"/d")?.bytes(),
-        b"a a0 ".as_slice()
-    );
-    Ok(())
-}
-
-#[test]
-fn answers_are_agreed_with(rt: HostRuntime) -> Result<(), Fail> {
-    let mut outcomes = Outcomes::new(rt.alloc());
-    outcomes.push(Outcome::Failed(3))?;
-    let state = State {
-        tree: sample(rt.alloc())?,
-        outcomes,
-    };
-    let p = path(rt.alloc(), b"/d/a0")?;
-    for question in [
-        Question::Kind(p.copy()?),
-        Question::Stamp(p.copy()?),
-        Question::Content(p.copy()?),
-        Question::Names(path(rt.alloc(), b"/d")?),
-        Question::Outcome(0),
-        Question::Outcome(1),
-    ] {
-        let answer = state.answer(rt.alloc(), &question)?;
-        let entry = Entry { question, answer };
-        assert!(rt; state.agrees(&entry));
-        assert!(rt; entry.copy(rt.alloc())? == entry);
+fn show_bytes(log: &mut String, bytes: &[u8]) -> Result<(), AllocError> {
+    for byte in bytes {
+        log.push(char::from(*byte))?;
     }
     Ok(())
 }
 
+fn show_names(log: &mut String, names: &NameList) -> Result<(), AllocError> {
+    for name in names.names() {
+        show_bytes(log, name.bytes())?;
+        log.push_str(",")?;
+    }
+    Ok(())
+}
+
+fn show_outcome(log: &mut String, outcome: &Outcome) -> Result<(), AllocError> {
+    log.push_str(match outcome {
+        Outcome::Upto => "upto",
+        Outcome::Counted => "counted",
+        Outcome::Made => "made",
+        Outcome::Failed(_) => "failed",
+        Outcome::NoRule => "norule",
+        Outcome::Skipped => "skipped",
+        Outcome::Halted { .. } => "halted",
+        Outcome::Refused { .. } => "refused",
+        Outcome::Spent => "spent",
+    })
+}
+
+fn show_answer(log: &mut String, answer: &Answer) -> Result<(), AllocError> {
+    match answer {
+        Answer::Kind(kind) => write!(log, "{kind:?}"),
+        Answer::Stamp(Some(stamp)) => write!(log, "{stamp}"),
+        Answer::Content(Some(body)) => show_bytes(log, body.bytes()),
+        Answer::Names(Some(names)) => show_names(log, names),
+        Answer::Outcome(Some(outcome)) => show_outcome(log, outcome),
+        _ => log.push_str("-"),
+    }
+}
+
+const SAID: &str = "Dir 1 - d, Dir 2 - a,a.b,a0, File 7 x - Absent - - - \
+upto counted made failed norule skipped halted refused spent - ";
+
+/// Whether the entry equals a copy of it, part by part.
+fn copies_are_equal(alloc: Global, entry: &Entry) -> Result<bool, NoMemory> {
+    let question = entry.question.try_clone(alloc)?;
+    let answer = entry.answer.try_clone(alloc)?;
+    let copy = Entry { question, answer };
+    Ok(copy == entry.try_clone(alloc)?)
+}
+
+fn outcome_copies_are_equal(alloc: Global) -> Result<bool, NoMemory> {
+    let all = outcomes(alloc)?;
+    Ok(all == all.copy(alloc)?)
+}
+
+/// Asks a question, shows the answer, and gives both.
+fn entry(alloc: Global, state: &State, q: Question, log: &mut String) -> Result<Entry, NoMemory> {
+    let answer = state.answer(alloc, &q)?;
+    show_answer(log, &answer)?;
+    log.push_str(" ")?;
+    Ok(Entry {
+        question: q,
+        answer,
+    })
+}
+
+/// Asks each question, and says whether the state agrees with each entry and each entry with its copy.
+fn all_agree(alloc: Global, state: &State, log: &mut String) -> Result<bool, Fail> {
+    let mut agree = true;
+    for q in questions(alloc)? {
+        let entry = entry(alloc, state, q, log)?;
+        agree = agree && state.agrees(&entry) && copies_are_equal(alloc, &entry)?;
+    }
+    Ok(agree)
+}
+
 #[test]
-fn other_answers_are_not(rt: HostRuntime) -> Result<(), Fail> {
+fn each_question_is_answered_agreed_with_and_copied(rt: HostRuntime) -> Result<(), Fail> {
     let state = State {
         tree: sample(rt.alloc())?,
-        outcomes: Outcomes::new(rt.alloc()),
+        outcomes: outcomes(rt.alloc())?,
+    };
+    let mut log = String::new(rt.alloc());
+    let agree = all_agree(rt.alloc(), &state, &mut log)?;
+    assert!(rt; agree);
+    assert_eq!(rt; log.as_str(), SAID);
+    let equal = outcome_copies_are_equal(rt.alloc())?;
+    assert!(rt; equal);
+    let copy = state.copy(rt.alloc())?;
+    assert!(rt; copy == state);
+    Ok(())
+}
+
+#[test]
+fn other_answers_are_not_agreed_with(rt: HostRuntime) -> Result<(), Fail> {
+    let state = State {
+        tree: sample(rt.alloc())?,
+        outcomes: outcomes(rt.alloc())?,
     };
     let p = path(rt.alloc(), b"/d/a0")?;
+    let d = path(rt.alloc(), b"/d")?;
+    let none = NameList::new(rt.alloc());
     for (question, answer) in [
         (Question::Kind(p.copy()?), Answer::Kind(Kind::Dir)),
         (Question::Stamp(p.copy()?), Answer::Stamp(Some(8))),
         (Question::Content(p.copy()?), Answer::Stamp(Some(7))),
+        (Question::Content(p), Answer::Content(None)),
+        (Question::Names(d.copy()?), Answer::Names(None)),
+        (Question::Names(d), Answer::Names(Some(none))),
+        (Question::Outcome(0), Answer::Outcome(Some(Outcome::Made))),
     ] {
         assert!(rt; !state.agrees(&Entry { question, answer }));
     }
-    assert!(rt; state.copy(rt.alloc())? == state);
+    Ok(())
+}
+
+/// The paths of a tree with their stamps.
+fn show_tree(log: &mut String, tree: &Tree) -> Result<(), AllocError> {
+    for (p, n) in tree.nodes() {
+        show_bytes(log, p.text())?;
+        let stamp = n.stamp();
+        write!(log, "={stamp} ")?;
+    }
     Ok(())
 }
 
 #[test]
-fn names_and_outcomes_are_kept(rt: HostRuntime) -> Result<(), Fail> {
-    let mut list = NameList::new(rt.alloc());
-    let name = Text::from_slice(rt.alloc(), b"a")?;
-    if em_path::is_component(name.bytes()) {
-        list.add(name)?;
+fn a_tree_is_changed_and_gone_over_in_byte_order(rt: HostRuntime) -> Result<(), Fail> {
+    let mut tree = sample(rt.alloc())?;
+    let before = tree.copy()?;
+    take_out(&mut tree, rt.alloc(), path(rt.alloc(), b"/d/a.b")?)?;
+    assert!(rt; tree != before);
+    let e = path(rt.alloc(), b"/d/e")?;
+    lay_new(&mut tree, rt.alloc(), e, Node::Dir { stamp: 9 })?;
+    let mut log = String::new(rt.alloc());
+    show_tree(&mut log, &before)?;
+    log.push_str("; ")?;
+    show_tree(&mut log, &tree)?;
+    assert_eq!(rt;
+        log.as_str(),
+        "/=1 /d=2 /d/a=3 /d/a.b=7 /d/a/b=7 /d/a0=7 ; /=1 /d=2 /d/a=3 /d/a/b=7 /d/a0=7 /d/e=9 "
+    );
+    assert_eq!(rt; tree.count(), 6);
+    assert_eq!(rt; tree.base(), 9);
+    for (i, text) in [(1, b"/d".as_slice()), (5, b"/d/e".as_slice())] {
+        assert!(rt; tree.at(i).is_some_and(|(p, _)| p.text() == text));
     }
-    assert!(rt; list.copy(rt.alloc())? == list);
-    let outcomes = Outcomes::from_vec(vec![in rt.alloc(); Outcome::Made]?);
-    assert!(rt; outcomes.copy(rt.alloc())? == outcomes);
-    assert_eq!(rt; outcomes.into_vec().len(), 1);
+    assert!(rt; tree.at(6).is_none());
+    let node = file(rt.alloc(), b"y", 4)?;
+    assert!(rt; node.copy()? == node);
     Ok(())
+}
+
+/// Two paths, the second right under the first, each named before or not, changed at once.
+fn both(alloc: Global, first: bool, second: bool) -> Result<Delta, Fail> {
+    let p = path(alloc, b"/d")?;
+    let q = path(alloc, b"/d/a0")?;
+    let mut d = Delta::new(alloc);
+    if first {
+        d.set(p.copy()?, Some(Node::Dir { stamp: 1 }))?;
+    }
+    if second {
+        d.set(q.copy()?, Some(Node::Dir { stamp: 1 }))?;
+    }
+    if p != q {
+        d.set_both(q, None, p, Some(Node::Dir { stamp: 4 }))?;
+    }
+    Ok(d)
 }
 
 #[test]
-fn a_delta_names_paths(rt: HostRuntime) -> Result<(), Fail> {
-    let mut d = Delta::new(rt.alloc());
-    let p = path(rt.alloc(), b"/a")?;
-    d.set(p.copy()?, Some(Node::Dir { stamp: 4 }))?;
-    assert_eq!(rt; d.len(), 1);
-    assert!(rt; d.get(&p).is_some_and(|n| n.is_some()));
-    assert!(rt; d.at(0).is_some_and(|(q, _)| *q == p));
-    assert!(rt; d.at(1).is_none());
-    assert!(rt; d.copy()? == d);
-    Ok(())
-}
-
-/// The paths that a delta names right under a path.
-fn under(alloc: Global, d: &Delta, text: &[u8]) -> Result<Text, Fail> {
-    let mut all = Text::new(alloc);
-    if let Some(paths) = d.under(&path(alloc, text)?) {
-        for p in paths {
-            all.add(p.text())?;
-            all.add(b" ")?;
-        }
+fn two_paths_are_changed_at_once(rt: HostRuntime) -> Result<(), Fail> {
+    let p = path(rt.alloc(), b"/d")?;
+    for (first, second) in [(false, false), (false, true), (true, false), (true, true)] {
+        let d = both(rt.alloc(), first, second)?;
+        assert_eq!(rt; d.len(), 2);
+        assert!(rt;
+            d.get(&p)
+                .is_some_and(|n| n.as_ref().is_some_and(|n| n.stamp() == 4))
+        );
+        assert!(rt;
+            d.at(1)
+                .is_some_and(|(q, n)| q.text() == b"/d/a0".as_slice() && n.is_none())
+        );
+        assert!(rt; d.at(2).is_none());
+        let copy = d.copy()?;
+        assert!(rt; copy == d);
     }
-    Ok(all)
+    Ok(())
 }
 
 #[test]
@@ -222,22 +328,29 @@ fn a_delta_lists_what_it_names_right_under_a_path(rt: HostRuntime) -> Result<(),
     ] {
         d.set(path(rt.alloc(), text)?, None)?;
     }
-    let paths = under(rt.alloc(), &d, b"/d")?;
-    assert_eq!(rt; paths.bytes(), b"/d/a /d/a.b /d/a0 ".as_slice());
-    assert_eq!(rt; under(rt.alloc(), &d, b"/")?.bytes(), b"/e ".as_slice());
-    assert_eq!(rt; under(rt.alloc(), &d, b"/e")?.bytes(), b"".as_slice());
+    let mut log = String::new(rt.alloc());
+    for text in [b"/d".as_slice(), b"/".as_slice(), b"/e".as_slice()] {
+        if let Some(paths) = d.under(&path(rt.alloc(), text)?) {
+            for p in paths {
+                show_bytes(&mut log, p.text())?;
+                log.push_str(" ")?;
+            }
+        }
+        log.push_str("; ")?;
+    }
+    assert_eq!(rt; log.as_str(), "/d/a /d/a.b /d/a0 ; /e ; ; ");
     Ok(())
 }
 
 #[test]
-fn two_paths_are_changed_at_once(rt: HostRuntime) -> Result<(), Fail> {
-    let mut d = Delta::new(rt.alloc());
-    let p = path(rt.alloc(), b"/a/b")?;
-    let q = path(rt.alloc(), b"/a")?;
-    assert!(rt; p != q);
-    d.set_both(p.copy()?, None, q.copy()?, Some(Node::Dir { stamp: 4 }))?;
-    assert_eq!(rt; d.len(), 2);
-    assert!(rt; d.get(&p).is_some_and(|n| n.is_none()));
-    assert!(rt; d.get(&q).is_some_and(|n| n.is_some()));
+fn names_are_kept(rt: HostRuntime) -> Result<(), Fail> {
+    let mut list = NameList::new(rt.alloc());
+    let name = Text::from_slice(rt.alloc(), b"a")?;
+    if em_path::is_component(name.bytes()) {
+        list.add(name)?;
+    }
+    let copy = list.copy(rt.alloc())?;
+    assert!(rt; copy == list);
+    assert_eq!(rt; copy.names().len(), 1);
     Ok(())
 }
