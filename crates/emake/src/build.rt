@@ -40,7 +40,7 @@ fn finish_kept<H: Host>(
     ensures told { Tells (Delivers (finished image.now jobs.now ran.now.early ran.now.state (Ok bytes.now)) result) (H.told host.old) (H.told host.new) }
     ensures faults { H.faults host.new ≡ count_after result (H.faults host.old) }
 {
-    let outcomes = ran.state.outcomes.as_slice();
+    let outcomes = ran.state.outcomes.items();
     let last = closing(alloc, jobs, ran.early, outcomes)?;
     let status = status_of(false, outcomes);
     keep(alloc, host, last.bytes(), status, image, bytes)
@@ -58,7 +58,7 @@ fn finish_broken<H: Host>(
     ensures told { Tells (Delivers (finished image.now jobs.now ran.now.early ran.now.state (Err no)) result) (H.told host.old) (H.told host.new) }
     ensures faults { H.faults host.new ≡ count_after result (H.faults host.old) }
 {
-    let outcomes = ran.state.outcomes.as_slice();
+    let outcomes = ran.state.outcomes.items();
     let last = refused_closing(alloc, jobs, ran, no)?;
     let status = status_of(true, outcomes);
     tell(host, last.bytes(), status)
@@ -67,7 +67,7 @@ fn finish_broken<H: Host>(
 fn refused_closing(alloc: Global, jobs: &[Job], ran: &Ran, no: ImageNo) -> Result<Text, NoMemory>
     ensures { IfOk result (λ t. t ≡ closing jobs.now ran.now.early ran.now.state.outcomes ++ image_line no) }
 {
-    let mut last = closing(alloc, jobs, ran.early, ran.state.outcomes.as_slice())?;
+    let mut last = closing(alloc, jobs, ran.early, ran.state.outcomes.items())?;
     last.add(image_line(alloc, no)?.bytes())?;
     Ok(last)
 }
