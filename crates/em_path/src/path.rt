@@ -100,6 +100,18 @@ impl Path {
         }))
     }
 
+    /// The path that these bytes spell, without a copy. `None` comes exactly where they spell none.
+    pub fn from_bytes(spelled: Bytes) -> Option<Path>
+        ensures some { IfSome result (λ p. p ≡ spelled) }
+        ensures none { IsNone result ↔ (IsPath spelled → ⊥) }
+    {
+        if is_path(spelled.as_slice()) {
+            Some(Path { spelled })
+        } else {
+            None
+        }
+    }
+
     /// The text: `/`, or each component behind a `/`.
     pub fn text(&self) -> &[u8]
         ensures text { result.now ≡ self.now }
@@ -119,9 +131,9 @@ impl Path {
         Some(&text[last_slash(text) + 1..])
     }
 
-    /// The path without its last component; `None` for the root alone. The only error is `NoMemory`, which comes neither for the
-    /// root nor for what stands right under it.
-    pub fn parent(&self, alloc: Global) -> Result<Option<Path>, PathNo>
+    /// The path without its last component, over the same bytes; `None` for the root alone. The only error is `NoMemory`, which
+    /// comes neither for the root nor for what stands right under it.
+    pub fn parent(&self, _alloc: Global) -> Result<Option<Path>, PathNo>
         ensures ok { IfOk result (λ r. r ≡ parent_text self.now) }
         ensures only { IfErr result (λ e. e ≡ PathNo.NoMemory) }
         ensures root { parent_text self.now ≡ None → result ≡ Ok None }
@@ -135,9 +147,9 @@ impl Path {
         if at == 0 {
             return Ok(Some(Path::root()));
         }
-        Ok(Some(Path {
-            spelled: Bytes::copy_from_slice(alloc, &text[..at])?,
-        }))
+        let mut spelled = self.spelled.clone()?;
+        spelled.truncate(at);
+        Ok(Some(Path { spelled }))
     }
 
     /// The path that a name says, read against a working directory: repeated and trailing slashes are dropped, `.` and

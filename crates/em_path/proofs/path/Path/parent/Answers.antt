@@ -16,7 +16,8 @@ invariant_of-result c =
     let at = c.last_slash-at in
     let path : IsPath t = subst IsPath (sym c.text-text.ensures.text) c.text-text.ensures.path in
     let after : 0 < at.result = omega arith in
-    subst IsPath (sym c.in_ok-copy_from_slice.ensures) (parent_is_path t at.result path c.if-text-eq1.false record { bound = at.ensures.bound; found = at.ensures.found; after = at.ensures.after } (path_begins t path).1 after)
+    let cut : c.truncate.new.self ≡ take at.result t = c.truncate.ensures ∙ ap (λ (s : List ℕ). take at.result s) (c.in_ok-spelled.ensures.cases ∙ c.self.view_is ∙ sym c.text-text.ensures.text) in
+    subst IsPath (sym cut) (parent_is_path t at.result path c.if-text-eq1.false record { bound = at.ensures.bound; found = at.ensures.found; after = at.ensures.after } (path_begins t path).1 after)
 
 pub returns-clause-ok : goal.returns-clause-ok
 returns-clause-ok c =
@@ -25,10 +26,11 @@ returns-clause-ok c =
     let path : IsPath t = subst IsPath (sym c.text-text.ensures.text) c.text-text.ensures.path in
     let after : 0 < at.result = omega arith in
     let is = parent_is t at.result c.if-text-eq1.false record { bound = at.ensures.bound; found = at.ensures.found; after = at.ensures.after } (path_begins t path).1 after in
-    ap (λ p. Some p) c.in_ok-copy_from_slice.ensures ∙ subst (λ (q : List ℕ). Some (take at.result t) ≡ parent_text q) c.text-text.ensures.text is
+    let cut : c.truncate.new.self ≡ take at.result t = c.truncate.ensures ∙ ap (λ (s : List ℕ). take at.result s) (c.in_ok-spelled.ensures.cases ∙ c.self.view_is ∙ sym c.text-text.ensures.text) in
+    ap (λ p. Some p) cut ∙ subst (λ (q : List ℕ). Some (take at.result t) ≡ parent_text q) c.text-text.ensures.text is
 
-pub returns-in_err-copy_from_slice-clause-top : goal.returns-in_err-copy_from_slice-clause-top
-returns-in_err-copy_from_slice-clause-top c up =
+pub returns-in_err-spelled-clause-top : goal.returns-in_err-spelled-clause-top
+returns-in_err-spelled-clause-top c up =
     let t = c.text-text.result.now in
     let at = c.last_slash-at in
     let path : IsPath t = subst IsPath (sym c.text-text.ensures.text) c.text-text.ensures.path in
