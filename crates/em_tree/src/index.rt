@@ -116,6 +116,24 @@ pub(crate) fn take_out<V: Drop>(nodes: &mut PathMap<V>, children: &mut Children,
     unlist(children, place);
 }
 
+/// Puts a node at an absent path.
+pub(crate) fn put_absent<V: Drop>(
+    nodes: &mut PathMap<V>,
+    children: &mut Children,
+    alloc: Global,
+    p: Path,
+    n: V,
+) -> Result<(), NoMemory>
+    requires index { IsIndex children.old nodes.old }
+    requires absent { map.get nodes.old p ≡ None }
+    ensures index { IsIndex children.new nodes.new }
+    ensures ok { OnOk result (nodes.new ≡ map.insert nodes.old p n) }
+    ensures err { OnErr result (nodes.new ≡ nodes.old) }
+{
+    let place = Place::new(alloc, &p)?;
+    put_new(nodes, children, alloc, &place, n)
+}
+
 /// Puts a node at a path. After an error both are as before, as far as can be asked.
 pub(crate) fn put<V: Drop>(
     nodes: &mut PathMap<V>,
@@ -134,6 +152,5 @@ pub(crate) fn put<V: Drop>(
         nodes.insert(p, n)?;
         return Ok(());
     }
-    let place = Place::new(alloc, &p)?;
-    put_new(nodes, children, alloc, &place, n)
+    put_absent(nodes, children, alloc, p, n)
 }

@@ -42,6 +42,13 @@ impl Body {
         })
     }
 
+    /// A body over these bytes, without a copy.
+    pub fn from_bytes(shared: Bytes) -> Body
+        ensures { result ≡ shared }
+    {
+        Body { shared }
+    }
+
     /// The bytes.
     pub fn bytes(&self) -> &[u8]
         ensures { result.now ≡ self.now }

@@ -13,7 +13,7 @@ ghost use Rattle.std.specs.Cmp.{partial_equiv_from_equiv, on_per, and_per, on_eq
 ghost use Rattle.std.specs.Cmp.Lexicographic.{pointwise, nat_list_eq_equiv, lists_per, lists_equiv};
 
 use crate::delta::Delta;
-use crate::index::{Children, Place, put, put_new};
+use crate::index::{Children, Place, put, put_absent, put_new};
 use crate::lay::lay_on;
 use crate::map::PathMap;
 use crate::names::{NameList, collect_names, same_names};
@@ -191,6 +191,16 @@ impl Tree {
         ensures absent { OnErr result (map.get self.old p ≡ None) }
     {
         put(&mut self.nodes, &mut self.children, self.alloc, p, n)
+    }
+
+    /// Puts a node at an absent path, in one search less than `set`. The table with it must be a tree.
+    pub fn add(&mut self, p: Path, n: Node) -> Result<(), NoMemory>
+        requires absent { map.get self.old p ≡ None }
+        requires tree { IsTree (map.insert self.old p n) }
+        ensures ok { OnOk result (self.new ≡ map.insert self.old p n) }
+        ensures err { OnErr result (self.new ≡ self.old) }
+    {
+        put_absent(&mut self.nodes, &mut self.children, self.alloc, p, n)
     }
 
     /// Makes each path that the delta names what it says; the others stay. The table then must be a tree.
