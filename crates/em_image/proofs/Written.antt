@@ -12,21 +12,28 @@ use Rattle.em_image.specs.declared.no.Which.{Which}
 use Rattle.em_image.specs.declared.no.Which.TheVariants as which
 use Rattle.em_image.specs.declared.no.ImageNo.{ImageNo}
 use Rattle.em_image.specs.declared.no.ImageNo.TheVariants as no
-use Rattle.em_image.specs.Image.{Limits, limits, IsImage, Fits64, node_text, entries_text, image_text, is_too_big, is_too_late, broken, broken_by, text_within, text_unless, writing}
+use Rattle.em_image.specs.Image.{Limits, limits, IsImage, Fits64, node_text, entries_text, image_text, is_too_big, is_too_late, broken, broken_by, text_unless, writing}
 use Rattle.em_image.specs.Parts.{Gives}
 use Rattle.em_image.specs.Reading.{reading}
 use Rattle.em_image.proofs.Nodes.{Sound}
-use Rattle.em_image.proofs.Fields.{ok_is, first_err}
+use Rattle.em_image.proofs.Fields.{ok_is}
 use Rattle.em_image.proofs.Chain.{Entry, Kept}
 use Rattle.em_image.proofs.Laws.{AllKeep, unbroken, reading_again}
 
-pub too_long : (es left rest : List Entry) (e : Entry) (out new : List ℕ) → left ≡ e ∷ rest → out ++ (flat_map node_text left ++ codes ".\n") ≡ entries_text es → new ≡ out ++ node_text e → limits.image < length new → text_within limits es ≡ Err (no.Limit which.Image 0)
-too_long es left rest e out new a so_far b long =
+-- the room that is left, with one entry more or none
+pub less_room : (es rest left : List Entry) (e : Entry) (room next : ℕ) → left ≡ e ∷ rest → room + length (entries_text es) ≡ limits.image + length (flat_map node_text left) → next + length (node_text e) ≡ room
+    → next + length (entries_text es) ≡ limits.image + length (flat_map node_text rest)
+less_room es rest left e room next a so_far b =
     let one : length (flat_map node_text left) ≡ length (node_text e) + length (flat_map node_text rest) = ap (λ (fs : List Entry). length (flat_map node_text fs)) a ∙ ap length (flat_map-cons node_text e rest) ∙ length-append (node_text e) (flat_map node_text rest) in
-    let whole : length (entries_text es) ≡ length out + (length (flat_map node_text left) + 2) = ap length (sym so_far) ∙ length-append out (flat_map node_text left ++ codes ".\n") ∙ ap (λ k. length out + k) (length-append (flat_map node_text left) (codes ".\n")) in
-    let grown : length new ≡ length out + length (node_text e) = ap length b ∙ length-append out (node_text e) in
-    let over : limits.image < length (entries_text es) = omega (arith, one, whole, grown, long) in
-    rw (lt-ltb _ _ over) refl
+    omega (arith, one, so_far, b)
+
+pub no_room : (es rest left : List Entry) (e : Entry) (room : ℕ) → left ≡ e ∷ rest → room + length (entries_text es) ≡ limits.image + length (flat_map node_text left) → room < length (node_text e) → limits.image < length (entries_text es)
+no_room es rest left e room a so_far b =
+    let one : length (flat_map node_text left) ≡ length (node_text e) + length (flat_map node_text rest) = ap (λ (fs : List Entry). length (flat_map node_text fs)) a ∙ ap length (flat_map-cons node_text e rest) ∙ length-append (node_text e) (flat_map node_text rest) in
+    omega (arith, one, so_far, b)
+
+pub all_room : (es : List Entry) → 67108853 + length (entries_text es) ≡ limits.image + length (flat_map node_text es)
+all_room es = omega (arith, length-append (codes "EMTREE 1\n" ++ flat_map node_text es) (codes ".\n"), length-append (codes "EMTREE 1\n") (flat_map node_text es))
 
 -- ---- one tree
 
@@ -59,20 +66,23 @@ one_tree bytes t u a b p q =
 
 -- ---- the first limit that is broken
 
-pub verdict : (l : Limits) (es : List Entry) (text : List ℕ) (nodes file stamp : Bool) → text_within l es ≡ Ok text
-    → nat_lt l.nodes (length es) ≡ nodes → list_any (is_too_big l) es ≡ file → list_any (is_too_late l) es ≡ stamp
-    → text_unless (broken_by l es) es ≡ cond nodes (Err (no.Limit which.Nodes 0)) (cond file (Err (no.Limit which.File 0)) (cond stamp (Err (no.Limit which.Stamp 0)) (Ok text)))
-verdict l es text nodes file stamp e a b c =
-    let t = first_err (nat_lt l.image (length (entries_text es))) (no.Limit which.Image 0) (Ok (entries_text es)) text e in
-    let one : text_unless (broken_by l es) es ≡ cond nodes (Err (no.Limit which.Nodes 0)) (cond file (Err (no.Limit which.File 0)) (cond stamp (Err (no.Limit which.Stamp 0)) (Ok (entries_text es)))) = rw (t.0, a, b, c) (by nodes file stamp es) in
-    one ∙ ap (λ (r : Result (List ℕ) ImageNo). cond nodes (Err (no.Limit which.Nodes 0)) (cond file (Err (no.Limit which.File 0)) (cond stamp (Err (no.Limit which.Stamp 0)) r))) t.1
-  where
-    by : (nodes file stamp : Bool) (es : List Entry)
-        → text_unless (cond nodes (Some which.Nodes) (cond file (Some which.File) (cond stamp (Some which.Stamp) None))) es ≡ cond nodes (Err (no.Limit which.Nodes 0)) (cond file (Err (no.Limit which.File 0)) (cond stamp (Err (no.Limit which.Stamp 0)) (Ok (entries_text es))))
-    by true file stamp es = refl
-    by false true stamp es = refl
-    by false false true es = refl
-    by false false false es = refl
+pub none_broken : (l : Limits) (es : List Entry) → nat_lt l.image (length (entries_text es)) ≡ false → nat_lt l.nodes (length es) ≡ false → list_any (is_too_big l) es ≡ false → list_any (is_too_late l) es ≡ false → broken_by l es ≡ None
+none_broken l es a b c d = rw (a, b, c, d) refl
+
+pub image_broken : (l : Limits) (es : List Entry) → l.image < length (entries_text es) → broken_by l es ≡ Some which.Image
+image_broken l es a = rw (lt-ltb _ _ a) refl
+
+pub nodes_broken : (l : Limits) (es : List Entry) → nat_lt l.image (length (entries_text es)) ≡ false → nat_lt l.nodes (length es) ≡ true → broken_by l es ≡ Some which.Nodes
+nodes_broken l es a b = rw (a, b) refl
+
+pub file_broken : (l : Limits) (es : List Entry) → nat_lt l.image (length (entries_text es)) ≡ false → nat_lt l.nodes (length es) ≡ false → list_any (is_too_big l) es ≡ true → broken_by l es ≡ Some which.File
+file_broken l es a b c = rw (a, b, c) refl
+
+pub stamp_broken : (l : Limits) (es : List Entry) → nat_lt l.image (length (entries_text es)) ≡ false → nat_lt l.nodes (length es) ≡ false → list_any (is_too_big l) es ≡ false → list_any (is_too_late l) es ≡ true → broken_by l es ≡ Some which.Stamp
+stamp_broken l es a b c d = rw (a, b, c, d) refl
+
+pub fits_in : (n left limit : ℕ) → left + n ≡ limit → nat_lt limit n ≡ false
+fits_in n left limit e = le-ltb _ _ (omega arith)
 
 pub too_many : (t : Table) (n : ℕ) → n ≡ len t → limits.nodes < n → nat_lt limits.nodes (length (entries t)) ≡ true
 too_many t n e lt = lt-ltb _ _ (omega (arith, len-entries t, e, lt))
@@ -80,10 +90,8 @@ too_many t n e lt = lt-ltb _ _ (omega (arith, len-entries t, e, lt))
 pub few : (t : Table) (n : ℕ) → n ≡ len t → n ≤ limits.nodes → nat_lt limits.nodes (length (entries t)) ≡ false
 few t n e le = le-ltb _ _ (omega (arith, len-entries t, e, le))
 
-pub is_written : (t : Table) (r : Result (List ℕ) ImageNo) → OnOk r (IsTree t) → Gives (λ x. x) r (writing limits t) → IfOk r (λ text. IsImage text t × (broken limits t ≡ None))
-is_written t (Err e) tree given = tt
-is_written t (Ok text) tree given = by (broken limits t) refl given
-  where
-    by : (o : Option Which) → broken limits t ≡ o → text_unless o (entries t) ≡ Ok text → IsImage text t × (broken limits t ≡ None)
-    by None e is = (record { tree = tree; text = sym (ok_is (image_text t) text is) }, e)
-    by (Some w) e is = absurd cc
+pub written_gives : (l : Limits) (t : Table) (text : List ℕ) → broken l t ≡ None → text ≡ image_text t → writing l t ≡ Ok text
+written_gives l t text e is = ap (λ o. text_unless o (entries t)) e ∙ ap (λ (b : List ℕ). Ok b) (sym is)
+
+pub refused_gives : (l : Limits) (t : Table) (w : Which) → broken l t ≡ Some w → writing l t ≡ Err (no.Limit w 0)
+refused_gives l t w e = ap (λ o. text_unless o (entries t)) e

@@ -72,10 +72,6 @@ broken_by l es =
 abbrev pub broken : Limits → Table → Option Which
 broken l t = broken_by l (entries t)
 
--- the text of entries, unless it is too long
-abbrev pub text_within : Limits → List (List ℕ × Node) → Result (List ℕ) ImageNo
-text_within l es = if nat_lt l.image (length (entries_text es)) then Err (Limit which.Image 0) else Ok (entries_text es)
-
 abbrev pub text_unless : Option Which → List (List ℕ × Node) → Result (List ℕ) ImageNo
 text_unless None es = Ok (entries_text es)
 text_unless (Some w) es = Err (Limit w 0)

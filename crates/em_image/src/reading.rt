@@ -1,5 +1,7 @@
 //! Reading an image from the left.
-ghost use Rattle.std.specs.Prelude.{◌≡◌, ◌-◌, ℕ, IfOk, Ok, None};
+ghost use Rattle.std.specs.Prelude.{◌≡◌, ◌-◌, ◌<◌, ℕ, length, IfOk, Ok, Err, None};
+ghost use Rattle.em_image.specs.declared.no.ImageNo.TheVariants as no;
+ghost use Rattle.em_image.specs.declared.no.Which.TheVariants as which;
 ghost use Rattle.std.specs.FinMap as map;
 ghost use Rattle.em_path.specs.Paths.{root_text, parent_text};
 ghost use Rattle.em_tree.specs.declared.node.Node.TheVariants as node;
@@ -136,7 +138,8 @@ fn nodes(alloc: Global, root_stamp: u64, cursor: Cursor) -> Result<(Tree, Cursor
 /// The tree of the whole input.
 #[tactic(auto, unfolding(crate::specs::Reading::reading))]
 fn whole(alloc: Global, bytes: &[u8]) -> Result<Tree, ImageNo>
-    ensures { Gives (λ t. t) result (reading limits bytes.now) }
+    ensures exact { Gives (λ t. t) result (reading limits bytes.now) }
+    ensures long { limits.image < length bytes.now → result ≡ Err (no.Limit which.Image limits.image) }
 {
     if bytes.len() > MAX_IMAGE {
         return Err(ImageNo::Limit {
@@ -164,6 +167,8 @@ pub fn read_image(alloc: Global, bytes: &[u8]) -> Result<Tree, ImageNo>
     ensures only { (t : Table) → IsImage bytes.now t → broken limits t ≡ None → Gives (λ u. u) result (Ok t) }
     // Which fault it is, and where.
     ensures exact { Gives (λ t. t) result (reading limits bytes.now) }
+    // An input that is too long is told also where memory is short.
+    ensures long { limits.image < length bytes.now → result ≡ Err (no.Limit which.Image limits.image) }
 {
     whole(alloc, bytes)
 }

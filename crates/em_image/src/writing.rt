@@ -1,9 +1,10 @@
 //! Writing an image.
-ghost use Rattle.std.specs.Prelude.{◌≡◌, ◌++◌, None, IfOk, OnOk, decimal};
+ghost use Rattle.std.specs.Prelude.{◌≡◌, ◌+◌, ◌<◌, ◌++◌, length, true, None, Some, Err, IfOk, IfSome, OnOk, MatchOption, MatchResult, decimal, nat_lt};
 ghost use Rattle.std.specs.List.{list_any};
 ghost use Rattle.std.specs.FinMap.{entries};
 ghost use Rattle.em_tree.specs.Trees.{IsTree};
-ghost use Rattle.em_image.specs.Image.{IsImage, limits, broken, node_text, is_too_big, is_too_late, writing, text_within};
+ghost use Rattle.em_image.specs.declared.no.ImageNo.TheVariants as no;
+ghost use Rattle.em_image.specs.Image.{IsImage, limits, broken, node_text, image_text, is_too_big, is_too_late, writing};
 ghost use Rattle.em_image.specs.Parts.{Gives};
 
 use crate::lines::{MAX_FILE, MAX_STAMP};
@@ -21,6 +22,14 @@ fn put_number(out: &mut Text, number: u64) -> Result<(), NoMemory>
 {
     let mut buffer = Buffer::new();
     out.add(buffer.format(number).as_bytes())
+}
+
+/// How many digits a number has.
+fn digits_of(number: u64) -> usize
+    ensures { result ≡ length (decimal number) }
+{
+    let mut buffer = Buffer::new();
+    buffer.format(number).len()
 }
 
 /// Appends the text of a node.
@@ -48,28 +57,30 @@ fn put_node(out: &mut Text, path: &Path, node: &Node) -> Result<(), NoMemory>
     out.add(b"\n")
 }
 
-/// The text of the tree, unless it is too long. It stops where it is.
-fn text_of(alloc: Global, tree: &Tree) -> Result<Text, ImageNo>
-    ensures { Gives (λ t. t) result (text_within limits (entries tree.now)) }
+/// What is left of `room` bytes behind the text of a node; none where the text is longer.
+fn left_behind(room: usize, path: &Path, node: &Node) -> Option<usize>
+    ensures { MatchOption result (room < length (node_text (path.now, node.now))) (λ left. left + length (node_text (path.now, node.now)) ≡ room) }
 {
-    let mut out = Text::from_slice(alloc, b"EMTREE 1\n")?;
-    for (path, node) in tree.nodes() {
-        put_node(&mut out, path, node)?;
-        if out.bytes().len() > MAX_IMAGE {
-            return Err(ImageNo::Limit {
-                which: Which::Image,
-                at: 0,
-            });
+    let room = room.checked_sub(path.text().len())?;
+    match node {
+        Node::File { body, stamp } => {
+            let size = body.bytes().len();
+            let room = room.checked_sub(size)?.checked_sub(digits_of(*stamp))?;
+            room.checked_sub(digits_of(size as u64))?.checked_sub(6)
         }
+        Node::Dir { stamp } => room.checked_sub(digits_of(*stamp))?.checked_sub(4),
     }
-    out.add(b".\n")?;
-    if out.bytes().len() > MAX_IMAGE {
-        return Err(ImageNo::Limit {
-            which: Which::Image,
-            at: 0,
-        });
+}
+
+/// How many bytes the text may still have; none where it is too long.
+fn room_left(tree: &Tree) -> Option<usize>
+    ensures { MatchOption result (limits.image < length (image_text tree.now)) (λ left. left + length (image_text tree.now) ≡ limits.image) }
+{
+    let mut room = MAX_IMAGE - 11;
+    for (path, node) in tree.nodes() {
+        room = left_behind(room, path, node)?;
     }
-    Ok(out)
+    Some(room)
 }
 
 /// Whether a file is too big.
@@ -92,40 +103,52 @@ fn has_late_stamp(tree: &Tree) -> bool
     })
 }
 
-/// The text of the tree, or the first limit that it breaks.
-fn kept(alloc: Global, tree: &Tree) -> Result<Text, ImageNo>
-    ensures exact { Gives (λ t. t) result (writing limits tree.now) }
+/// How many bytes the text has, or the first limit that the tree breaks.
+fn length_of(tree: &Tree) -> Result<usize, Which>
+    ensures exact { MatchResult result (λ n. (broken limits tree.now ≡ None) × (n ≡ length (image_text tree.now))) (λ w. broken limits tree.now ≡ Some w) }
     ensures tree { OnOk result (IsTree tree.now) }
 {
-    let text = text_of(alloc, tree)?;
+    let Some(room) = room_left(tree) else {
+        return Err(Which::Image);
+    };
     if tree.count() > MAX_NODES {
-        return Err(ImageNo::Limit {
-            which: Which::Nodes,
-            at: 0,
-        });
+        return Err(Which::Nodes);
     }
     if has_big_file(tree) {
-        return Err(ImageNo::Limit {
-            which: Which::File,
-            at: 0,
-        });
+        return Err(Which::File);
     }
     if has_late_stamp(tree) {
-        return Err(ImageNo::Limit {
-            which: Which::Stamp,
-            at: 0,
-        });
+        return Err(Which::Stamp);
     }
-    Ok(text)
+    Ok(MAX_IMAGE - room)
+}
+
+/// The text of the tree, which has so many bytes.
+fn text_of(alloc: Global, tree: &Tree, length: usize) -> Result<Text, NoMemory>
+    ensures { IfOk result (λ t. t ≡ image_text tree.now) }
+{
+    let mut out = Text::from_vec(Vec::with_capacity(alloc, length)?);
+    out.add(b"EMTREE 1\n")?;
+    for (path, node) in tree.nodes() {
+        put_node(&mut out, path, node)?;
+    }
+    out.add(b".\n")?;
+    Ok(out)
 }
 
 /// The text of the tree. `Limit` comes exactly where the tree breaks a limit, of several the first of image, nodes, file and
-/// stamp, with the place 0. Each file's bytes are appended once.
+/// stamp, with the place 0, and before memory is asked for. Each file's bytes are appended once, to memory that is asked
+/// for once.
 pub fn write_image(alloc: Global, tree: &Tree) -> Result<Text, ImageNo>
     // What is written is the tree's text, and the tree breaks no limit. So it is read again.
     ensures written { IfOk result (λ text. IsImage text tree.now × (broken limits tree.now ≡ None)) }
     // Which limit is refused.
     ensures exact { Gives (λ t. t) result (writing limits tree.now) }
+    // It is told also where memory is short.
+    ensures refused { IfSome (broken limits tree.now) (λ w. result ≡ Err (no.Limit w 0)) }
 {
-    kept(alloc, tree)
+    match length_of(tree) {
+        Ok(length) => Ok(text_of(alloc, tree, length)?),
+        Err(which) => Err(ImageNo::Limit { which, at: 0 }),
+    }
 }

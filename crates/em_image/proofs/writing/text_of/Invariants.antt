@@ -6,8 +6,4 @@ use Rattle.em_image.proofs.writing.text_of.Given as goal
 
 -- what is written and what is left make the whole
 abbrev pub invariant-loop-path : goal.invariant-loop-path
-invariant-loop-path l = record {
-  can : (goal.iterator-loop-path).can_next l.path-iterator;
-  finite : (goal.iterator-loop-path).is_finite l.path-iterator;
-  so_far : l.out ++ (flat_map node_text l.path-iterator ++ codes ".\n") ≡ entries_text (entries l.tree);
-}
+invariant-loop-path l = l.out ++ (flat_map node_text l.path-iterator ++ codes ".\n") ≡ entries_text (entries l.tree)
