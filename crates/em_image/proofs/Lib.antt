@@ -9,3 +9,4 @@ pub mod Whole
 pub mod Laws
 pub mod Loop
 pub mod Written
+pub mod Forward

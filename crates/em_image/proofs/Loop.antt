@@ -1,6 +1,6 @@
 -- Reading nodes one after the other, as the loop does.
-use Rattle.std.proofs.Common.{◌≡◌, ℕ, zero, suc, ◌+◌, ◌-◌, ◌<◌, ◌≤◌, Bool, true, false, List, Result, Ok, Err, refl, sym, subst, ◌∙◌, arith}
-use Rattle.std.specs.FinMap.{insert, entries}
+use Rattle.std.proofs.Common.{◌≡◌, ℕ, zero, suc, ◌+◌, ◌-◌, ◌<◌, ◌≤◌, Bool, true, false, List, None, Result, Ok, Err, refl, sym, subst, ◌∙◌, arith}
+use Rattle.std.specs.FinMap.{insert, get, entries}
 use Rattle.em_path.specs.Paths.{root_text}
 use Rattle.em_tree.specs.Trees.{Table, IsTree}
 use Rattle.em_image.specs.declared.no.Which.TheVariants as which
@@ -13,7 +13,7 @@ use Rattle.em_image.specs.Parts.{◌>>=◌, Fails, Here, mark_at}
 use Rattle.em_image.specs.Reading.{node_at, nodes_at, is_file, is_end}
 use Rattle.em_image.proofs.Steps.{fails_then}
 use Rattle.em_image.proofs.Laws.{sound}
-use Rattle.em_image.proofs.Order.{AllBelow, IsLast, less_is, last_push}
+use Rattle.em_image.proofs.Order.{AllBelow, IsLast, less_is, last_push, get_above}
 use Rattle.em_image.proofs.Chain.{Entry, node_takes}
 use Rattle.em_image.proofs.Whole.{joined_tree, only_root, root_tree, root_last}
 
@@ -66,6 +66,9 @@ node_joins f last t after x tree is-last e =
     let j = (node_takes limits sound f last t after x e).joins in
     let below : AllBelow x.0.0 (entries t) = is-last x.0.0 (less_is _ j.after) in
     (joined_tree limits last t x.0 tree below j, last_push t x.0.0 x.0.1 below)
+
+pub node_absent : (f : Bool) (last : List ℕ) (t : Table) (after : Here) (x : Entry × Here) → IsLast last t → node_at limits f last t after ≡ Ok x → get t x.0.0 ≡ None
+node_absent f last t after x is-last e = get_above t x.0.0 (is-last x.0.0 (less_is _ (node_takes limits sound f last t after x e).joins.after))
 
 pub goes_on : (left : ℕ) (m : Mark) (f : Bool) (last : List ℕ) (t : Table) (h after : Here) (whole : Result (Table × Here) ImageNo) (x : Entry × Here) → mark_at h ≡ Ok (m, after) → IsNode m f → node_at limits f last t after ≡ Ok x → Loop (suc left) last t h whole → Loop left x.0.0 (insert t x.0.0 x.0.1) x.1 whole
 unfolding nodes_at

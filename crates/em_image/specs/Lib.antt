@@ -3,3 +3,4 @@ pub mod Image
 pub mod Parts
 pub mod Reading
 pub mod Headers
+pub mod Faults

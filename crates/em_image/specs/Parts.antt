@@ -1,11 +1,11 @@
 -- The parts of an image, each read from the left: what it gives and where it ends, or its first fault with its place.
 -- A part in which the input ends is Short at the end of the input, before any other fault of that part.
---     Here                     where reading stands
+--     Here                     where reading stands; IsAt says that it stands so in the input
 --     fixed_at b, text_at bs   one byte, several bytes that have to stand there
 --     until_at p               the bytes up to the first that passes p
 --     number_at which limit    a decimal number up to a limit
 --     path_at                  the text of a path, and the newline behind it
-use Rattle.std.specs.Prelude.{◌≡◌, ℕ, ◌+◌, ◌-◌, ◌*◌, Bool, true, false, not, ◌&&◌, ◌||◌, List, [], ◌∷◌, length, take, drop, Option, Some, None, Result, Ok, Err, nat_lt, nat_le, ◌==◌, if◌then◌else◌, codes}
+use Rattle.std.specs.Prelude.{◌≡◌, ℕ, ◌+◌, ◌-◌, ◌*◌, ◌≤◌, Bool, true, false, not, ◌&&◌, ◌||◌, List, [], ◌∷◌, length, take, drop, Option, Some, None, Result, Ok, Err, nat_lt, nat_le, ◌==◌, if◌then◌else◌, codes}
 use Rattle.std.specs.Str.{bytes_eq}
 use Rattle.std.specs.Char.{is_ascii_digit}
 use Rattle.std.specs.List.{position_or_len, list_all}
@@ -37,6 +37,11 @@ Gives view (Err e) read = Fails e read
 pub record Here : Type 0 where
   pub at : ℕ
   pub rest : List ℕ
+
+-- the bytes from there on are those of the input
+pub record IsAt (input : List ℕ) (here : Here) : Type 0 where
+  pub low : here.at ≤ length input
+  pub rest : here.rest ≡ drop here.at input
 
 -- where a cursor stands
 abbrev pub seen : Cursor → Here

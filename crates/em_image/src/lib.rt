@@ -11,9 +11,9 @@ mod parts;
 mod reading;
 mod writing;
 
-pub use law::{one_tree_of_a_text, the_test_tells_paths};
+pub use law::{faults_have_places, one_tree_of_a_text, the_test_tells_paths};
 pub use no::{ImageNo, Which};
-pub use reading::read_image;
+pub use reading::{read_image, read_text};
 pub use writing::write_image;
 
 #[cfg(test)]

@@ -2,7 +2,7 @@
 ghost use Rattle.std.specs.Prelude.{◌≡◌, IfOk};
 ghost use Rattle.em_path.specs.Paths.{IsPath};
 ghost use Rattle.em_image.specs.Image.{limits};
-ghost use Rattle.em_image.specs.Parts.{Gives, seen, skip, stamp_at, size_at, path_at};
+ghost use Rattle.em_image.specs.Parts.{Gives, IsAt, seen, skip, stamp_at, size_at, path_at};
 ghost use Rattle.em_image.specs.Reading.{header_at};
 ghost use Rattle.em_image.specs.Headers.{header_of};
 
@@ -11,8 +11,8 @@ use crate::header::Header;
 use crate::no::{ImageNo, Which};
 use crate::numbers::number;
 use crate::parts::{fixed, line, skipped};
+use bytes::Bytes;
 use em_path::Path;
-use std::alloc::Global;
 
 /// The greatest stamp that an image may have.
 pub const MAX_STAMP: u64 = 1 << 62;
@@ -44,13 +44,15 @@ fn size(cursor: Cursor, is_file: bool) -> Result<(Option<u64>, Cursor), ImageNo>
     Ok((Some(size), cursor))
 }
 
-/// Takes the text of a path, and the newline behind it.
+/// Takes the text of a path, and the newline behind it. The path shares the input's bytes.
 #[tactic(auto, unfolding(crate::specs::Parts::path_at))]
-fn path(alloc: Global, cursor: Cursor) -> Result<(Path, Cursor), ImageNo>
+fn path<'a>(input: &Bytes, cursor: Cursor<'a>) -> Result<(Path, Cursor<'a>), ImageNo>
+    requires { IsAt input.now (seen cursor) }
     ensures { Gives (λ x. (x.0, seen x.1)) result (path_at (seen cursor.entry)) }
 {
     let (text, after) = line(cursor)?;
-    match Path::from_text(alloc, text)? {
+    let start = cursor.at as usize;
+    match Path::from_bytes(input.slice(start..start + text.len())?) {
         None => Err(ImageNo::Path { at: cursor.at }),
         Some(path) => Ok((path, skipped(after, 1))),
     }
@@ -58,13 +60,18 @@ fn path(alloc: Global, cursor: Cursor) -> Result<(Path, Cursor), ImageNo>
 
 /// Takes the line of a node behind its letter.
 #[tactic(auto, unfolding(crate::specs::Reading::header_at))]
-pub fn header(alloc: Global, cursor: Cursor, is_file: bool) -> Result<(Header, Cursor), ImageNo>
+pub fn header<'a>(
+    input: &Bytes,
+    cursor: Cursor<'a>,
+    is_file: bool,
+) -> Result<(Header, Cursor<'a>), ImageNo>
+    requires { IsAt input.now (seen cursor) }
     ensures { Gives (λ x. (header_of x.0, seen x.1)) result (header_at limits is_file (seen cursor.entry)) }
 {
     let (stamp, cursor) = stamp(cursor)?;
     let (size, cursor) = size(cursor, is_file)?;
     let place = cursor.at;
-    let (path, cursor) = path(alloc, cursor)?;
+    let (path, cursor) = path(input, cursor)?;
     Ok((
         Header {
             stamp,

@@ -1,5 +1,5 @@
 //! Reading an image from the left.
-ghost use Rattle.std.specs.Prelude.{◌≡◌, ◌-◌, ◌<◌, ℕ, length, IfOk, Ok, Err, None};
+ghost use Rattle.std.specs.Prelude.{◌≡◌, ◌-◌, ◌<◌, ℕ, length, false, nat_lt, IfOk, Ok, Err, None};
 ghost use Rattle.em_image.specs.declared.no.ImageNo.TheVariants as no;
 ghost use Rattle.em_image.specs.declared.no.Which.TheVariants as which;
 ghost use Rattle.std.specs.FinMap as map;
@@ -7,7 +7,7 @@ ghost use Rattle.em_path.specs.Paths.{root_text, parent_text};
 ghost use Rattle.em_tree.specs.declared.node.Node.TheVariants as node;
 ghost use Rattle.em_tree.specs.Trees.{Table};
 ghost use Rattle.em_image.specs.Image.{IsImage, limits, broken};
-ghost use Rattle.em_image.specs.Parts.{Gives, seen};
+ghost use Rattle.em_image.specs.Parts.{Gives, IsAt, seen};
 ghost use Rattle.em_image.specs.Reading.{has_dir, root_at, body_at, node_at, nodes_at, reading};
 
 use crate::cursor::{Cursor, Mark};
@@ -15,7 +15,8 @@ use crate::header::Header;
 use crate::lines::header;
 use crate::no::{ImageNo, Which};
 use crate::parts::{end, fixed, mark, skipped, text};
-use em_base::NoMemory;
+use bytes::Bytes;
+use em_base::{NoMemory, Text};
 use em_path::Path;
 use em_tree::{Body, Kind, Node, Tree};
 use std::alloc::Global;
@@ -28,7 +29,8 @@ pub const MAX_NODES: usize = 100_000;
 
 /// Takes the first node, which is the directory `/`, and gives its stamp.
 #[tactic(auto, unfolding(crate::specs::Reading::root_at))]
-fn root(alloc: Global, cursor: Cursor) -> Result<(u64, Cursor), ImageNo>
+fn root<'a>(input: &Bytes, cursor: Cursor<'a>) -> Result<(u64, Cursor<'a>), ImageNo>
+    requires { IsAt input.now (seen cursor) }
     ensures { Gives (λ x. (x.0, seen x.1)) result (root_at limits (seen cursor.entry)) }
 {
     let (mark, after) = mark(cursor)?;
@@ -37,21 +39,22 @@ fn root(alloc: Global, cursor: Cursor) -> Result<(u64, Cursor), ImageNo>
         Mark::Dir => false,
         Mark::File => true,
     };
-    let (header, after) = header(alloc, after, is_file)?;
+    let (header, after) = header(input, after, is_file)?;
     if is_file || header.path.text() != b"/".as_slice() {
         return Err(ImageNo::Parent { at: header.place });
     }
     Ok((header.stamp, after))
 }
 
-/// Takes of a file its bytes and a newline, and of a directory nothing. The bytes are copied once.
+/// Takes of a file its bytes and a newline, and of a directory nothing. The body shares the input's bytes.
 #[tactic(auto, unfolding(crate::specs::Reading::body_at))]
-fn body(
-    alloc: Global,
-    cursor: Cursor,
+fn body<'a>(
+    input: &Bytes,
+    cursor: Cursor<'a>,
     stamp: u64,
     size: Option<u64>,
-) -> Result<(Node, Cursor), ImageNo>
+) -> Result<(Node, Cursor<'a>), ImageNo>
+    requires { IsAt input.now (seen cursor) }
     ensures { Gives (λ x. (x.0, seen x.1)) result (body_at stamp size (seen cursor.entry)) }
 {
     let Some(size) = size else {
@@ -61,9 +64,9 @@ fn body(
     if cursor.rest.len() < size {
         return Err(ImageNo::Short { at: end(cursor) });
     }
-    let bytes = &cursor.rest[..size];
     let after = fixed(skipped(cursor, size), b'\n')?;
-    let body = Body::from_slice(alloc, bytes)?;
+    let start = cursor.at as usize;
+    let body = Body::from_bytes(input.slice(start..start + size)?);
     Ok((Node::File { body, stamp }, after))
 }
 
@@ -82,14 +85,16 @@ fn has_parent(alloc: Global, tree: &Tree, path: &Path) -> Result<bool, NoMemory>
 #[tactic(auto, unfolding(crate::specs::Reading::node_at))]
 fn node<'a>(
     alloc: Global,
+    input: &Bytes,
     tree: &Tree,
     last: &Path,
     cursor: Cursor<'a>,
     is_file: bool,
 ) -> Result<(Path, Node, Cursor<'a>), ImageNo>
+    requires { IsAt input.now (seen cursor) }
     ensures { Gives (λ x. ((x.0, x.1), seen x.2)) result (node_at limits is_file last.now tree.now (seen cursor.entry)) }
 {
-    let (header, after) = header(alloc, cursor, is_file)?;
+    let (header, after) = header(input, cursor, is_file)?;
     let Header {
         stamp,
         size,
@@ -102,12 +107,18 @@ fn node<'a>(
     if !has_parent(alloc, tree, &path)? {
         return Err(ImageNo::Parent { at: place });
     }
-    let (node, after) = body(alloc, after, stamp, size)?;
+    let (node, after) = body(input, after, stamp, size)?;
     Ok((path, node, after))
 }
 
 /// Takes the nodes behind the root, and the `.` of the end.
-fn nodes(alloc: Global, root_stamp: u64, cursor: Cursor) -> Result<(Tree, Cursor), ImageNo>
+fn nodes<'a>(
+    alloc: Global,
+    input: &Bytes,
+    root_stamp: u64,
+    cursor: Cursor<'a>,
+) -> Result<(Tree, Cursor<'a>), ImageNo>
+    requires { IsAt input.now (seen cursor) }
     ensures { Gives (λ x. (x.0, seen x.1)) result (nodes_at limits (limits.nodes - 1) root_text (map.insert map.empty root_text (node.Dir root_stamp)) (seen cursor.entry)) }
 {
     let mut tree = Tree::new(alloc, root_stamp)?;
@@ -120,9 +131,9 @@ fn nodes(alloc: Global, root_stamp: u64, cursor: Cursor) -> Result<(Tree, Cursor
             Mark::Dir => false,
             Mark::File => true,
         };
-        let (path, node, after) = node(alloc, &tree, &last, after, is_file)?;
+        let (path, node, after) = node(alloc, input, &tree, &last, after, is_file)?;
         last = path.copy()?;
-        tree.set(path, node)?;
+        tree.add(path, node)?;
         here = after;
     }
     let (mark, after) = mark(here)?;
@@ -135,22 +146,28 @@ fn nodes(alloc: Global, root_stamp: u64, cursor: Cursor) -> Result<(Tree, Cursor
     }
 }
 
+/// Whether an input is too long to be read.
+fn is_too_long(bytes: &[u8]) -> bool
+    ensures { result ≡ nat_lt limits.image (length bytes.now) }
+{
+    bytes.len() > MAX_IMAGE
+}
+
+const TOO_LONG: ImageNo = ImageNo::Limit {
+    which: Which::Image,
+    at: 67_108_864,
+};
+
 /// The tree of the whole input.
 #[tactic(auto, unfolding(crate::specs::Reading::reading))]
-fn whole(alloc: Global, bytes: &[u8]) -> Result<Tree, ImageNo>
-    ensures exact { Gives (λ t. t) result (reading limits bytes.now) }
-    ensures long { limits.image < length bytes.now → result ≡ Err (no.Limit which.Image limits.image) }
+fn whole(alloc: Global, input: &Bytes) -> Result<Tree, ImageNo>
+    requires { nat_lt limits.image (length input.now) ≡ false }
+    ensures { Gives (λ t. t) result (reading limits input.now) }
 {
-    if bytes.len() > MAX_IMAGE {
-        return Err(ImageNo::Limit {
-            which: Which::Image,
-            at: 67_108_864,
-        });
-    }
-    let start = Cursor { at: 0, rest: bytes };
-    let cursor = text(start, b"EMTREE 1\n")?;
-    let (stamp, cursor) = root(alloc, cursor)?;
-    let (tree, cursor) = nodes(alloc, stamp, cursor)?;
+    let rest = input.as_slice();
+    let cursor = text(Cursor { at: 0, rest }, b"EMTREE 1\n")?;
+    let (stamp, cursor) = root(input, cursor)?;
+    let (tree, cursor) = nodes(alloc, input, stamp, cursor)?;
     let cursor = fixed(cursor, b'\n')?;
     if !cursor.rest.is_empty() {
         return Err(ImageNo::Rest { at: cursor.at });
@@ -159,7 +176,7 @@ fn whole(alloc: Global, bytes: &[u8]) -> Result<Tree, ImageNo>
 }
 
 /// The tree whose text this is. The first fault from the left is the error; what each is and its place is said at `ImageNo`.
-/// Each file's bytes are copied once.
+/// The bytes are copied once, and the tree's paths and bodies share them. `read_text` copies none.
 pub fn read_image(alloc: Global, bytes: &[u8]) -> Result<Tree, ImageNo>
     // The bytes are the tree's text, and the tree breaks no limit.
     ensures found { IfOk result (λ t. IsImage bytes.now t × (broken limits t ≡ None)) }
@@ -170,5 +187,22 @@ pub fn read_image(alloc: Global, bytes: &[u8]) -> Result<Tree, ImageNo>
     // An input that is too long is told also where memory is short.
     ensures long { limits.image < length bytes.now → result ≡ Err (no.Limit which.Image limits.image) }
 {
-    whole(alloc, bytes)
+    if is_too_long(bytes) {
+        return Err(TOO_LONG);
+    }
+    whole(alloc, &Bytes::copy_from_slice(alloc, bytes)?)
+}
+
+/// The tree whose text this is, as `read_image`. No byte is copied: the tree's paths and bodies share the text's, which
+/// stay as long as one of them does.
+pub fn read_text(alloc: Global, text: Text) -> Result<Tree, ImageNo>
+    ensures found { IfOk result (λ t. IsImage text t × (broken limits t ≡ None)) }
+    ensures only { (t : Table) → IsImage text t → broken limits t ≡ None → Gives (λ u. u) result (Ok t) }
+    ensures exact { Gives (λ t. t) result (reading limits text) }
+    ensures long { limits.image < length text → result ≡ Err (no.Limit which.Image limits.image) }
+{
+    if is_too_long(text.bytes()) {
+        return Err(TOO_LONG);
+    }
+    whole(alloc, &Bytes::from_vec(text.into_vec())?)
 }

@@ -1,4 +1,5 @@
 use super::*;
+use em_base::Text;
 use em_tree::Tree;
 use std::alloc::Global;
 use std::process::Abort;
@@ -15,21 +16,21 @@ fn fault(rt: &HostRuntime, bytes: &[u8]) -> Option<ImageNo> {
 
 #[test]
 fn an_image_is_read_and_written_again(rt: HostRuntime) -> Result<(), Fail> {
-    let tree = read_image(rt.alloc(), &SAMPLE)?;
-    assert_eq!(rt; tree.count(), 2);
-    let text = write_image(rt.alloc(), &tree)?;
-    assert_eq!(rt; text.bytes(), SAMPLE.as_slice());
+    let rows: [(&[u8], usize, u64); 3] = [
+        (&SAMPLE, 2, 1),
+        (b"EMTREE 1\nd 0 /\n.\n", 1, 0),
+        (b"EMTREE 1\nd 4611686018427387904 /\n.\n", 1, 1 << 62),
+    ];
+    for (bytes, count, base) in rows {
+        let tree = read_text(rt.alloc(), Text::from_slice(rt.alloc(), bytes)?)?;
+        assert_eq!(rt; tree.count(), count);
+        assert_eq!(rt; tree.base(), base);
+        let text = write_image(rt.alloc(), &tree)?;
+        assert_eq!(rt; text.bytes(), bytes);
+    }
     one_tree_of_a_text();
     the_test_tells_paths();
-    Ok(())
-}
-
-#[test]
-fn the_least_image_and_the_latest_stamp_are_read(rt: HostRuntime) -> Result<(), Fail> {
-    let least = read_image(rt.alloc(), b"EMTREE 1\nd 0 /\n.\n")?;
-    assert_eq!(rt; least.count(), 1);
-    let late = read_image(rt.alloc(), b"EMTREE 1\nd 4611686018427387904 /\n.\n")?;
-    assert_eq!(rt; late.base(), 1 << 62);
+    faults_have_places();
     Ok(())
 }
 
