@@ -2,7 +2,7 @@
 use Rattle.std.proofs.Common.{◌≡◌, ◌≢◌, ℕ, suc, ◌+◌, ◌^◌, ◌<◌, ◌≤◌, Bool, true, false, cond, not, ◌||◌, eqb, nat_lt, List, [], ◌∷◌, ◌++◌, length, get_or, take, drop, Result, Ok, Err, refl, sym, ap, subst, ◌∙◌, arith, rules, drop-cons, inl, inr, decimal}
 use Rattle.std.specs.Char.{is_ascii_digit}
 use Rattle.std.specs.List.{list_all, prefix_len, position_or_len, flat_map, AllByRecursion}
-use Rattle.std.proofs.lemmas.Bool.{lt-ltb, ltb-true, le-ltb, ltb-false, eqb-true, eq-eqb, cases_lt}
+use Rattle.std.proofs.lemmas.Bool.{lt-ltb, ltb-true, le-ltb, ltb-false, eqb-true, eq-eqb, ne_eqb}
 use Rattle.std.proofs.lemmas.List.{take_at, drop_at, take-append-drop, length-append}
 use Rattle.std.proofs.lemmas.List.Sums.{passes_at_first}
 use Rattle.std.proofs.lemmas.List.Concat.{flat_map-cons}
@@ -10,13 +10,15 @@ use Rattle.std.proofs.lemmas.List.Folds.{list_all-append}
 use Rattle.std.proofs.lemmas.List.Elements.{recursion_from_All}
 use Rattle.std.proofs.lemmas.Fmt.{decimal_digit, decimal_nonempty, first_decimal, digits_decimal, digits_value-decimal, decimal-digits_value}
 use Rattle.std.proofs.lemmas.Str.Parse.{IsNumeralModel, numerals_by_fold}
-use Rattle.em_path.specs.Paths.{IsComponent, IsPath, components, path_text}
+use Rattle.em_path.specs.Paths.{IsComponent, IsPath, is_path, components, path_text}
 use Rattle.em_image.specs.declared.no.Which.{Which}
 use Rattle.em_image.specs.declared.no.ImageNo.{ImageNo}
 use Rattle.em_image.specs.declared.no.ImageNo.TheVariants as no
-use Rattle.em_image.specs.Parts.{◌>>=◌, Here, skip, end_of, until_at, fixed_at, fixed_in, is_numeral, value, value_after, number_at, is_path, path_at}
+use Rattle.em_image.specs.Parts.{◌>>=◌, Here, skip, end_of, until_at, fixed_at, fixed_in, value, value_after, number_at, path_at}
 use Rattle.em_image.proofs.Digits.{digits_before, same_not_not}
-use Rattle.em_image.proofs.Names.{path_hold, path_pass, all_pass, both_true, not_is, numbers_eq}
+use Rattle.em_base.specs.Numbers.{has_no_leading_zero}
+use Rattle.em_base.proofs.Lemmas.{decimal_first, all_pass}
+use Rattle.em_path.proofs.Lemmas.{path_hold, path_pass}
 
 -- ---- steps
 
@@ -94,17 +96,9 @@ AreDigits ds = list_all is_ascii_digit ds ≡ true
 own : IsNumeralModel AreDigits value
 own = numerals_by_fold AreDigits (search rules) value_after (search rules)
 
-numeral_first : (ds : List ℕ) → is_numeral ds ≡ true → (0 < length ds) × (get_or ds 0 0 ≡ 48 → length ds ≡ 1)
+numeral_first : (ds : List ℕ) → has_no_leading_zero ds ≡ true → (0 < length ds) × (get_or ds 0 0 ≡ 48 → length ds ≡ 1)
 numeral_first [] e = absurd cc
 numeral_first (d ∷ ds) e = (omega arith, λ z. let k : d ≡ 48 = z in let empty : eqb (length ds) 0 ≡ true = rw k at e in omega (arith, eqb-true (length ds) 0 empty))
-
-numeral_from : (ds : List ℕ) → 0 < length ds → (get_or ds 0 0 ≡ 48 → length ds ≡ 1) → is_numeral ds ≡ true
-numeral_from [] lt h = absurd (omega arith)
-numeral_from (d ∷ ds) lt h =
-    elim (eqb d 48) as (λ b. eqb d 48 ≡ b → (not b || eqb (length ds) 0) ≡ true) [
-      | true ↦ λ e. eq-eqb (length ds) 0 (omega (arith, h (eqb-true d 48 e)))
-      | false ↦ λ e. refl
-    ] refl
 
 same_all : (xs : List ℕ) → list_all (λ b. not (not (is_ascii_digit b))) xs ≡ list_all is_ascii_digit xs
 same_all [] = refl
@@ -113,25 +107,17 @@ same_all (x ∷ xs) = rw (same_not_not (is_ascii_digit x), same_all xs) refl
 pub number_takes : (w : Which) (limit : ℕ) (h : Here) (x : ℕ × Here) → limit < 2 ^ 64 → number_at w limit h ≡ Ok x → (h.rest ≡ decimal x.0 ++ x.1.rest) × (x.0 ≤ limit)
 unfolding number_at
 number_takes w limit h x small e =
-    let a = bind_ok (until_at (λ b. not (is_ascii_digit b)) h) (λ ds. cond (not (is_numeral ds.0)) (Err (no.Number h.at)) (cond (nat_lt limit (value ds.0)) (Err (no.Limit w h.at)) (Ok (value ds.0, ds.1)))) x e in
+    let a = bind_ok (until_at (λ b. not (is_ascii_digit b)) h) (λ ds. cond (not (has_no_leading_zero ds.0)) (Err (no.Number h.at)) (cond (nat_lt limit (value ds.0)) (Err (no.Limit w h.at)) (Ok (value ds.0, ds.1)))) x e in
     let ds = a.0.0 in
     let u = until_takes (λ b. not (is_ascii_digit b)) h a.0 a.1 in
-    let n = first_err (not (is_numeral ds)) (no.Number h.at) (cond (nat_lt limit (value ds)) (Err (no.Limit w h.at)) (Ok (value ds, a.0.1))) x a.2 in
+    let n = first_err (not (has_no_leading_zero ds)) (no.Number h.at) (cond (nat_lt limit (value ds)) (Err (no.Limit w h.at)) (Ok (value ds, a.0.1))) x a.2 in
     let v = first_err (nat_lt limit (value ds)) (no.Limit w h.at) (Ok (value ds, a.0.1)) x n.1 in
-    let form = numeral_first ds (not_false (is_numeral ds) n.0) in
+    let form = numeral_first ds (not_false (has_no_leading_zero ds) n.0) in
     let digits : AreDigits ds = rw u.1 (digits_before h.rest) in
     let low : value ds ≤ limit = ltb-false _ _ v.0 in
     let written : decimal (value ds) ≡ ds = decimal-digits_value own ds digits form.0 form.1 (omega arith) in
     let parts : h.rest ≡ decimal (value ds) ++ a.0.1.rest = rw (written, u.1, u.2) (sym (take-append-drop (position_or_len (λ b. not (is_ascii_digit b)) h.rest) h.rest)) in
     subst (λ (y : ℕ × Here). (h.rest ≡ decimal y.0 ++ y.1.rest) × (y.0 ≤ limit)) (ok_is _ _ v.1) (parts, low)
-
-decimal_numeral : (n : ℕ) → n < 2 ^ 64 → is_numeral (decimal n) ≡ true
-decimal_numeral n small =
-    numeral_from (decimal n) (decimal_nonempty n small) (λ z.
-    elim (cases_lt 0 n) [
-      | inl pos ↦ absurd (omega (arith, z, first_decimal n pos small))
-      | inr le ↦ let k : n ≡ 0 = omega arith in rw (k, decimal_digit 0 (omega arith)) refl
-    ])
 
 -- a number in front of a blank
 pub number_again : (w : Which) (limit at n : ℕ) (rest : List ℕ) → n ≤ limit → limit < 2 ^ 64 → number_at w limit (here at (decimal n ++ 32 ∷ rest)) ≡ Ok (n, here (at + length (decimal n)) (32 ∷ rest))
@@ -141,19 +127,22 @@ number_again w limit at n rest le small =
     let digits : list_all (λ b. not (not (is_ascii_digit b))) (decimal n) ≡ true = rw (same_all (decimal n)) (digits_decimal own n low) in
     let found = until_again (λ b. not (is_ascii_digit b)) at (decimal n) 32 rest digits refl in
     let below : nat_lt limit n ≡ false = le-ltb _ _ le in
-    rw (found, decimal_numeral n low, digits_value-decimal own n low, below) refl
+    rw (found, decimal_first n low, digits_value-decimal own n low, below) refl
 
 -- ---- paths
 
+not_newline : (b : ℕ) → b ≢ 10 → not (eqb b 10) ≡ true
+not_newline b n = rw (ne_eqb b 10 n) refl
+
 plain_name : (c : List ℕ) → IsComponent c → list_all (λ b. not (eqb b 10)) c ≡ true
-plain_name c h = all_pass (λ b. not (eqb b 10)) (λ b. (b ≢ 47) × (b ≢ 0) × (b ≢ 10)) (λ b p. not_is _ (numbers_eq b 10) p.2) c (recursion_from_All _ c h.plain)
+plain_name c h = all_pass (λ b. not (eqb b 10)) (λ b. (b ≢ 47) × (b ≢ 0) × (b ≢ 10)) (λ b p. not_newline b p.2) c (recursion_from_All _ c h.plain)
 
 plain_names : (cs : List (List ℕ)) → AllByRecursion IsComponent cs → list_all (λ b. not (eqb b 10)) (flat_map (λ (d : List ℕ). 47 ∷ d) cs) ≡ true
 plain_names [] h = refl
 plain_names (c ∷ cs) h =
     let f : List ℕ → List ℕ = λ d. 47 ∷ d in
     let p : ℕ → Bool = λ b. not (eqb b 10) in
-    ap (list_all p) (flat_map-cons f c cs) ∙ list_all-append p (f c) (flat_map f cs) ∙ both_true _ _ (plain_name c h.0) (plain_names cs h.1)
+    ap (list_all p) (flat_map-cons f c cs) ∙ list_all-append p (f c) (flat_map f cs) ∙ rw (plain_name c h.0, plain_names cs h.1) refl
 
 plain_spelled : (cs : List (List ℕ)) → AllByRecursion IsComponent cs → list_all (λ b. not (eqb b 10)) (path_text cs) ≡ true
 plain_spelled [] h = refl

@@ -7,7 +7,8 @@ use Rattle.std.specs.List.{position_or_len}
 use Rattle.std.specs.FinMap.{insert, empty}
 use Rattle.std.proofs.lemmas.Bool.{ltb-true, ltb-false, lt-ltb, le-ltb, eqb-false}
 use Rattle.std.proofs.lemmas.List.{length-drop, length-take, drop-drop}
-use Rattle.em_path.specs.Paths.{root_text, parent_text}
+use Rattle.em_base.specs.Numbers.{has_no_leading_zero}
+use Rattle.em_path.specs.Paths.{root_text, parent_text, is_path}
 use Rattle.em_tree.specs.declared.node.Node.{Node}
 use Rattle.em_tree.specs.declared.node.Node.TheVariants.{File, Dir}
 use Rattle.em_tree.specs.Trees.{Table}
@@ -18,7 +19,7 @@ use Rattle.em_image.specs.declared.no.ImageNo.TheVariants as no
 use Rattle.em_image.specs.declared.cursor.Mark.{Mark}
 use Rattle.em_image.specs.declared.cursor.Mark.TheVariants as mark
 use Rattle.em_image.specs.Image.{Limits}
-use Rattle.em_image.specs.Parts.{◌>>=◌, Here, IsAt, skip, end_of, fixed_at, fixed_in, text_at, mark_at, mark_in, until_at, is_numeral, value, number_at, stamp_at, size_at, is_path, path_at}
+use Rattle.em_image.specs.Parts.{◌>>=◌, Here, IsAt, skip, end_of, fixed_at, fixed_in, text_at, mark_at, mark_in, until_at, value, number_at, stamp_at, size_at, path_at}
 use Rattle.em_image.specs.Reading.{Header, header_at, root_at, root_of, body_at, node_at, nodes_at, ended, reading, is_file, is_end, is_after, has_dir}
 use Rattle.em_image.specs.Faults.{FaultFits}
 use Rattle.em_image.proofs.Fields.{bind_ok, here, until_takes}
@@ -122,8 +123,8 @@ pub number_reads : (w : Which) (limit : ℕ) (h : Here) → (h.at < end_of h →
 unfolding number_at
 number_reads w limit h told =
     let p : ℕ → Bool = λ b. not (is_ascii_digit b) in
-    then_reads after after h (until_at p h) (λ ds. cond (not (is_numeral ds.0)) (Err (no.Number h.at)) (cond (nat_lt limit (value ds.0)) (Err (no.Limit w h.at)) (Ok (value ds.0, ds.1)))) (until_reads p h)
-    (λ ds e. if_reads after h (not (is_numeral ds.0)) (Err (no.Number h.at)) (cond (nat_lt limit (value ds.0)) (Err (no.Limit w h.at)) (Ok (value ds.0, ds.1))) (λ _. until_before p h ds e)
+    then_reads after after h (until_at p h) (λ ds. cond (not (has_no_leading_zero ds.0)) (Err (no.Number h.at)) (cond (nat_lt limit (value ds.0)) (Err (no.Limit w h.at)) (Ok (value ds.0, ds.1)))) (until_reads p h)
+    (λ ds e. if_reads after h (not (has_no_leading_zero ds.0)) (Err (no.Number h.at)) (cond (nat_lt limit (value ds.0)) (Err (no.Limit w h.at)) (Ok (value ds.0, ds.1))) (λ _. until_before p h ds e)
     (λ _. if_reads after h (nat_lt limit (value ds.0)) (Err (no.Limit w h.at)) (Ok (value ds.0, ds.1)) (λ _. told (until_before p h ds e)) (λ _. behind_of after h (until_at p h) ds (until_reads p h) e)))
 
 pub stamp_reads : (l : Limits) (h : Here) → Reads after h (stamp_at l h)

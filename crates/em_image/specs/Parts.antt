@@ -6,10 +6,10 @@
 --     number_at which limit    a decimal number up to a limit
 --     path_at                  the text of a path, and the newline behind it
 use Rattle.std.specs.Prelude.{◌≡◌, ℕ, ◌+◌, ◌-◌, ◌*◌, ◌≤◌, Bool, true, false, not, ◌&&◌, ◌||◌, List, [], ◌∷◌, length, take, drop, Option, Some, None, Result, Ok, Err, nat_lt, nat_le, ◌==◌, if◌then◌else◌, codes}
-use Rattle.std.specs.Str.{bytes_eq}
 use Rattle.std.specs.Char.{is_ascii_digit}
-use Rattle.std.specs.List.{position_or_len, list_all}
-use Rattle.em_path.specs.Paths.{components, path_text}
+use Rattle.std.specs.List.{position_or_len}
+use Rattle.em_base.specs.Numbers.{has_no_leading_zero}
+use Rattle.em_path.specs.Paths.{is_path}
 use Rattle.em_image.specs.declared.no.Which.{Which}
 use Rattle.em_image.specs.declared.no.Which.TheVariants as which
 use Rattle.em_image.specs.declared.no.ImageNo.{ImageNo}
@@ -86,11 +86,6 @@ until_at p here =
 
 -- ---- numbers
 
--- there are digits, and the first is no zero unless it is the only one
-abbrev pub is_numeral : List ℕ → Bool
-is_numeral [] = false
-is_numeral (d ∷ ds) = not (d == 48) || (length ds == 0)
-
 -- the number that n and the digits behind it spell
 abbrev pub value_after : ℕ → List ℕ → ℕ
 value_after n [] = n
@@ -102,7 +97,7 @@ value ds = value_after 0 ds
 unfoldable pub number_at : Which → ℕ → Here → Result (ℕ × Here) ImageNo
 number_at w limit here = do
   ds ← until_at (λ b. not (is_ascii_digit b)) here
-  if not (is_numeral ds.0) then Err (no.Number here.at) else if nat_lt limit (value ds.0) then Err (no.Limit w here.at) else Ok (value ds.0, ds.1)
+  if not (has_no_leading_zero ds.0) then Err (no.Number here.at) else if nat_lt limit (value ds.0) then Err (no.Limit w here.at) else Ok (value ds.0, ds.1)
 
 -- a stamp between blanks
 unfoldable pub stamp_at : Limits → Here → Result (ℕ × Here) ImageNo
@@ -121,16 +116,6 @@ size_at l true here = do
   Ok (Some n.0, b)
 
 -- ---- paths
-
--- whether the bytes are a component, as a test
-abbrev pub is_component : List ℕ → Bool
-is_component name =
-    not (length name == 0) && not (bytes_eq name (codes ".")) && not (bytes_eq name (codes "..")) && list_all (λ b. not (b == 47) && not (b == 0) && not (b == 10)) name
-
--- whether the bytes are a path's text, as a test
-abbrev pub is_path : List ℕ → Bool
-is_path text =
-    bytes_eq text (path_text (components text)) && list_all is_component (components text) && nat_le (length (components text)) 64 && nat_le (length text) 1024
 
 unfoldable pub path_at : Here → Result (List ℕ × Here) ImageNo
 path_at here = do

@@ -1,22 +1,15 @@
 //! What holds of all images.
-ghost use Rattle.std.specs.Prelude.{◌≡◌, ◌<◌, ◌≤◌, ◌↔◌, ℕ, List, length, Err, true};
-ghost use Rattle.em_path.specs.Paths.{IsPath};
+ghost use Rattle.std.specs.Prelude.{◌≡◌, ◌<◌, ◌≤◌, ℕ, List, length, Err};
 ghost use Rattle.em_image.specs.Image.{HasOneTree, limits};
 ghost use Rattle.em_image.specs.Faults.{FaultFits};
 ghost use Rattle.em_image.specs.Reading.{reading};
 ghost use Rattle.em_image.specs.declared.no.ImageNo.{ImageNo};
 ghost use Rattle.em_image.specs.declared.no.ImageNo.TheVariants as no;
 ghost use Rattle.em_image.specs.declared.no.Which.TheVariants as which;
-ghost use Rattle.em_image.specs.Parts.{is_path};
 
 /// A text belongs to at most one tree. That each tree has one text is its definition.
 pub fn one_tree_of_a_text()
     ensures { (bytes : List ℕ) → HasOneTree bytes }
-{}
-
-/// The test by which the fault of a path is defined tells exactly the texts of paths.
-pub fn the_test_tells_paths()
-    ensures { (text : List ℕ) → (is_path text ≡ true) ↔ IsPath text }
 {}
 
 /// Short is told at the text's end, an image that is too long at the limit, and any other fault at a byte of the text.

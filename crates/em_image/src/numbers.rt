@@ -2,7 +2,8 @@
 ghost use Rattle.std.specs.Prelude.{◌≡◌, ◌≤◌, ◌^◌, Some, None, true, nat_lt, if◌then◌else◌};
 ghost use Rattle.std.specs.List.{list_all};
 ghost use Rattle.std.specs.Char.{is_ascii_digit};
-ghost use Rattle.em_image.specs.Parts.{Gives, seen, is_numeral, value, number_at};
+ghost use Rattle.em_image.specs.Parts.{Gives, seen, value, number_at};
+ghost use Rattle.em_base.specs.Numbers as numerals;
 
 use crate::cursor::Cursor;
 use crate::no::{ImageNo, Which};
@@ -10,7 +11,7 @@ use crate::parts::digits;
 
 /// Whether there are digits, with a zero in front only where it is the only one.
 fn has_no_leading_zero(digits: &[u8]) -> bool
-    ensures { result ≡ is_numeral digits.now }
+    ensures { result ≡ numerals.has_no_leading_zero digits.now }
 {
     match digits {
         [] => false,

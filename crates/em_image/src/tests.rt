@@ -29,7 +29,6 @@ fn an_image_is_read_and_written_again(rt: HostRuntime) -> Result<(), Fail> {
         assert_eq!(rt; text.bytes(), bytes);
     }
     one_tree_of_a_text();
-    the_test_tells_paths();
     faults_have_places();
     Ok(())
 }
