@@ -1,4 +1,5 @@
 pub mod NameLemmas
-pub mod Deliveries
+pub mod Following
+pub mod Runs
 pub mod Ends
 pub mod Running

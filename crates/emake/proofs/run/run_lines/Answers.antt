@@ -1,6 +1,6 @@
 use Rattle.std.proofs.Common.{refl}
 use Rattle.em_view.proofs.Performing.{more, end, then, finish, tried, lost, ran_out}
-use Rattle.emake.proofs.Deliveries.{left_at, none_at}
+use Rattle.emake.proofs.Runs.{left_at, none_at}
 use Rattle.emake.proofs.Running.{answered}
 use Rattle.emake.proofs.run.run_lines.Goals as goal
 
