@@ -1,59 +1,45 @@
--- How a run ends.
-use Rattle.std.proofs.Common.{◌≡◌, ℕ, ◌<◌, ◌≤◌, ◌^◌, Bool, true, false, cond, ◌||◌, List, [], ◌∷◌, ◌++◌, length, take, map, append-nil, Option, Some, None, Result, Ok, Err, nat_lt, refl, sym, ap, subst, ◌∙◌, inl, inr, ⊎_elim, arith}
+-- The ends of a run: what limits say of its image, and what its calls come to.
+--     failed-so          a refusal of the image is what reading gives
+--     base-bound         the greatest stamp of an image that is read
+--     headline           a run that followed its course keeps the headline
+use Rattle.std.proofs.Common.{◌≡◌, ℕ, ◌<◌, ◌≤◌, ◌^◌, Bool, true, false, cond, ◌||◌, List, [], ◌∷◌, ◌++◌, ◌==◌, length, take, map, Option, Some, None, Result, Ok, Err, nat_lt, refl, sym, ap, subst, ◌∙◌, inl, inr, ◌⊎◌, ⊎_elim, arith}
 use Rattle.std.specs.List.{list_any}
-use Rattle.std.specs.FinMap.{entries, get}
+use Rattle.std.specs.FinMap.{entries}
 use Rattle.std.proofs.lemmas.Bool.{false≢true}
-use Rattle.em_host.specs.Outside.{Outside, Tells, Takes, Replaces}
-use Rattle.em_host.specs.declared.no.HostNo.{HostNo}
-use Rattle.em_host.specs.declared.no.HostNo.TheVariants.{Failed}
-use Rattle.em_host.specs.declared.no.HostNo.TheVariants as host
-use Rattle.em_host.proofs.Telling.{Tells-then, Tells-weaken}
+use Rattle.em_host.specs.declared.call.Call.{Call}
+use Rattle.em_host.specs.declared.call.Call.TheVariants.{Take, Replace, Print}
+use Rattle.em_host.specs.Outside.{Files, Outside, Tells}
+use Rattle.em_host.specs.Calls.{files_after, Makes, MakesFront, FailsIn}
+use Rattle.em_host.proofs.Telling.{Tells-weaken, IsQuiet, LastReplaces, quiet_then, quiet_both, front_printed, fails_printed, front_files, fails_files}
 use Rattle.em_tree.specs.Trees.{Table, greatest, base_of, stamp_in}
 use Rattle.em_tree.specs.declared.node.Node.{Node}
-use Rattle.em_image.specs.Image.{limits, broken, is_too_late, is_too_big, entries_text}
+use Rattle.em_tree.specs.declared.state.State.{State}
+use Rattle.em_image.specs.Image.{limits, broken, is_too_late, is_too_big, entries_text, writing}
 use Rattle.em_image.specs.Parts.{Fails}
 use Rattle.em_image.specs.declared.no.ImageNo.{ImageNo}
 use Rattle.em_image.specs.declared.no.ImageNo.TheVariants as no
 use Rattle.em_image.specs.declared.no.Which.{Which}
 use Rattle.em_image.specs.declared.no.Which.TheVariants as which
-use Rattle.em_image.specs.Image.{writing}
-use Rattle.em_tree.specs.declared.outcome.Outcome.{Outcome}
-use Rattle.em_tree.specs.declared.state.State.{State}
+use Rattle.em_image.specs.Reading.{reading}
 use Rattle.em_simple.specs.declared.job.Job.{Job}
+use Rattle.em_simple.specs.declared.makefile.Rule.{Rule}
+use Rattle.em_simple.specs.declared.plan.Planned.{Planned}
+use Rattle.em_simple.specs.Reading.{read_makefile}
+use Rattle.em_simple.specs.Plan.{serial_order}
+use Rattle.emake.specs.declared.build.Makefile.{Makefile}
+use Rattle.emake.specs.declared.serial.Ran.{Ran}
 use Rattle.emake.specs.declared.verdict.Verdict.{Verdict}
-use Rattle.em_view.specs.Serial.{SerialRun}
-use Rattle.emake.specs.Serial.{serial, said}
-use Rattle.emake.specs.Endings.{finished, closed, built, over, ended, refused}
+use Rattle.emake.specs.declared.verdict.Verdict.TheVariants.{Done, Faulty, Refused, Spent}
+use Rattle.emake.specs.declared.stop.Stop.{Stop}
+use Rattle.emake.specs.declared.stop.Stop.TheVariants.{End, Failed, NoMemory}
+use Rattle.emake.specs.declared.words.Order.{Order}
+use Rattle.emake.specs.Closing.{code_of, status_of, closing}
+use Rattle.emake.specs.Course.{Steps, Course, go_on, ◌>>=◌, done, quit, say, say_all, take as take_file, keep, stop, Ends, RunsOut, Does, Follows}
+use Rattle.emake.specs.Endings.{as_ordered, ordered, as_found, image_in, as_read, tree_of, with_rules, as_makefile, makefile_of, as_jobs, planned, spoken, built, closed, finish, ended, makefile_in, image_line}
+use Rattle.emake.specs.Messages.{too_many_jobs}
+use Rattle.em_simple.specs.Jobs.{jobs_of}
+use Rattle.emake.specs.Headline.{verdict_of, exit_status, IsCut, Comes, Headline}
 use Rattle.emake.specs.Words.{order_of}
-use Rattle.emake.specs.Messages.{bad_words}
-use Rattle.emake.proofs.Deliveries.{delivers-behind, delivers-stop}
-use Rattle.emake.specs.Delivery.{Ending, Says, Delivers, replaced}
-
-take_whole : (xs : List ℕ) → take (length xs) xs ≡ xs
-take_whole [] = refl
-take_whole (x ∷ xs) = ap (λ s. x ∷ s) (take_whole xs)
-
--- the text was printed, and then the image wasn't replaced
-pub keep-stop : {A : Type 0} (text name bytes : List ℕ) (status : Verdict) (u : A) (e : HostNo) (x y z : Outside) → Says text (Ok u) x y → Replaces name bytes (Err e) y z
-    → Delivers (record { printed = text; image = Some (name, bytes); status = status }) (Err e) x z
-keep-stop text name bytes status u e x y z p q = record {
-  done = tt;
-  status = tt;
-  cut = record {
-    printed = (length text, q.printed ∙ p.whole ∙ ap (λ s. x.printed ++ s) (sym (take_whole text)));
-    files = inl (q.files ∙ p.files);
-  };
-  last = λ _. q.failed;
-}
-
--- want of memory, with nothing called on the host
-pub out-of-memory : (e : Ending) (x : Outside) → Delivers e (Err host.NoMemory) x x
-out-of-memory e x = record {
-  done = tt;
-  status = tt;
-  cut = record { printed = (0, sym (append-nil x.printed)); files = inl refl };
-  last = λ h. absurd (cc);
-}
 
 -- an answer other than want of memory is what reading gives
 pub failed-so : {Y : Type 0} (e : ImageNo) (read : Result Y ImageNo) → (e ≡ no.NoMemory → ⊥) → Fails e read → read ≡ Err e
@@ -97,61 +83,150 @@ base-bound t e =
     (last_of_four (nat_lt limits.image (length (entries_text (entries t)))) (nat_lt limits.nodes (length (entries t))) (list_any (is_too_big limits) (entries t)) (list_any (is_too_late limits) (entries t))
     which.Image which.Nodes which.File which.Stamp e)
 
--- ---- a build: the serial run, and then its end
-
-abbrev start_of : Table → State
-start_of t = record { tree = t; outcomes = [] }
-
-pub built-stop : (A : Type 0) (image : List ℕ) (t : Table) (makefile : List ℕ) (jobs : List Job) (base : ℕ) (outcomes : List Outcome) (e : HostNo) (x y : Outside) → base ≡ base_of t → outcomes ≡ []
-    → Says {A = A} (said (serial base makefile jobs (record { tree = t; outcomes = outcomes }))) (Err e) x y → Delivers (built image t makefile jobs) (Err e) x y
-built-stop A image t makefile jobs base outcomes e x y same none p =
-    delivers-stop A (said (serial (base_of t) makefile jobs (start_of t))) _ e x y
-    (subst (λ b. Says {A = A} (said (serial b makefile jobs (start_of t))) (Err e) x y) same
-    (subst (λ o. Says {A = A} (said (serial base makefile jobs (record { tree = t; outcomes = o }))) (Err e) x y) none p))
-
-pub built-then : {A : Type 0} (image : List ℕ) (t : Table) (makefile : List ℕ) (jobs : List Job) (base : ℕ) (outcomes : List Outcome) (u : A) (early : Bool) (s : State) (r : Result Verdict HostNo) (x y z : Outside)
-    → base ≡ base_of t → outcomes ≡ []
-    → s ≡ (serial base makefile jobs (record { tree = t; outcomes = outcomes })).state → early ≡ (serial base makefile jobs (record { tree = t; outcomes = outcomes })).early
-    → Says (said (serial base makefile jobs (record { tree = t; outcomes = outcomes }))) (Ok u) x y → Delivers (finished image jobs early s (writing limits s.tree)) r y z → Delivers (built image t makefile jobs) r x z
-built-then image t makefile jobs base outcomes u early s r x y z same none state ends p q =
-    let run = serial base makefile jobs (record { tree = t; outcomes = outcomes }) in
-    let whole : run ≡ serial (base_of t) makefile jobs (start_of t) = ap (λ o. serial base makefile jobs (record { tree = t; outcomes = o })) none ∙ ap (λ b. serial b makefile jobs (start_of t)) same in
-    subst (λ (v : SerialRun). Delivers (closed image jobs v) r x z) whole
-    (delivers-behind (said run) _ u r x y z p
-    (subst (λ (w : State). Delivers (finished image jobs run.early w (writing limits w.tree)) r y z) state
-    (subst (λ b. Delivers (finished image jobs b s (writing limits s.tree)) r y z) ends q)))
-
-pub built-stops : (A : Type 0) (image : List ℕ) (t : Table) (makefile : List ℕ) (jobs : List Job) (base : ℕ) (outcomes : List Outcome) (e : HostNo) (a b : Option Outside) → base ≡ base_of t → outcomes ≡ []
-    → Tells (Says {A = A} (said (serial base makefile jobs (record { tree = t; outcomes = outcomes }))) (Err e)) a b → Tells (Delivers (built image t makefile jobs) (Err e)) a b
-built-stops A image t makefile jobs base outcomes e a b same none told =
-    Tells-weaken a b (λ x y p. built-stop A image t makefile jobs base outcomes e x y same none p) told
+pub less_false : (m n : ℕ) → n ≤ m → nat_lt m n ≡ false
+less_false m n le = grind (arith, le)
 
 pub less_true : (m n : ℕ) → m < n → nat_lt m n ≡ true
 less_true m n lt = grind (arith, lt)
 
--- a file was taken, and then a run came to an ending
-pub taken : (name : List ℕ) (found : Option (List ℕ)) (e : Ending) (r : Result Verdict HostNo) (x y z : Outside) → Takes name (Ok found) x y → Delivers e r y z → Delivers e r x z
-taken name found e (Ok v) x y z p q = record {
-  done = record { printed = q.done.printed ∙ ap (λ s. s ++ e.printed) p.stays.printed; files = q.done.files ∙ ap (replaced e.image) p.stays.files };
-  status = q.status;
-  cut = tt;
-  last = q.last;
-}
-taken name found e (Err w) x y z p q = record {
-  done = tt;
-  status = tt;
-  cut = record {
-    printed = (q.cut.printed.0, q.cut.printed.1 ∙ ap (λ s. s ++ take q.cut.printed.0 e.printed) p.stays.printed);
-    files = ⊎_elim (λ h. inl (h ∙ p.stays.files)) (λ h. inr (h ∙ ap (replaced e.image) p.stays.files)) q.cut.files;
-  };
-  last = q.last;
+-- ---- no call of a run but the last one replaces a file
+
+quiet_last : (calls : List Call) → IsQuiet calls → LastReplaces calls
+quiet_last [] q = tt
+quiet_last (Take name ∷ calls) q = quiet_last calls q
+quiet_last (Replace name bytes ∷ calls) q = absurd q
+quiet_last (Print text ∷ calls) q = quiet_last calls q
+
+module _ {A B : Type 0} (m : Course A) (k : A → Course B) (files : Files) where
+  last_on : (calls : List Call) (end : Result A Verdict) → IsQuiet calls → ((a : A) (f : Files) → LastReplaces (k a f).calls) → LastReplaces (go_on calls end k files).calls
+  last_on calls (Ok a) q l = quiet_then calls (k a (files_after calls files)).calls q (l a (files_after calls files))
+  last_on calls (Err verdict) q l = quiet_last calls q
+
+  quiet_on : (calls : List Call) (end : Result A Verdict) → IsQuiet calls → ((a : A) (f : Files) → IsQuiet (k a f).calls) → IsQuiet (go_on calls end k files).calls
+  quiet_on calls (Ok a) q l = quiet_both calls (k a (files_after calls files)).calls q (l a (files_after calls files))
+  quiet_on calls (Err verdict) q l = q
+
+  last : IsQuiet (m files).calls → ((a : A) (f : Files) → LastReplaces (k a f).calls) → LastReplaces ((m >>= k) files).calls
+  unfolding ◌>>=◌
+  last q l = last_on (m files).calls (m files).end q l
+
+  quiet : IsQuiet (m files).calls → ((a : A) (f : Files) → IsQuiet (k a f).calls) → IsQuiet ((m >>= k) files).calls
+  unfolding ◌>>=◌
+  quiet q l = quiet_on (m files).calls (m files).end q l
+
+quiet_done : {A : Type 0} (a : A) (files : Files) → IsQuiet (done a files).calls
+unfolding done
+quiet_done a files = tt
+
+quiet_say : (text : List ℕ) (files : Files) → IsQuiet (say text files).calls
+unfolding say
+quiet_say text files = elim (length text == 0) as (λ b. IsQuiet (cond b [] (Print text ∷ []))) [ true ↦ tt | false ↦ tt ]
+
+quiet_stop : (A : Type 0) (text : List ℕ) (verdict : Verdict) (files : Files) → IsQuiet (stop {A = A} text verdict files).calls
+unfolding quit
+quiet_stop A text verdict files = quiet (say text) (λ u. quit {A = A} verdict) files (quiet_say text files) (λ u f. tt)
+
+quiet_ordered : (order : Option Order) (files : Files) → IsQuiet (as_ordered order files).calls
+quiet_ordered None files = quiet_stop _ _ Faulty files
+quiet_ordered (Some order) files = quiet_done order files
+
+quiet_found : (bytes : Option (List ℕ)) (files : Files) → IsQuiet (as_found bytes files).calls
+quiet_found None files = quiet_stop _ _ Faulty files
+quiet_found (Some bytes) files = quiet_done bytes files
+
+quiet_image : (name : List ℕ) (files : Files) → IsQuiet (image_in name files).calls
+unfolding take_file
+quiet_image name files = quiet (take_file name) as_found files tt quiet_found
+
+quiet_read : (read : Result Table ImageNo) (files : Files) → IsQuiet (as_read read files).calls
+quiet_read (Ok tree) files = quiet_done tree files
+quiet_read (Err e) files = quiet_stop _ _ Faulty files
+
+quiet_rules : (name : List ℕ) (rules : Result (List Rule) ℕ) (files : Files) → IsQuiet (with_rules name rules files).calls
+quiet_rules name (Err line) files = quiet_stop _ _ Faulty files
+quiet_rules name (Ok rules) files = quiet_done _ files
+
+quiet_makefile : (file : Option (List ℕ × List ℕ)) (files : Files) → IsQuiet (as_makefile file files).calls
+quiet_makefile None files = quiet_done _ files
+quiet_makefile (Some file) files = quiet_rules file.0 (read_makefile file.1) files
+
+quiet_jobs : (rules : List Rule) (order : List Planned) (files : Files) → IsQuiet (as_jobs rules order files).calls
+quiet_jobs rules order files = elim (nat_lt 65536 (length order)) as (λ b. IsQuiet (cond b (stop too_many_jobs Faulty) (done (jobs_of rules order)) files).calls) [ true ↦ quiet_stop _ _ Faulty files | false ↦ quiet_done _ files ]
+
+quiet_all : {A : Type 0} (texts : List (List ℕ)) (a : A) (files : Files) → IsQuiet (say_all texts a files).calls
+quiet_all [] a files = quiet_done a files
+quiet_all (text ∷ texts) a files = quiet (say text) (λ u. say_all texts a) files (quiet_say text files) (λ u f. quiet_all texts a f)
+
+last_kept : (image bytes : List ℕ) (verdict : Verdict) (files : Files) → LastReplaces ((keep image bytes >>= (λ (u : Unit {0}). done verdict)) files).calls
+unfolding keep done ◌>>=◌
+last_kept image bytes verdict files = refl
+
+last_closed : (image text : List ℕ) (s : State) (written : Result (List ℕ) ImageNo) (files : Files) → LastReplaces (closed image text s written files).calls
+last_closed image text s (Ok bytes) files = last (say text) (λ u. keep image bytes >>= (λ (v : Unit {0}). done (status_of false s.outcomes))) files (quiet_say text files) (λ u f. last_kept image bytes (status_of false s.outcomes) f)
+last_closed image text s (Err e) files = quiet_last (closed image text s (Err e) files).calls (quiet (say (text ++ image_line e)) (λ u. done (status_of true s.outcomes)) files (quiet_say (text ++ image_line e) files) (λ u f. quiet_done (status_of true s.outcomes) f))
+
+last_ended : (words : List (List ℕ)) (files : Files) → LastReplaces (ended words files).calls
+last_ended words files =
+    last (ordered words) _ files (quiet_ordered (order_of words) files) (λ order f.
+    last (image_in order.image) _ f (quiet_image order.image f) (λ bytes g.
+    last (tree_of bytes) _ g (quiet_read (reading limits bytes) g) (λ tree h.
+    last (makefile_of tree) _ h (quiet_makefile (makefile_in tree) h) (λ makefile i.
+    last (planned makefile.rules order.goal) _ i (quiet_jobs makefile.rules (serial_order makefile.rules order.goal) i) (λ jobs j.
+    last (built tree makefile.name jobs) _ j (quiet_all _ _ j) (λ ran k.
+    last_closed order.image _ ran.state (writing limits ran.state.tree) k))))))
+
+-- ---- the headline
+
+not_3 : (verdict : Verdict) → code_of verdict ≡ 3 → ⊥
+not_3 Done e = omega arith
+not_3 Faulty e = omega arith
+not_3 Refused e = omega arith
+not_3 Spent e = omega arith
+
+not_7 : (verdict : Verdict) → code_of verdict ≡ 7 → ⊥
+not_7 Done e = omega arith
+not_7 Faulty e = omega arith
+not_7 Refused e = omega arith
+not_7 Spent e = omega arith
+
+comes_whole : (steps : Steps Verdict) (end : Result Verdict Verdict) (x y : Outside) → Ends steps end x y → Comes steps (code_of (verdict_of end)) x y
+comes_whole steps end x y p = record {
+  status = λ a b. ap (λ e. code_of (verdict_of e)) (sym p.same);
+  done = λ a b. p.made;
+  failed = λ e. absurd (not_3 (verdict_of end) e);
+  short = λ e. absurd (not_7 (verdict_of end) e);
+  cut = λ e. absurd (⊎_elim (not_3 (verdict_of end)) (not_7 (verdict_of end)) e);
 }
 
-pub taken-over : (name goal : List ℕ) (found : Option (List ℕ)) (r : Result Verdict HostNo) (a b c : Option Outside) → Tells (Takes name (Ok found)) a b → Tells (Delivers (over name goal found) r) b c
-    → Tells (λ x z. Delivers (over name goal (get x.files name)) r x z) a c
-taken-over name goal found r a b c p q =
-    Tells-then a b c (λ x y z h k. subst (λ o. Delivers (over name goal o) r x z) h.found (taken name found _ r x y z h k)) p q
+comes_failed : (steps : Steps Verdict) (x y : Outside) → LastReplaces steps.calls → FailsIn true steps.calls x y → Comes steps 3 x y
+comes_failed steps x y last p = record {
+  status = λ a b. absurd (a refl);
+  done = λ a b. absurd (a refl);
+  failed = λ e. p;
+  short = λ e. absurd (omega arith);
+  cut = λ e. record { printed = fails_printed steps.calls x y true p; files = fails_files steps.calls x y true last p };
+}
 
-pub not-ordered : (words : List (List ℕ)) (r : Result Verdict HostNo) (a b : Option Outside) → order_of words ≡ None → Tells (Delivers (refused bad_words) r) a b
-    → Tells (λ x y. Delivers (ended (order_of words) x.files) r x y) a b
-not-ordered words r a b none told = Tells-weaken a b (λ x y p. subst (λ o. Delivers (ended o x.files) r x y) (sym none) p) told
+cut_short : (calls : List Call) (x y : Outside) → LastReplaces calls → RunsOut calls x y → IsCut calls x y
+cut_short calls x y last p = ⊎_elim
+    (λ (f : MakesFront calls x y). let r : IsCut calls x y = record { printed = front_printed calls x y f; files = front_files calls x y last f } in r)
+    (λ (f : (is_noted : Bool) × FailsIn is_noted calls x y). let r : IsCut calls x y = record { printed = fails_printed calls x y f.0 f.1; files = fails_files calls x y f.0 last f.1 } in r)
+    p
+
+comes_short : (steps : Steps Verdict) (x y : Outside) → LastReplaces steps.calls → RunsOut steps.calls x y → Comes steps 7 x y
+comes_short steps x y last p = record {
+  status = λ a b. absurd (b refl);
+  done = λ a b. absurd (b refl);
+  failed = λ e. absurd (omega arith);
+  short = λ e. p;
+  cut = λ e. cut_short steps.calls x y last p;
+}
+
+comes : (words : List (List ℕ)) (r : Result Verdict Stop) (x y : Outside) → Does (ended words x.files) r x y → Headline words (exit_status r) x y
+comes words (Ok verdict) x y p = comes_whole (ended words x.files) (Ok verdict) x y p
+comes words (Err (End verdict)) x y p = comes_whole (ended words x.files) (Err verdict) x y p
+comes words (Err Failed) x y p = comes_failed (ended words x.files) x y (last_ended words x.files) p
+comes words (Err NoMemory) x y p = comes_short (ended words x.files) x y (last_ended words x.files) p
+
+pub headline : (words : List (List ℕ)) {r : Result Verdict Stop} {a b : Option Outside} → Follows (ended words) r a b → Tells (Headline words (exit_status r)) a b
+headline words {r} {a} {b} p = Tells-weaken a b (comes words r) p.told

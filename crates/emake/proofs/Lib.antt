@@ -1,3 +1,4 @@
 pub mod NameLemmas
-pub mod Deliveries
+pub mod Following
+pub mod Runs
 pub mod Ends

@@ -1,8 +1,7 @@
 -- What a run comes to, from the words and the host's files.
---     ended order files      the ending: `emake` does nothing else than come to it
+--     ended words      all that `emake` calls on the host, and the status: it does nothing else
 use Rattle.std.specs.Prelude.{ℕ, Bool, true, false, nat_lt, List, [], ◌∷◌, ◌++◌, length, Option, Some, None, Result, Ok, Err, codes, decimal, if◌then◌else◌}
 use Rattle.std.specs.FinMap.{get}
-use Rattle.em_host.specs.Outside.{Files}
 use Rattle.em_tree.specs.Trees.{Table, content_of, base_of}
 use Rattle.em_tree.specs.declared.state.State.{State}
 use Rattle.em_image.specs.Image.{limits, writing}
@@ -13,17 +12,22 @@ use Rattle.em_image.specs.declared.no.Which.{Which}
 use Rattle.em_image.specs.declared.no.Which.TheVariants as which
 use Rattle.em_simple.specs.declared.job.Job.{Job}
 use Rattle.em_simple.specs.declared.makefile.Rule.{Rule}
+use Rattle.em_simple.specs.declared.plan.Planned.{Planned}
 use Rattle.emake.specs.declared.words.Order.{Order}
+use Rattle.emake.specs.Words.{order_of}
 use Rattle.emake.specs.Messages.{bad_words, no_image, bad_line, too_many_jobs}
 use Rattle.em_simple.specs.Reading.{read_makefile}
 use Rattle.em_simple.specs.Plan.{serial_order}
 use Rattle.em_simple.specs.Jobs.{jobs_of}
 use Rattle.emake.specs.Effects.{path_of}
+use Rattle.emake.specs.declared.build.Makefile.{Makefile}
+use Rattle.emake.specs.declared.serial.Ran.{Ran}
+use Rattle.emake.specs.declared.verdict.Verdict.{Verdict}
 use Rattle.em_view.specs.Serial.{SerialRun}
-use Rattle.emake.specs.Serial.{serial, said}
+use Rattle.emake.specs.Serial.{serial}
 use Rattle.emake.specs.declared.verdict.Verdict.TheVariants.{Faulty}
 use Rattle.emake.specs.Closing.{closing, status_of}
-use Rattle.emake.specs.Delivery.{Ending, saying}
+use Rattle.emake.specs.Course.{Course, ◌>>=◌, done, say, say_all, take, keep, stop}
 
 -- ---- the image's refusal
 
@@ -58,28 +62,29 @@ fault_place no.NoMemory = 0
 abbrev pub image_line : ImageNo → List ℕ
 image_line e = codes "emake: *** image: " ++ fault_name e ++ codes " at byte " ++ decimal (fault_place e) ++ codes ".  Stop.\n"
 
--- ---- endings
+-- ---- the parts of a run
 
--- a refusal before the build: its line, no image, and the status of a fault
-abbrev pub refused : List ℕ → Ending
-refused text = record { printed = text; image = None; status = Faulty }
+abbrev pub as_ordered : Option Order → Course Order
+as_ordered None = stop bad_words Faulty
+as_ordered (Some order) = done order
 
--- the closing text, the new image and the status; an image that breaks a limit isn't written, and its refusal is the last line
-abbrev pub finished : List ℕ → List Job → Bool → State → Result (List ℕ) ImageNo → Ending
-finished image jobs early s (Ok text) = record { printed = closing jobs early s.outcomes; image = Some (image, text); status = status_of false s.outcomes }
-finished image jobs early s (Err e) = record { printed = closing jobs early s.outcomes ++ image_line e; image = None; status = status_of true s.outcomes }
+abbrev pub ordered : List (List ℕ) → Course Order
+ordered words = as_ordered (order_of words)
 
--- a run, and how it is finished
-abbrev pub closed : List ℕ → List Job → SerialRun → Ending
-closed image jobs run = saying (said run) (finished image jobs run.early run.state (writing limits run.state.tree))
+abbrev pub as_found : Option (List ℕ) → Course (List ℕ)
+as_found None = stop no_image Faulty
+as_found (Some bytes) = done bytes
 
--- the serial run of the jobs on the tree
-abbrev pub built : List ℕ → Table → List ℕ → List Job → Ending
-built image t makefile jobs = closed image jobs (serial (base_of t) makefile jobs (record { tree = t; outcomes = [] }))
+-- the image's bytes
+abbrev pub image_in : List ℕ → Course (List ℕ)
+image_in name = take name >>= as_found
 
-abbrev pub planned : List ℕ → Table → List ℕ → List Rule → List ℕ → Ending
-planned image t makefile rules goal = if nat_lt 65536 (length (serial_order rules goal)) then refused too_many_jobs
-    else built image t makefile (jobs_of rules (serial_order rules goal))
+abbrev pub as_read : Result Table ImageNo → Course Table
+as_read (Ok tree) = done tree
+as_read (Err e) = stop (image_line e) Faulty
+
+abbrev pub tree_of : List ℕ → Course Table
+tree_of bytes = as_read (reading limits bytes)
 
 -- the first of these names that is a file, with its bytes
 abbrev pub or_later : List ℕ → Option (List ℕ) → Option (List ℕ × List ℕ) → Option (List ℕ × List ℕ)
@@ -93,23 +98,54 @@ first_file t (n ∷ ns) = or_later n (content_of (get t (path_of n))) (first_fil
 abbrev pub makefile_in : Table → Option (List ℕ × List ℕ)
 makefile_in t = first_file t (codes "GNUmakefile" ∷ codes "makefile" ∷ codes "Makefile" ∷ [])
 
-abbrev pub read : List ℕ → Table → List ℕ → List ℕ → Result (List Rule) ℕ → Ending
-read image t goal makefile (Err line) = refused (bad_line makefile line)
-read image t goal makefile (Ok rules) = planned image t makefile rules goal
+abbrev pub with_rules : List ℕ → Result (List Rule) ℕ → Course Makefile
+with_rules name (Err line) = stop (bad_line name line) Faulty
+with_rules name (Ok rules) = done (record { name = name; rules = rules })
 
 -- without a makefile no name has a rule
-abbrev pub in_tree : List ℕ → Table → List ℕ → Option (List ℕ × List ℕ) → Ending
-in_tree image t goal None = planned image t [] [] goal
-in_tree image t goal (Some file) = read image t goal file.0 (read_makefile file.1)
+abbrev pub as_makefile : Option (List ℕ × List ℕ) → Course Makefile
+as_makefile None = done (record { name = []; rules = [] })
+as_makefile (Some file) = with_rules file.0 (read_makefile file.1)
 
-abbrev pub in_image : List ℕ → List ℕ → Result Table ImageNo → Ending
-in_image image goal (Err e) = refused (image_line e)
-in_image image goal (Ok t) = in_tree image t goal (makefile_in t)
+abbrev pub makefile_of : Table → Course Makefile
+makefile_of tree = as_makefile (makefile_in tree)
 
-abbrev pub over : List ℕ → List ℕ → Option (List ℕ) → Ending
-over image goal None = refused no_image
-over image goal (Some bytes) = in_image image goal (reading limits bytes)
+-- the jobs that make the goal
+abbrev pub as_jobs : List Rule → List Planned → Course (List Job)
+as_jobs rules order = if nat_lt 65536 (length order) then stop too_many_jobs Faulty else done (jobs_of rules order)
 
-abbrev pub ended : Option Order → Files → Ending
-ended None files = refused bad_words
-ended (Some order) files = over order.image order.goal (get files order.image)
+abbrev pub planned : List Rule → List ℕ → Course (List Job)
+planned rules goal = as_jobs rules (serial_order rules goal)
+
+-- what a run says, and where it ends
+abbrev pub spoken : SerialRun → Course Ran
+spoken run = say_all run.outputs (record { state = run.state; early = run.early })
+
+-- the serial run of the jobs on the tree
+abbrev pub built : Table → List ℕ → List Job → Course Ran
+built tree makefile jobs = spoken (serial (base_of tree) makefile jobs (record { tree = tree; outcomes = [] }))
+
+-- the closing text, the new image and the status; an image that breaks a limit isn't written, and its refusal is the last line
+abbrev pub closed : List ℕ → List ℕ → State → Result (List ℕ) ImageNo → Course Verdict
+closed image text s (Ok bytes) = do
+  u ← say text
+  v ← keep image bytes
+  done (status_of false s.outcomes)
+closed image text s (Err e) = do
+  u ← say (text ++ image_line e)
+  done (status_of true s.outcomes)
+
+abbrev pub finish : List ℕ → List Job → Ran → Course Verdict
+finish image jobs ran = closed image (closing jobs ran.early ran.state.outcomes) ran.state (writing limits ran.state.tree)
+
+-- ---- the run
+
+abbrev pub ended : List (List ℕ) → Course Verdict
+ended words = do
+  order ← ordered words
+  bytes ← image_in order.image
+  tree ← tree_of bytes
+  makefile ← makefile_of tree
+  jobs ← planned makefile.rules order.goal
+  ran ← built tree makefile.name jobs
+  finish order.image jobs ran

@@ -3,8 +3,7 @@ pub mod Messages
 pub mod Effects
 pub mod Serial
 pub mod Turns
-pub mod Delivery
-pub mod Loops
+pub mod Course
 pub mod Closing
 pub mod Endings
 pub mod Headline

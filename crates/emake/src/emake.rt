@@ -1,23 +1,19 @@
 //! The top call: what the program does.
-ghost use Rattle.std.specs.Prelude.{◌≡◌, ◌≢◌, ◌⊎◌, Some};
+ghost use Rattle.std.specs.Prelude.{◌≡◌, ◌≢◌, ◌⊎◌};
 ghost use Rattle.em_host.specs.Outside.{Tells};
-ghost use Rattle.em_host.specs.Faults.{count_after, next_count};
-ghost use Rattle.em_image.specs.Image.{limits};
-ghost use Rattle.em_image.specs.Reading.{reading};
-ghost use Rattle.emake.specs.Words.{order_of};
-ghost use Rattle.emake.specs.Delivery.{Delivers};
-ghost use Rattle.emake.specs.Endings.{ended, in_image};
-ghost use Rattle.emake.specs.Headline.{Headline};
+ghost use Rattle.em_host.specs.Faults.{next_count};
+ghost use Rattle.emake.specs.Course.{Follows, faults_after};
+ghost use Rattle.emake.specs.Endings.{ordered, ended};
+ghost use Rattle.emake.specs.Headline.{Headline, exit_status};
 
-use crate::build::in_tree;
-use crate::faults::image_line;
-use crate::messages::{BAD_WORDS, NO_IMAGE};
-use crate::say::tell;
+use crate::build::{built, finish, image_in, makefile_of, planned, tree_of};
+use crate::messages::BAD_WORDS;
+use crate::say::stop;
+use crate::stop::Stop;
 use crate::verdict::Verdict;
 use crate::words::{Order, order_of};
 use em_base::Text;
-use em_host::{Host, HostNo};
-use em_image::{ImageNo, read_image};
+use em_host::Host;
 use std::alloc::Global;
 
 /// How a run ended.
@@ -27,46 +23,41 @@ pub struct Ended {
     pub status: u8,
 }
 
-/// Reads the image, and builds the goal in it.
-fn in_image<H: Host>(
-    alloc: Global,
-    order: &Order,
-    bytes: &[u8],
-    host: &mut H,
-) -> Result<Verdict, HostNo>
-    ensures told { Tells (Delivers (in_image order.now.image order.now.goal (reading limits bytes.now)) result) (H.told host.old) (H.told host.new) }
-    ensures faults { H.faults host.new ≡ count_after result (H.faults host.old) }
-{
-    match read_image(alloc, bytes) {
-        Ok(tree) => in_tree(alloc, order.image.bytes(), tree, &order.goal, host),
-        Err(no) => match no {
-            ImageNo::NoMemory => Err(HostNo::NoMemory),
-            _ => {
-                let line = image_line(alloc, no)?;
-                tell(host, line.bytes(), Verdict::Faulty)
-            }
-        },
-    }
-}
-
-/// Builds what is ordered.
-fn ordered<H: Host>(alloc: Global, order: &Order, host: &mut H) -> Result<Verdict, HostNo>
-    ensures told { Tells (λ before after. Delivers (ended (Some order.now) before.files) result before after) (H.told host.old) (H.told host.new) }
-    ensures faults { H.faults host.new ≡ count_after result (H.faults host.old) }
-{
-    match host.take(alloc, order.image.bytes())? {
-        None => tell(host, NO_IMAGE, Verdict::Faulty),
-        Some(bytes) => in_image(alloc, order, bytes.as_slice(), host),
-    }
-}
-
-fn run<H: Host>(alloc: Global, words: &[Text], host: &mut H) -> Result<Verdict, HostNo>
-    ensures told { Tells (λ before after. Delivers (ended (order_of words.now) before.files) result before after) (H.told host.old) (H.told host.new) }
-    ensures faults { H.faults host.new ≡ count_after result (H.faults host.old) }
+/// What the words order.
+fn ordered<H: Host>(alloc: Global, words: &[Text], host: &mut H) -> Result<Order, Stop>
+    ensures told { Follows (ordered words.now) result (H.told host.old) (H.told host.new) }
+    ensures faults { H.faults host.new ≡ faults_after result (H.faults host.old) }
 {
     match order_of(alloc, words)? {
-        None => tell(host, BAD_WORDS, Verdict::Faulty),
-        Some(order) => ordered(alloc, &order, host),
+        Some(order) => Ok(order),
+        None => stop(host, BAD_WORDS, Verdict::Faulty),
+    }
+}
+
+/// The run, from the words to its end.
+fn run<H: Host>(alloc: Global, words: &[Text], host: &mut H) -> Result<Verdict, Stop>
+    ensures told { Follows (ended words.now) result (H.told host.old) (H.told host.new) }
+    ensures faults { H.faults host.new ≡ faults_after result (H.faults host.old) }
+{
+    let order = ordered(alloc, words, host)?;
+    let bytes = image_in(alloc, order.image.bytes(), host)?;
+    let tree = tree_of(alloc, bytes.bytes(), host)?;
+    let makefile = makefile_of(alloc, &tree, host)?;
+    let jobs = planned(alloc, makefile.rules.items(), &order.goal, host)?;
+    let ran = built(alloc, tree, makefile.name.bytes(), jobs.items(), host)?;
+    finish(alloc, order.image.bytes(), jobs.items(), &ran, host)
+}
+
+fn exit_status(answer: Result<Verdict, Stop>) -> u8
+    ensures { result ≡ exit_status answer }
+{
+    match answer {
+        Ok(verdict) => verdict.code(),
+        Err(stop) => match stop {
+            Stop::End(verdict) => verdict.code(),
+            Stop::Failed => 3,
+            Stop::NoMemory => 7,
+        },
     }
 }
 
@@ -82,12 +73,8 @@ pub fn emake<H: Host>(alloc: Global, words: &[Text], host: &mut H) -> Ended
     ensures cause { result.status ≡ 3 → H.faults host.new ≡ next_count (H.faults host.old) }
     ensures effect { H.faults host.new ≢ H.faults host.old → (result.status ≡ 3) ⊎ (result.status ≡ 7) }
 {
-    let status = match run(alloc, words, host) {
-        Ok(verdict) => verdict.code(),
-        Err(no) => match no {
-            HostNo::Failed => 3,
-            HostNo::NoMemory => 7,
-        },
-    };
-    Ended { status }
+    let answer = run(alloc, words, host);
+    Ended {
+        status: exit_status(answer),
+    }
 }

@@ -13,6 +13,7 @@ mod paths;
 mod run;
 mod say;
 mod serial;
+mod stop;
 mod verdict;
 mod words;
 

@@ -1,16 +1,16 @@
 //! The serial run of the jobs.
 ghost use Rattle.std.specs.Prelude.{◌≡◌, ◌≤◌, ◌^◌, IfOk};
-ghost use Rattle.em_host.specs.Outside.{Tells};
-ghost use Rattle.em_host.specs.Faults.{count_after};
 ghost use Rattle.em_tree.specs.Trees.{IsTree};
-ghost use Rattle.emake.specs.Serial.{ends, serial, said};
+ghost use Rattle.emake.specs.Serial.{ends, serial};
 ghost use Rattle.emake.specs.Turns.{turn_of};
-ghost use Rattle.emake.specs.Delivery.{Says};
+ghost use Rattle.emake.specs.Course.{Follows, faults_after};
+ghost use Rattle.emake.specs.Endings.{spoken};
 
 use crate::commit::{committed, effect};
 use crate::say::say;
+use crate::stop::Stop;
 use em_base::{NoMemory, Text};
-use em_host::{Host, HostNo};
+use em_host::Host;
 use em_simple::Job;
 use em_tree::{Outcome, State};
 use em_view::Effect;
@@ -67,28 +67,8 @@ fn advanced(
     })
 }
 
-/// One job: it is run whole, committed, and what it says is printed.
-fn take_turn<H: Host>(
-    alloc: Global,
-    base: u64,
-    makefile: &[u8],
-    job: &Job,
-    state: State,
-    host: &mut H,
-) -> Result<Ran, HostNo>
-    requires base { base ≤ 2 ^ 62 }
-    requires tree { IsTree state.tree }
-    ensures ran { IfOk result (λ r. r ≡ (turn_of base makefile.now job.now state).ran) }
-    ensures tree { IfOk result (λ r. IsTree r.state.tree) }
-    ensures told { Tells (Says (turn_of base makefile.now job.now state).output result) (H.told host.old) (H.told host.new) }
-    ensures faults { H.faults host.new ≡ count_after result (H.faults host.old) }
-{
-    let Turn { ran, output } = advanced(alloc, base, makefile, job, state)?;
-    say(host, output.bytes())?;
-    Ok(ran)
-}
-
-/// Runs the jobs in order, from a state on, up to the first that ends the run.
+/// Runs the jobs in order, from a state on, up to the first that ends the run. What each says is printed
+/// before the next one runs.
 pub fn run_jobs<H: Host>(
     alloc: Global,
     base: u64,
@@ -96,17 +76,16 @@ pub fn run_jobs<H: Host>(
     jobs: &[Job],
     start: State,
     host: &mut H,
-) -> Result<Ran, HostNo>
+) -> Result<Ran, Stop>
     requires base { base ≤ 2 ^ 62 }
     requires tree { IsTree start.tree }
-    ensures state { IfOk result (λ r. r.state ≡ (serial base makefile.now jobs.now start).state) }
-    ensures early { IfOk result (λ r. r.early ≡ (serial base makefile.now jobs.now start).early) }
-    ensures told { Tells (Says (said (serial base makefile.now jobs.now start)) result) (H.told host.old) (H.told host.new) }
-    ensures faults { H.faults host.new ≡ count_after result (H.faults host.old) }
+    ensures told { Follows (spoken (serial base makefile.now jobs.now start)) result (H.told host.old) (H.told host.new) }
+    ensures faults { H.faults host.new ≡ faults_after result (H.faults host.old) }
 {
     let mut state = start;
     for job in jobs {
-        let ran = take_turn(alloc, base, makefile, job, state, host)?;
+        let Turn { ran, output } = advanced(alloc, base, makefile, job, state)?;
+        say(host, output.bytes())?;
         if ran.early {
             return Ok(ran);
         }
