@@ -1,5 +1,5 @@
 //! Variables by name.
-ghost use Rattle.std.specs.Prelude.{◌≡◌, ◌==◌, ◌&&◌, Bool, true, false, not, nat_eq, map, length, slice_get, option_copied, option_map, [], IfOk, OnErr};
+ghost use Rattle.std.specs.Prelude.{◌≡◌, ◌==◌, ◌&&◌, Bool, true, false, not, nat_eq, map, length, slice_get, option_copied, option_map, [], Ok, IfOk, OnErr};
 ghost use Rattle.std.specs.Cmp.{partial_equiv_from_equiv, on_equiv, and_equiv};
 ghost use Rattle.std.specs.Cmp.Lexicographic.{pointwise, nat_list_eq_equiv, lists_equiv};
 ghost use Rattle.em_vars.specs.Entries.{AreDistinct, value_of, keeps, rank, with_value, without};
@@ -56,9 +56,9 @@ fn keeps_value(old: Option<&Var>, new: &Var) -> bool
 }
 
 impl Vars {
-    /// No variables.
+    /// No variables. Takes no memory, so that it always answers.
     pub fn new(alloc: Global) -> Result<Vars, NoMemory>
-        ensures { IfOk result (λ v. v ≡ []) }
+        ensures { result ≡ Ok [] }
     {
         Ok(Vars {
             held: IndexMap::new(alloc),

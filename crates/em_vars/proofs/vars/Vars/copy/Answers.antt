@@ -1,7 +1,6 @@
-use Rattle.std.proofs.Common.{◌∙◌, ◌++◌, ap, sym, subst}
+use Rattle.std.proofs.Common.{◌∙◌, ◌++◌, ap, sym}
 use Rattle.std.proofs.lemmas.Map.Iter.{rest_more}
 use Rattle.std.specs.Map.Iter.{deref_pair}
-use Rattle.em_vars.specs.Entries.{AreDistinct}
 use Rattle.em_vars.proofs.Named.{seen, set_next}
 use Rattle.em_vars.proofs.vars.Vars.copy.Goals as goal
 
