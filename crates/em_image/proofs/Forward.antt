@@ -9,7 +9,6 @@ use Rattle.std.proofs.lemmas.Bool.{ltb-true, ltb-false, lt-ltb, le-ltb, eqb-fals
 use Rattle.std.proofs.lemmas.List.{length-drop, length-take, drop-drop}
 use Rattle.em_base.specs.Numbers.{has_no_leading_zero}
 use Rattle.em_path.specs.Paths.{root_text, parent_text, is_path}
-use Rattle.em_tree.specs.declared.node.Node.{Node}
 use Rattle.em_tree.specs.declared.node.Node.TheVariants.{File, Dir}
 use Rattle.em_tree.specs.Trees.{Table}
 use Rattle.em_image.specs.declared.no.Which.{Which}

@@ -1,5 +1,5 @@
 -- The part that is a path.
-use Rattle.std.proofs.Common.{◌≡◌, ℕ, Bool, true, false, eqb, List, Option, Some, Ok, Err, refl, sym, subst, ◌∙◌}
+use Rattle.std.proofs.Common.{◌≡◌, ℕ, true, false, eqb, List, Option, Some, Ok, Err, refl, sym, subst, ◌∙◌}
 use Rattle.std.specs.Prelude.{IfSome, IsNone}
 use Rattle.em_path.specs.Paths.{IsPath, is_path}
 use Rattle.em_path.proofs.Lemmas.{path_pass, no_path}

@@ -1,19 +1,16 @@
 -- Writing: a text that has grown too long stays too long, and a text belongs to at most one tree.
-use Rattle.std.proofs.Common.{◌≡◌, ℕ, ◌+◌, ◌-◌, ◌^◌, ◌<◌, ◌≤◌, Bool, true, false, cond, nat_lt, List, [], ◌∷◌, ◌++◌, length, codes, Option, Some, None, Result, Ok, Err, refl, sym, ap, ◌∙◌, arith}
+use Rattle.std.proofs.Common.{◌≡◌, ℕ, ◌+◌, ◌-◌, ◌^◌, ◌<◌, ◌≤◌, true, false, nat_lt, List, [], ◌∷◌, ◌++◌, length, codes, Some, None, Ok, Err, refl, sym, ap, ◌∙◌, arith}
 use Rattle.std.specs.List.{flat_map, list_any, AllByRecursion}
 use Rattle.std.specs.FinMap.{entries, len, len-entries}
 use Rattle.std.proofs.lemmas.Bool.{lt-ltb, le-ltb}
 use Rattle.std.proofs.lemmas.List.{length-append}
 use Rattle.std.proofs.lemmas.List.Concat.{flat_map-cons}
 use Rattle.em_tree.specs.declared.node.Node.TheVariants.{File, Dir}
-use Rattle.em_tree.specs.Trees.{Table, IsTree}
-use Rattle.std.specs.Prelude.{IfOk, OnOk}
+use Rattle.em_tree.specs.Trees.{Table}
 use Rattle.em_image.specs.declared.no.Which.{Which}
 use Rattle.em_image.specs.declared.no.Which.TheVariants as which
-use Rattle.em_image.specs.declared.no.ImageNo.{ImageNo}
 use Rattle.em_image.specs.declared.no.ImageNo.TheVariants as no
 use Rattle.em_image.specs.Image.{Limits, limits, IsImage, Fits64, node_text, entries_text, image_text, is_too_big, is_too_late, broken, broken_by, text_unless, writing}
-use Rattle.em_image.specs.Parts.{Gives}
 use Rattle.em_image.specs.Reading.{reading}
 use Rattle.em_image.proofs.Nodes.{Sound}
 use Rattle.em_image.proofs.Fields.{ok_is}

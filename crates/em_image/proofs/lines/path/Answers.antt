@@ -1,4 +1,4 @@
-use Rattle.std.proofs.Common.{◌≡◌, Some, refl, sym, subst, ◌∙◌, eqb}
+use Rattle.std.proofs.Common.{Some, refl, sym, subst, ◌∙◌, eqb}
 use Rattle.em_path.specs.Paths.{IsPath}
 use Rattle.em_image.specs.Parts.{seen}
 use Rattle.em_image.proofs.Names.{no_path_at, some_path_at}

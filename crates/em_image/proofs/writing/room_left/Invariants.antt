@@ -1,6 +1,5 @@
 use Rattle.std.proofs.Common.{◌≡◌, ◌+◌, length}
 use Rattle.std.specs.List.{flat_map}
-use Rattle.std.specs.FinMap.{entries}
 use Rattle.em_image.specs.Image.{node_text, limits, image_text}
 use Rattle.em_image.proofs.writing.room_left.Given as goal
 
