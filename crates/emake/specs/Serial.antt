@@ -2,7 +2,6 @@
 --     ends o                                  the run ends after this outcome
 --     serial base makefile jobs start         what the jobs say, and the state that they leave; no job runs after an end
 use Rattle.std.specs.Prelude.{ℕ, Bool, true, false, List}
-use Rattle.std.specs.List.{concat}
 use Rattle.em_tree.specs.declared.outcome.Outcome.{Outcome}
 use Rattle.em_tree.specs.declared.outcome.Outcome.TheVariants.{Failed, NoRule, Halted, Refused, Spent}
 use Rattle.em_tree.specs.declared.state.State.{State}
@@ -21,7 +20,3 @@ ends _ = false
 
 abbrev pub serial : ℕ → List ℕ → List Job → State → SerialRun
 serial base makefile jobs start = run.serial (effect base makefile) (λ j. ends) start jobs
-
--- all that was said
-abbrev pub said : SerialRun → List ℕ
-said r = concat r.outputs

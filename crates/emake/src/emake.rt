@@ -4,6 +4,7 @@ ghost use Rattle.em_host.specs.Outside.{Tells};
 ghost use Rattle.em_host.specs.Faults.{next_count};
 ghost use Rattle.emake.specs.Course.{Follows, faults_after};
 ghost use Rattle.emake.specs.Endings.{ordered, ended};
+ghost use Rattle.emake.specs.Words.{words_of};
 ghost use Rattle.emake.specs.Headline.{Headline, exit_status};
 
 use crate::build::{built, finish, image_in, makefile_of, planned, tree_of};
@@ -11,10 +12,12 @@ use crate::messages::BAD_WORDS;
 use crate::say::stop;
 use crate::stop::Stop;
 use crate::verdict::Verdict;
-use crate::words::{Order, order_of};
-use em_base::Text;
+use crate::words::{Order, behind_first, given_words, order_of};
+use em_base::{NoMemory, Text};
 use em_host::Host;
 use std::alloc::Global;
+use std::env::Args;
+use std::io;
 
 /// How a run ended.
 #[derive(Clone, Copy, Debug, PartialEq, Eq)]
@@ -76,5 +79,17 @@ pub fn emake<H: Host>(alloc: Global, words: &[Text], host: &mut H) -> Ended
     let answer = run(alloc, words, host);
     Ended {
         status: exit_status(answer),
+    }
+}
+
+/// The program, from the words that the system gives to the exit status.
+pub fn program<H: Host>(alloc: Global, args: io::Result<Args>, host: &mut H) -> u8
+    ensures headline { Tells (Headline (words_of args) result) (H.told host.old) (H.told host.new) }
+    ensures cause { result ≡ 3 → H.faults host.new ≡ next_count (H.faults host.old) }
+    ensures effect { H.faults host.new ≢ H.faults host.old → (result ≡ 3) ⊎ (result ≡ 7) }
+{
+    match given_words(alloc, args) {
+        Ok(words) => emake(alloc, behind_first(words.items()), host).status,
+        Err(NoMemory) => 7,
     }
 }
