@@ -22,7 +22,7 @@ use crate::stop::Stop;
 use crate::verdict::Verdict;
 use em_base::{NoMemory, Seq, Text};
 use em_host::Host;
-use em_image::{ImageNo, read_image, write_image};
+use em_image::{ImageNo, read_text, write_image};
 use em_simple::{FormNo, Job, Name, Rule, jobs_of, read_makefile, serial_order};
 use em_tree::{Node, Outcomes, State, Tree};
 use std::alloc::Global;
@@ -38,13 +38,13 @@ pub fn image_in<H: Host>(alloc: Global, name: &[u8], host: &mut H) -> Result<Tex
     }
 }
 
-/// The tree that the image holds.
-pub fn tree_of<H: Host>(alloc: Global, bytes: &[u8], host: &mut H) -> Result<Tree, Stop>
-    ensures told { Follows (tree_of bytes.now) result (H.told host.old) (H.told host.new) }
+/// The tree that the image holds. No byte is copied.
+pub fn tree_of<H: Host>(alloc: Global, bytes: Text, host: &mut H) -> Result<Tree, Stop>
+    ensures told { Follows (tree_of bytes) result (H.told host.old) (H.told host.new) }
     ensures faults { H.faults host.new ≡ faults_after result (H.faults host.old) }
     ensures limits { IfOk result (λ tree. broken limits tree ≡ None) }
 {
-    match read_image(alloc, bytes) {
+    match read_text(alloc, bytes) {
         Ok(tree) => Ok(tree),
         Err(no) => match no {
             ImageNo::NoMemory => Err(Stop::NoMemory),

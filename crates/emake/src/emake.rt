@@ -44,7 +44,7 @@ fn run<H: Host>(alloc: Global, words: &[Text], host: &mut H) -> Result<Verdict, 
 {
     let order = ordered(alloc, words, host)?;
     let bytes = image_in(alloc, order.image.bytes(), host)?;
-    let tree = tree_of(alloc, bytes.bytes(), host)?;
+    let tree = tree_of(alloc, bytes, host)?;
     let makefile = makefile_of(alloc, &tree, host)?;
     let jobs = planned(alloc, makefile.rules.items(), &order.goal, host)?;
     let ran = built(alloc, tree, makefile.name.bytes(), jobs.items(), host)?;
