@@ -37,7 +37,7 @@ returns-in_err-ran-clause-told g c =
     (then _ c.in_ok-tree.ensures.told
     (then _ c.in_ok-makefile.ensures.told
     (then _ (rw c.items.ensures at c.in_ok-jobs.ensures.told)
-    (leave _ c.from_residual-in_err-ran.ensures.1 (rw (c.bytes-3.ensures, c.items-2.ensures) at c.in_err-ran.ensures.told))))))
+    (leave _ c.from_residual-in_err-ran.ensures.1 (rw (c.bytes-2.ensures, c.items-2.ensures) at c.in_err-ran.ensures.told))))))
 
 pub returns-clause-told : goal.returns-clause-told
 returns-clause-told g c =
@@ -46,5 +46,5 @@ returns-clause-told g c =
     (then _ c.in_ok-tree.ensures.told
     (then _ c.in_ok-makefile.ensures.told
     (then _ (rw c.items.ensures at c.in_ok-jobs.ensures.told)
-    (then _ (rw (c.bytes-3.ensures, c.items-2.ensures) at c.in_ok-ran.ensures.told)
-    (rw (c.bytes-4.ensures, c.items-3.ensures) at c.finish.ensures.told))))))
+    (then _ (rw (c.bytes-2.ensures, c.items-2.ensures) at c.in_ok-ran.ensures.told)
+    (rw (c.bytes-3.ensures, c.items-3.ensures) at c.finish.ensures.told))))))
