@@ -10,3 +10,4 @@ pub mod Laws
 pub mod Loop
 pub mod Written
 pub mod Forward
+pub mod Onward

@@ -1,6 +1,7 @@
--- Where a fault may be.
+-- Where a fault may be, and whether it stays.
 --     FaultFits end e      the place of a fault that was found in an input that ends at `end`
-use Rattle.std.specs.Prelude.{◌≡◌, ℕ, ◌<◌}
+--     stays e              whether a fault stays when bytes are added behind the input
+use Rattle.std.specs.Prelude.{◌≡◌, ℕ, ◌<◌, Bool, true, false}
 use Rattle.em_image.specs.declared.no.Which.TheVariants as which
 use Rattle.em_image.specs.declared.no.ImageNo.{ImageNo}
 use Rattle.em_image.specs.declared.no.ImageNo.TheVariants as no
@@ -20,3 +21,10 @@ FaultFits end (no.Limit which.Nodes at) = at < end
 FaultFits end (no.Limit which.File at) = at < end
 FaultFits end (no.Limit which.Stamp at) = at < end
 FaultFits end no.NoMemory = ⊥
+
+-- A fault at a byte of the input stays. Short need not. The other two aren't found by reading.
+abbrev pub stays : ImageNo → Bool
+stays (no.Short at) = false
+stays (no.Limit which.Image at) = false
+stays no.NoMemory = false
+stays e = true

@@ -11,7 +11,7 @@ mod parts;
 mod reading;
 mod writing;
 
-pub use law::{faults_have_places, one_tree_of_a_text};
+pub use law::{faults_have_places, faults_stay, one_tree_of_a_text};
 pub use no::{ImageNo, Which};
 pub use reading::{read_image, read_text};
 pub use writing::write_image;
