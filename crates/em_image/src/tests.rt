@@ -30,6 +30,7 @@ fn an_image_is_read_and_written_again(rt: HostRuntime) -> Result<(), Fail> {
     }
     one_tree_of_a_text();
     faults_have_places();
+    faults_stay();
     Ok(())
 }
 
