@@ -1,3 +1,4 @@
 pub mod Blanks
 pub mod Spans
 pub mod Numbers
+pub mod Constructs

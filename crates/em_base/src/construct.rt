@@ -1,5 +1,6 @@
 //! The constructs that are refused by name.
-ghost use Rattle.std.specs.Prelude.{◌≡◌, IfOk};
+ghost use Rattle.std.specs.Prelude.{◌≡◌, true, IfOk, IsErr};
+ghost use Rattle.em_base.specs.Constructs.{holds_text};
 
 use crate::memory::NoMemory;
 use crate::text::Text;
@@ -39,9 +40,10 @@ pub enum Construct {
 }
 
 impl Construct {
-    /// An equal construct.
+    /// An equal construct. `NoMemory` comes only where the construct holds a text.
     pub fn copy(&self, alloc: Global) -> Result<Construct, NoMemory>
-        ensures { IfOk result (λ c. c ≡ self.now) }
+        ensures equal { IfOk result (λ c. c ≡ self.now) }
+        ensures only { IsErr result → holds_text self.now ≡ true }
     {
         Ok(match self {
             Construct::Background => Construct::Background,

@@ -1,5 +1,5 @@
 //! A stack of values.
-ghost use Rattle.std.specs.Prelude.{◌≡◌, ◌==◌, ◌∷◌, [], length, slice_get, option_copied, MatchOption, OnOk, OnErr};
+ghost use Rattle.std.specs.Prelude.{◌≡◌, ◌==◌, ◌∷◌, [], drop, length, slice_get, option_copied, IfErr, IfOk, MatchOption, OnOk, OnErr};
 
 use crate::memory::NoMemory;
 use std::alloc::Global;
@@ -59,6 +59,18 @@ impl<T> Stack<T> {
         ensures { MatchOption result ((self.old ≡ []) × (self.new ≡ [])) (λ x. self.old ≡ x ∷ self.new) }
     {
         self.held.pop()
+    }
+
+    /// Puts the item in the place of the topmost one, and gives that one; gives the item back where the stack is empty.
+    pub fn replace_top(&mut self, item: T) -> Result<T, T>
+        ensures ok { IfOk result (λ top. (self.old ≡ top ∷ drop 1 self.old) × (self.new ≡ item ∷ drop 1 self.old)) }
+        ensures err { IfErr result (λ back. (back ≡ item) × (self.old ≡ []) × (self.new ≡ [])) }
+    {
+        let Some(top) = self.held.pop() else {
+            return Err(item);
+        };
+        self.held.push_reserved(item);
+        Ok(top)
     }
 }
 

@@ -28,8 +28,15 @@ fn copies_are_equal(rt: HostRuntime) -> Result<(), Fail> {
         line: 2,
     };
     assert!(rt; place.copy(rt.alloc())? == place);
-    let construct = Construct::Letter(Text::from_slice(rt.alloc(), b"ls")?, b'l');
-    assert!(rt; construct.copy(rt.alloc())? == construct);
+    for construct in [
+        Construct::Depth,
+        Construct::Command(Text::from_slice(rt.alloc(), b"trap")?),
+        Construct::Letter(Text::from_slice(rt.alloc(), b"ls")?, b'l'),
+        Construct::Format(Some(b'x')),
+        Construct::MakeName(Text::from_slice(rt.alloc(), b"shell")?),
+    ] {
+        assert!(rt; construct.copy(rt.alloc())? == construct);
+    }
     Ok(())
 }
 
@@ -110,11 +117,13 @@ fn a_stack_gives_the_last_first(rt: HostRuntime) -> Result<(), Fail> {
         stack.push(n)?;
     }
     assert!(rt; stack.top() == Some(&3));
-    assert!(rt; stack.pop() == Some(3));
+    assert!(rt; stack.replace_top(7) == Ok(3));
+    assert!(rt; stack.pop() == Some(7));
     assert_eq!(rt; stack.len(), 2);
     assert!(rt; stack.pop() == Some(2));
     assert!(rt; stack.pop() == Some(1));
     assert!(rt; stack.pop().is_none());
+    assert!(rt; stack.replace_top(8) == Err(8));
     Ok(())
 }
 

@@ -1,9 +1,9 @@
 //! A host over memory.
-ghost use Rattle.std.specs.Prelude.{◌≡◌, ◌↔◌, ◌++◌, ◌∷◌, [], Some, Contains, IsTrue, IsErr, IsErrOf, IfOk, OnOk, OnErr};
+ghost use Rattle.std.specs.Prelude.{◌≡◌, ◌↔◌, ◌⊎◌, ◌++◌, ◌∷◌, [], Some, Contains, IsTrue, IsErrOf, IfOk, OnOk, OnErr};
 ghost use Rattle.std.specs.Option.{option_copied};
 ghost use Rattle.std.specs.FinMap as map;
 ghost use Rattle.em_host.specs.Outside.{Takes, Replaces, Prints, contents};
-ghost use Rattle.em_host.specs.Faults.{count_after};
+ghost use Rattle.em_host.specs.Faults.{count_after, next_count};
 ghost use Rattle.em_host.specs.Memory.{number_of, nothing, with_files};
 
 use crate::call::{Call, Called};
@@ -106,7 +106,8 @@ impl Host for MemHost {
     ghost faults = { λ m. m.faults };
 
     fn take(&mut self, alloc: Global, name: &[u8]) -> Result<Option<Vec<u8>>, HostNo>
-        ensures chosen { Contains self.old.failing (number_of self.old.outside) → IsErr result }
+        ensures chosen { Contains self.old.failing (number_of self.old.outside)
+            → IsErrOf result HostNo.Failed ⊎ (self.new.outside.lost ≡ next_count self.old.outside.lost) }
         ensures fails { IsErrOf result HostNo.Failed → Contains self.old.failing (number_of self.old.outside) }
         ensures takes { Takes name.now (contents result) self.old.outside self.new.outside }
         ensures faults { self.new.faults ≡ count_after result self.old.faults }
@@ -119,7 +120,8 @@ impl Host for MemHost {
     }
 
     fn replace(&mut self, alloc: Global, name: &[u8], bytes: &[u8]) -> Result<(), HostNo>
-        ensures chosen { Contains self.old.failing (number_of self.old.outside) → IsErr result }
+        ensures chosen { Contains self.old.failing (number_of self.old.outside)
+            → IsErrOf result HostNo.Failed ⊎ (self.new.outside.lost ≡ next_count self.old.outside.lost) }
         ensures fails { IsErrOf result HostNo.Failed → Contains self.old.failing (number_of self.old.outside) }
         ensures replaces { Replaces name.now bytes.now result self.old.outside self.new.outside }
         ensures faults { self.new.faults ≡ count_after result self.old.faults }
@@ -132,7 +134,8 @@ impl Host for MemHost {
     }
 
     fn print(&mut self, bytes: &[u8]) -> Result<(), HostNo>
-        ensures chosen { Contains self.old.failing (number_of self.old.outside) → IsErr result }
+        ensures chosen { Contains self.old.failing (number_of self.old.outside)
+            → IsErrOf result HostNo.Failed ⊎ (self.new.outside.lost ≡ next_count self.old.outside.lost) }
         ensures fails { IsErrOf result HostNo.Failed → Contains self.old.failing (number_of self.old.outside) }
         ensures prints { Prints bytes.now result self.old.outside self.new.outside }
         ensures whole_or_nothing { OnErr result (self.new.outside.printed ≡ self.old.outside.printed) }

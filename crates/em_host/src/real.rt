@@ -94,7 +94,8 @@ fn take_file<R: Files>(rt: &R, alloc: Global, name: &[u8]) -> Result<Option<Vec<
     }
 }
 
-/// Makes the file these bytes. On Err it is as before, and no other file was touched.
+/// Makes the file these bytes, by a new file beside it and a rename. That on Err it is as before and no other file was touched
+/// rests on the system's rename and isn't proved.
 fn replace_file<R: Files>(rt: &R, alloc: Global, name: &[u8], bytes: &[u8]) -> Result<(), HostNo> {
     let path = path_of(name)?;
     let (mut file, new) = create_beside(rt, alloc, path)?;

@@ -1,5 +1,5 @@
 //! What stands at a path, under the job's own changes.
-ghost use Rattle.std.specs.Prelude.{◌≡◌, IfErr, IfOk, IfSome, Some, option_copied, unwrap_or, []};
+ghost use Rattle.std.specs.Prelude.{◌≡◌, IfErr, IfOk, IfSome, None, Ok, Some, option_copied, unwrap_or, []};
 ghost use Rattle.em_path.specs.Paths.{IsPath, parent_text};
 ghost use Rattle.em_tree.specs.Trees.{kind_of, stamp_of, content_of};
 ghost use Rattle.em_view.specs.Rows.{Acts, is_dir, kind_in, stamp_in, content_in, names_in, outcome_in, kind_below, stamp_below, content_below, amend, told_names, made_names, other_names, names_below, look};
@@ -200,6 +200,7 @@ impl<V: View> Desk<V> {
     pub(crate) fn above(&self, p: &Path) -> Result<Option<Path>, DeskNo>
         ensures ok { IfOk result (λ q. q ≡ parent_text p.now) }
         ensures path { IfOk result (λ q. IfSome q IsPath) }
+        ensures root { parent_text p.now ≡ None → result ≡ Ok None }
         ensures only { IfErr result (λ e. e ≡ no.NoMemory) }
     {
         match p.parent(self.alloc) {

@@ -8,7 +8,6 @@ ghost use Rattle.em_view.specs.Actions.{ask, ready, spend};
 ghost use Rattle.em_view.specs.Asking.{Asks};
 ghost use Rattle.em_view.specs.Held.{Fits, NamesPaths, IsSoundDesk};
 ghost use Rattle.em_view.specs.Performs.{Keeps};
-ghost use Rattle.em_view.specs.Performs.{Keeps};
 ghost use Rattle.em_view.specs.Rows.{Acts, pay, change_number, after_change};
 
 use crate::no::DeskNo;
@@ -144,6 +143,9 @@ impl<V: View> Desk<V> {
         ensures performs { Acts V.tells self.old self.new result ready }
         ensures same { self.new ≡ self.old }
         ensures sound { IsSoundDesk self.new }
+        ensures ok { OnOk result (1 ≤ self.old.work.fuel) }
+        ensures err { OnErr result (self.old.work.fuel < 1) }
+        ensures only { IfErr result (λ e. e ≡ no.Spent) }
     {
         if self.fuel.left() < 1 {
             return Err(DeskNo::Spent);

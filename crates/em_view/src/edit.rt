@@ -1,7 +1,9 @@
 //! Removing and touching what is there.
-ghost use Rattle.std.specs.Prelude.{◌≡◌, OnErr, Some};
+ghost use Rattle.std.specs.Prelude.{◌≡◌, ◌<◌, ◌≤◌, IsErrOf, None, OnErr, Some};
 ghost use Rattle.em_path.specs.Paths.{IsPath, parent_text};
 ghost use Rattle.em_tree.specs.declared.node.Kind.TheVariants as kind;
+ghost use Rattle.em_view.specs.declared.no.DeskNo.TheVariants as no;
+ghost use Rattle.em_view.specs.declared.no.FileNo.TheVariants as file;
 ghost use Rattle.em_view.specs.Held.{IsSeen, IsSoundDesk, MayGo};
 ghost use Rattle.em_view.specs.Performs.{Keeps};
 ghost use Rattle.em_view.specs.Rows.{Acts, take_away, remove_dir, remove, touch_dir, touch_file, touch};
@@ -48,6 +50,8 @@ impl<V: View> Desk<V> {
     /// anything is asked; `Absent`; `NotEmpty`. A directory of which the view tells no list of names is empty. It costs 1.
     pub fn remove(&mut self, p: &Path) -> Result<(), DeskNo>
         ensures performs { Acts V.tells self.old self.new result (remove p.now) }
+        ensures root { parent_text p.now ≡ None → 1 ≤ self.old.work.fuel → IsErrOf result (no.File file.Root) }
+        ensures spent { self.old.work.fuel < 1 → IsErrOf result no.Spent }
         ensures err { OnErr result (Keeps 1 self.old.work self.new.work) }
     {
         let _text = p.text();
@@ -93,6 +97,7 @@ impl<V: View> Desk<V> {
     /// then told to be absent, so is the file. The one refusal is `Absent`. It costs 1.
     pub fn touch(&mut self, p: &Path) -> Result<(), DeskNo>
         ensures performs { Acts V.tells self.old self.new result (touch p.now) }
+        ensures spent { self.old.work.fuel < 1 → IsErrOf result no.Spent }
         ensures err { OnErr result (Keeps 1 self.old.work self.new.work) }
     {
         let _text = p.text();

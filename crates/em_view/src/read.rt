@@ -1,5 +1,6 @@
 //! What a desk tells of a tree.
-ghost use Rattle.std.specs.Prelude.{◌≡◌, ◌+◌, ◌≤◌, IfErr, OnErr, false};
+ghost use Rattle.std.specs.Prelude.{◌≡◌, ◌+◌, ◌<◌, ◌≤◌, IfErr, IsErrOf, OnErr, false};
+ghost use Rattle.em_view.specs.declared.no.DeskNo.TheVariants as no;
 ghost use Rattle.em_view.specs.Rows.{Acts, is_refusal, kind_at, stamp_at, content, names, outcome};
 
 use crate::ask::outcome_in;
@@ -16,6 +17,7 @@ impl<V: View> Desk<V> {
         ensures performs { Acts V.tells self.old self.new result (kind_at p.now) }
         ensures still { self.new.work ≡ record self.old.work { fuel = self.new.work.fuel; asked = self.new.work.asked } }
         ensures err { OnErr result (self.old.work.fuel ≤ self.new.work.fuel + 1) }
+        ensures spent { self.old.work.fuel < 1 → IsErrOf result no.Spent }
         ensures unrefused { IfErr result (λ e. is_refusal e ≡ false) }
     {
         self.take(1)?;
@@ -27,6 +29,7 @@ impl<V: View> Desk<V> {
         ensures performs { Acts V.tells self.old self.new result (stamp_at p.now) }
         ensures still { self.new.work ≡ record self.old.work { fuel = self.new.work.fuel; asked = self.new.work.asked } }
         ensures err { OnErr result (self.old.work.fuel ≤ self.new.work.fuel + 1) }
+        ensures spent { self.old.work.fuel < 1 → IsErrOf result no.Spent }
         ensures unrefused { IfErr result (λ e. is_refusal e ≡ false) }
     {
         self.take(1)?;
@@ -38,6 +41,7 @@ impl<V: View> Desk<V> {
         ensures performs { Acts V.tells self.old self.new result (content p.now) }
         ensures still { self.new.work ≡ record self.old.work { fuel = self.new.work.fuel; asked = self.new.work.asked } }
         ensures err { OnErr result (self.old.work.fuel ≤ self.new.work.fuel + 1) }
+        ensures spent { self.old.work.fuel < 1 → IsErrOf result no.Spent }
         ensures unrefused { IfErr result (λ e. is_refusal e ≡ false) }
     {
         self.take(1)?;
@@ -52,6 +56,7 @@ impl<V: View> Desk<V> {
         ensures performs { Acts V.tells self.old self.new result (names p.now) }
         ensures still { self.new.work ≡ record self.old.work { fuel = self.new.work.fuel; asked = self.new.work.asked } }
         ensures err { OnErr result (self.old.work.fuel ≤ self.new.work.fuel + 1) }
+        ensures spent { self.old.work.fuel < 1 → IsErrOf result no.Spent }
         ensures unrefused { IfErr result (λ e. is_refusal e ≡ false) }
     {
         self.take(1)?;
@@ -65,6 +70,7 @@ impl<V: View> Desk<V> {
         ensures performs { Acts V.tells self.old self.new result (outcome j) }
         ensures still { self.new.work ≡ record self.old.work { fuel = self.new.work.fuel; asked = self.new.work.asked } }
         ensures err { OnErr result (self.old.work.fuel ≤ self.new.work.fuel + 1) }
+        ensures spent { self.old.work.fuel < 1 → IsErrOf result no.Spent }
         ensures unrefused { IfErr result (λ e. is_refusal e ≡ false) }
     {
         self.take(1)?;

@@ -1,5 +1,6 @@
 //! What a desk changes of a tree.
-ghost use Rattle.std.specs.Prelude.{◌≡◌, ◌+◌, length, OnErr};
+ghost use Rattle.std.specs.Prelude.{◌≡◌, ◌+◌, ◌<◌, length, IsErrOf, OnErr};
+ghost use Rattle.em_view.specs.declared.no.DeskNo.TheVariants as no;
 ghost use Rattle.em_view.specs.Performs.{Keeps};
 ghost use Rattle.em_view.specs.Rows.{Acts, blocks, put, place, make_dir};
 
@@ -16,6 +17,7 @@ impl<V: View> Desk<V> {
     /// Refusals, in this order: `IsDir`, also of the root; `NoParent`, `NotDir`; `TooBig`. It costs 1 and the blocks of the bytes.
     pub fn put(&mut self, p: &Path, bytes: &[u8]) -> Result<(), DeskNo>
         ensures performs { Acts V.tells self.old self.new result (put p.now bytes.now) }
+        ensures spent { self.old.work.fuel < 1 → IsErrOf result no.Spent }
         ensures err { OnErr result (Keeps (1 + blocks (length bytes.now)) self.old.work self.new.work) }
     {
         let _text = p.text();
@@ -38,6 +40,7 @@ impl<V: View> Desk<V> {
     /// Puts a file of these bytes and this stamp at a path, as `put` does; the directory above is always stamped.
     pub fn place(&mut self, p: &Path, bytes: &[u8], stamp: u64) -> Result<(), DeskNo>
         ensures performs { Acts V.tells self.old self.new result (place p.now bytes.now stamp) }
+        ensures spent { self.old.work.fuel < 1 → IsErrOf result no.Spent }
         ensures err { OnErr result (Keeps (1 + blocks (length bytes.now)) self.old.work self.new.work) }
     {
         let _text = p.text();
@@ -56,6 +59,7 @@ impl<V: View> Desk<V> {
     /// of the root; `NoParent`, `NotDir`. It costs 1.
     pub fn make_dir(&mut self, p: &Path) -> Result<(), DeskNo>
         ensures performs { Acts V.tells self.old self.new result (make_dir p.now) }
+        ensures spent { self.old.work.fuel < 1 → IsErrOf result no.Spent }
         ensures err { OnErr result (Keeps 1 self.old.work self.new.work) }
     {
         let _text = p.text();

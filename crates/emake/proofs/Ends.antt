@@ -34,7 +34,7 @@ use Rattle.emake.specs.declared.stop.Stop.{Stop}
 use Rattle.emake.specs.declared.stop.Stop.TheVariants.{End, Failed, NoMemory}
 use Rattle.emake.specs.declared.words.Order.{Order}
 use Rattle.emake.specs.Closing.{code_of, status_of, closing}
-use Rattle.emake.specs.Course.{Steps, Course, go_on, ◌>>=◌, done, quit, say, say_all, take as take_file, keep, stop, Ends, RunsOut, Does, Follows}
+use Rattle.emake.specs.Course.{Trace, Course, go_on, ◌>>=◌, done, quit, say, say_all, take as take_file, keep, stop, Ends, RunsOut, Meets, Follows}
 use Rattle.emake.specs.Endings.{as_ordered, ordered, as_found, image_in, as_read, tree_of, with_rules, as_makefile, makefile_of, as_jobs, planned, spoken, built, closed, finish, ended, makefile_in, image_line}
 use Rattle.emake.specs.Messages.{too_many_jobs}
 use Rattle.em_simple.specs.Jobs.{jobs_of}
@@ -189,7 +189,7 @@ not_7 Faulty e = omega arith
 not_7 Refused e = omega arith
 not_7 Spent e = omega arith
 
-comes_whole : (steps : Steps Verdict) (end : Result Verdict Verdict) (x y : Outside) → Ends steps end x y → Comes steps (code_of (verdict_of end)) x y
+comes_whole : (steps : Trace Verdict) (end : Result Verdict Verdict) (x y : Outside) → Ends steps end x y → Comes steps (code_of (verdict_of end)) x y
 comes_whole steps end x y p = record {
   status = λ a b. ap (λ e. code_of (verdict_of e)) (sym p.same);
   done = λ a b. p.made;
@@ -198,7 +198,7 @@ comes_whole steps end x y p = record {
   cut = λ e. absurd (⊎_elim (not_3 (verdict_of end)) (not_7 (verdict_of end)) e);
 }
 
-comes_failed : (steps : Steps Verdict) (x y : Outside) → LastReplaces steps.calls → FailsIn true steps.calls x y → Comes steps 3 x y
+comes_failed : (steps : Trace Verdict) (x y : Outside) → LastReplaces steps.calls → FailsIn true steps.calls x y → Comes steps 3 x y
 comes_failed steps x y last p = record {
   status = λ a b. absurd (a refl);
   done = λ a b. absurd (a refl);
@@ -213,7 +213,7 @@ cut_short calls x y last p = ⊎_elim
     (λ (f : (is_noted : Bool) × FailsIn is_noted calls x y). let r : IsCut calls x y = record { printed = fails_printed calls x y f.0 f.1; files = fails_files calls x y f.0 last f.1 } in r)
     p
 
-comes_short : (steps : Steps Verdict) (x y : Outside) → LastReplaces steps.calls → RunsOut steps.calls x y → Comes steps 7 x y
+comes_short : (steps : Trace Verdict) (x y : Outside) → LastReplaces steps.calls → RunsOut steps.calls x y → Comes steps 7 x y
 comes_short steps x y last p = record {
   status = λ a b. absurd (b refl);
   done = λ a b. absurd (b refl);
@@ -222,7 +222,7 @@ comes_short steps x y last p = record {
   cut = λ e. cut_short steps.calls x y last p;
 }
 
-comes : (words : List (List ℕ)) (r : Result Verdict Stop) (x y : Outside) → Does (ended words x.files) r x y → Headline words (exit_status r) x y
+comes : (words : List (List ℕ)) (r : Result Verdict Stop) (x y : Outside) → Meets (ended words x.files) r x y → Headline words (exit_status r) x y
 comes words (Ok verdict) x y p = comes_whole (ended words x.files) (Ok verdict) x y p
 comes words (Err (End verdict)) x y p = comes_whole (ended words x.files) (Err verdict) x y p
 comes words (Err Failed) x y p = comes_failed (ended words x.files) x y (last_ended words x.files) p

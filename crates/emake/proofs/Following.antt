@@ -17,30 +17,30 @@ use Rattle.em_host.proofs.Telling.{Tells-then, Tells-weaken, Tells-same, Went, m
 use Rattle.emake.specs.declared.verdict.Verdict.{Verdict}
 use Rattle.emake.specs.declared.stop.Stop.{Stop}
 use Rattle.emake.specs.declared.stop.Stop.TheVariants.{End, Failed, NoMemory}
-use Rattle.emake.specs.Course.{Steps, Course, behind, go_on, ◌>>=◌, done, quit, say, take, keep, Ends, RunsOut, Does, Follows, stop_of}
+use Rattle.emake.specs.Course.{Trace, Course, behind, go_on, ◌>>=◌, done, quit, say, take, keep, Ends, RunsOut, Meets, Follows, stop_of}
 
 -- ---- one part, and then another
 
-behind_ends : {A : Type 0} (calls : List Call) (steps : Steps A) (end : Result A Verdict) (x y z : Outside) → Makes calls x y → Ends steps end y z → Ends (behind calls steps) end x z
+behind_ends : {A : Type 0} (calls : List Call) (steps : Trace A) (end : Result A Verdict) (x y z : Outside) → Makes calls x y → Ends steps end y z → Ends (behind calls steps) end x z
 behind_ends calls steps end x y z p q = record { same = q.same; made = makes_then calls steps.calls x y z p q.made }
 
-behind_does : {A : Type 0} (calls : List Call) (steps : Steps A) (r : Result A Stop) (x y z : Outside) → Makes calls x y → Does steps r y z → Does (behind calls steps) r x z
+behind_does : {A : Type 0} (calls : List Call) (steps : Trace A) (r : Result A Stop) (x y z : Outside) → Makes calls x y → Meets steps r y z → Meets (behind calls steps) r x z
 behind_does calls steps (Ok a) x y z p q = behind_ends calls steps (Ok a) x y z p q
 behind_does calls steps (Err (End verdict)) x y z p q = behind_ends calls steps (Err verdict) x y z p q
 behind_does calls steps (Err Failed) x y z p q = fails_then true calls steps.calls x y z p q
 behind_does calls steps (Err NoMemory) x y z p q = ⊎_elim (λ f. inl (front_then calls steps.calls x y z p f)) (λ f. inr (f.0, fails_then f.0 calls steps.calls x y z p f.1)) q
 
 module _ {A B : Type 0} (k : A → Course B) where
-  then_does : (steps : Steps A) (a : A) (r : Result B Stop) (x y z : Outside) → Ends steps (Ok a) x y → Does (k a y.files) r y z → Does (go_on steps.calls steps.end k x.files) r x z
+  then_does : (steps : Trace A) (a : A) (r : Result B Stop) (x y z : Outside) → Ends steps (Ok a) x y → Meets (k a y.files) r y z → Meets (go_on steps.calls steps.end k x.files) r x z
   then_does steps a r x y z p q =
-      subst (λ end. Does (go_on steps.calls end k x.files) r x z) (sym p.same)
-      (behind_does steps.calls (k a (files_after steps.calls x.files)) r x y z p.made (subst (λ f. Does (k a f) r y z) p.made.files q))
+      subst (λ end. Meets (go_on steps.calls end k x.files) r x z) (sym p.same)
+      (behind_does steps.calls (k a (files_after steps.calls x.files)) r x y z p.made (subst (λ f. Meets (k a f) r y z) p.made.files q))
 
   more_calls : (calls : List Call) (end : Result A Verdict) (f : Files) (P : List Call → Type 0) → ((a b : List Call) → P a → P (a ++ b)) → P calls → P (go_on calls end k f).calls
   more_calls calls (Ok a) f P more p = more calls (k a (files_after calls f)).calls p
   more_calls calls (Err verdict) f P more p = p
 
-  leave_does : (steps : Steps A) (e : Stop) (x y : Outside) → Does steps (Err e) x y → Does (go_on steps.calls steps.end k x.files) (Err e) x y
+  leave_does : (steps : Trace A) (e : Stop) (x y : Outside) → Meets steps (Err e) x y → Meets (go_on steps.calls steps.end k x.files) (Err e) x y
   leave_does steps (End verdict) x y p = subst (λ end. Ends (go_on steps.calls end k x.files) (Err verdict) x y) (sym p.same) (record { same = refl; made = p.made })
   leave_does steps Failed x y p = more_calls steps.calls steps.end x.files (λ c. FailsIn true c x y) (λ a b q. fails_more true a b x y q) p
   leave_does steps NoMemory x y p = more_calls steps.calls steps.end x.files (λ c. RunsOut c x y)
@@ -78,7 +78,7 @@ module _ {A : Type 0} {m : Course A} {x : Option Outside} where
 -- ---- one call
 
 -- a call that failed breaks off whatever is that call alone
-broke : {B : Type 0} (A : Type 0) (steps : Steps B) (call : Call) (e : HostNo) (x y : Outside) → steps.calls ≡ call ∷ [] → Went {A = A} call (Err e) x y → Does steps (Err (stop_of e)) x y
+broke : {B : Type 0} (A : Type 0) (steps : Trace B) (call : Call) (e : HostNo) (x y : Outside) → steps.calls ≡ call ∷ [] → Went {A = A} call (Err e) x y → Meets steps (Err (stop_of e)) x y
 broke A steps call no.Failed x y is p = subst (λ c. FailsIn true c x y) (sym is) p
 broke A steps call no.NoMemory x y is p = inr (subst (λ c. (is_noted : Bool) × FailsIn is_noted c x y) (sym is) p)
 

@@ -19,15 +19,15 @@ use Rattle.emake.specs.declared.stop.Stop.{Stop}
 use Rattle.emake.specs.declared.stop.Stop.TheVariants.{End, Failed, NoMemory}
 
 -- calls that end with a value, or end the run with a status
-pub record Steps (A : Type 0) : Type 0 where
+pub record Trace (A : Type 0) : Type 0 where
   pub calls : List Call
   pub end : Result A Verdict
 
 abbrev pub Course : Type 0 → Type 0
-Course A = Files → Steps A
+Course A = Files → Trace A
 
 -- calls that were made, and then the steps behind them
-abbrev pub behind : {A : Type 0} → List Call → Steps A → Steps A
+abbrev pub behind : {A : Type 0} → List Call → Trace A → Trace A
 behind calls steps = record { calls = calls ++ steps.calls; end = steps.end }
 
 abbrev pub go_on : {A B : Type 0} → List Call → Result A Verdict → (A → Course B) → Course B
@@ -68,7 +68,7 @@ say_all (text ∷ texts) a = do
 -- ---- what a function promises that follows a course
 
 -- the steps were made, whole, with this end
-pub record Ends {A : Type 0} (steps : Steps A) (end : Result A Verdict) (before after : Outside) : Type 0 where
+pub record Ends {A : Type 0} (steps : Trace A) (end : Result A Verdict) (before after : Outside) : Type 0 where
   pub same : steps.end ≡ end
   pub made : Makes steps.calls before after
 
@@ -76,15 +76,15 @@ pub record Ends {A : Type 0} (steps : Steps A) (end : Result A Verdict) (before 
 abbrev pub RunsOut : List Call → Outside → Outside → Type 0
 RunsOut calls before after = MakesFront calls before after ⊎ ((is_noted : Bool) × FailsIn is_noted calls before after)
 
-abbrev pub Does : {A : Type 0} → Steps A → Result A Stop → Outside → Outside → Type 0
-Does steps (Ok a) before after = Ends steps (Ok a) before after
-Does steps (Err (End verdict)) before after = Ends steps (Err verdict) before after
-Does steps (Err Failed) before after = FailsIn true steps.calls before after
-Does steps (Err NoMemory) before after = RunsOut steps.calls before after
+abbrev pub Meets : {A : Type 0} → Trace A → Result A Stop → Outside → Outside → Type 0
+Meets steps (Ok a) before after = Ends steps (Ok a) before after
+Meets steps (Err (End verdict)) before after = Ends steps (Err verdict) before after
+Meets steps (Err Failed) before after = FailsIn true steps.calls before after
+Meets steps (Err NoMemory) before after = RunsOut steps.calls before after
 
 -- told: what the host told before and after
 pub record Follows {A : Type 0} (course : Course A) (result : Result A Stop) (before after : Option Outside) : Type 0 where
-  pub told : Tells (λ x y. Does (course x.files) result x y) before after
+  pub told : Tells (λ x y. Meets (course x.files) result x y) before after
 
 -- the count of the host's faults after a function that answered so
 abbrev pub faults_after : {A : Type 0} → Result A Stop → ℕ → ℕ

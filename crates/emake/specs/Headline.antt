@@ -7,7 +7,7 @@ use Rattle.emake.specs.declared.verdict.Verdict.{Verdict}
 use Rattle.emake.specs.declared.stop.Stop.{Stop}
 use Rattle.emake.specs.declared.stop.Stop.TheVariants.{End, Failed, NoMemory}
 use Rattle.emake.specs.Closing.{code_of}
-use Rattle.emake.specs.Course.{Steps, RunsOut}
+use Rattle.emake.specs.Course.{Trace, RunsOut}
 use Rattle.emake.specs.Endings.{ended}
 
 abbrev pub verdict_of : Result Verdict Verdict → Verdict
@@ -27,7 +27,7 @@ pub record IsCut (calls : List Call) (before after : Outside) : Type 0 where
   pub files : (after.files ≡ before.files) ⊎ (after.files ≡ files_after calls before.files)
 
 -- the ending's calls are made, in order, and no other
-pub record Comes (ending : Steps Verdict) (code : ℕ) (before after : Outside) : Type 0 where
+pub record Comes (ending : Trace Verdict) (code : ℕ) (before after : Outside) : Type 0 where
   -- at a status other than 3 and 7 all of them, and each answered Ok
   pub status : code ≢ 3 → code ≢ 7 → code ≡ code_of (verdict_of ending.end)
   pub done : code ≢ 3 → code ≢ 7 → Makes ending.calls before after

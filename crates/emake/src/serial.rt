@@ -16,7 +16,7 @@ use em_tree::{Outcome, State};
 use em_view::Effect;
 use std::alloc::Global;
 
-/// The state that jobs left, and whether the run ended before the last one.
+/// The state that jobs left, and whether one of them ended the run.
 #[derive(Drop)]
 pub struct Ran {
     pub state: State,

@@ -1,5 +1,5 @@
 //! The words of a command line.
-ghost use Rattle.std.specs.Prelude.{◌≡◌, IfOk, IfErr, IsErr, map, drop, string_bytes};
+ghost use Rattle.std.specs.Prelude.{◌≡◌, ◌≢◌, [], None, Ok, IfOk, IfErr, IsErr, map, drop, string_bytes};
 ghost use Rattle.std.specs.IoError.{error_kind};
 ghost use Rattle.std.specs.Vec.Iter.{into_iter_items};
 ghost use Rattle.emake.specs.Words.{words_of, order_of};
@@ -23,6 +23,7 @@ fn texts(alloc: Global, args: Args) -> Result<Seq<Text>, NoMemory>
 /// The program's name and the words, as the system gives them. Where they can't be read as a whole, there are none.
 pub fn given_words(alloc: Global, args: io::Result<Args>) -> Result<Seq<Text>, NoMemory>
     ensures words { IfOk result (λ words. drop 1 words ≡ words_of args) }
+    ensures unread { IfErr args (λ e. error_kind e ≢ ErrorKind.OutOfMemory → result ≡ Ok []) }
     ensures memory { IfErr args (λ e. error_kind e ≡ ErrorKind.OutOfMemory → IsErr result) }
 {
     match args {
@@ -53,7 +54,8 @@ pub struct Order {
 
 /// The order that the words give, or None where they are none that are read.
 pub fn order_of(alloc: Global, words: &[Text]) -> Result<Option<Order>, NoMemory>
-    ensures { IfOk result (λ found. found ≡ order_of words.now) }
+    ensures order { IfOk result (λ found. found ≡ order_of words.now) }
+    ensures refused { order_of words.now ≡ None → result ≡ Ok None }
 {
     match words {
         [flag, image, goal] if flag.bytes() == b"-I".as_slice() && is_name(goal.bytes()) => {
