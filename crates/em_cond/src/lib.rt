@@ -1,0 +1,12 @@
+//! Conditionals of a makefile that are open.
+#![tactic(auto)]
+
+pub mod laws;
+mod nest;
+mod no;
+
+pub use nest::{Branch, Conditional, Nest};
+pub use no::CondNo;
+
+#[cfg(test)]
+mod tests;

@@ -1,0 +1,92 @@
+use super::*;
+use std::alloc::Global;
+use std::test::Fail;
+
+#[derive(Clone, Copy)]
+enum Line {
+    If(bool),
+    ElseIf(bool),
+    Else,
+    EndIf,
+}
+
+/// The lines one after another on a new nest: the place of the first that doesn't fit, and whether lines are read behind them.
+fn read(alloc: Global, lines: &[Line]) -> (Option<usize>, bool) {
+    let mut nest = Nest::new(alloc);
+    for (at, line) in lines.iter().enumerate() {
+        let fits = match line {
+            Line::If(holds) => nest.enter(*holds),
+            Line::ElseIf(holds) => nest.other(Some(*holds)),
+            Line::Else => nest.other(None),
+            Line::EndIf => nest.leave(),
+        };
+        if fits.is_err() {
+            return (Some(at), nest.active());
+        }
+    }
+    (None, nest.active())
+}
+
+#[test]
+fn the_first_branch_that_holds_is_read(rt: HostRuntime) {
+    for (lines, wanted) in [
+        ([].as_slice(), (None, true)),
+        (&[Line::If(true)], (None, true)),
+        (&[Line::If(false)], (None, false)),
+        (&[Line::If(true), Line::Else], (None, false)),
+        (&[Line::If(false), Line::Else], (None, true)),
+        (&[Line::If(false), Line::ElseIf(true)], (None, true)),
+        (&[Line::If(true), Line::ElseIf(true)], (None, false)),
+        (
+            &[Line::If(false), Line::ElseIf(true), Line::Else],
+            (None, false),
+        ),
+        (
+            &[Line::If(false), Line::ElseIf(false), Line::Else],
+            (None, true),
+        ),
+        (
+            &[
+                Line::If(false),
+                Line::ElseIf(false),
+                Line::ElseIf(true),
+                Line::ElseIf(true),
+            ],
+            (None, false),
+        ),
+        // a branch within one that isn't read isn't read
+        (&[Line::If(false), Line::If(true)], (None, false)),
+        (&[Line::If(true), Line::If(true)], (None, true)),
+        (
+            &[Line::If(true), Line::If(false), Line::EndIf],
+            (None, true),
+        ),
+        (
+            &[Line::If(false), Line::If(true), Line::EndIf, Line::Else],
+            (None, true),
+        ),
+    ] {
+        assert!(rt; read(rt.alloc(), lines) == wanted);
+    }
+}
+
+#[test]
+fn what_is_not_balanced_is_refused_and_changes_nothing(rt: HostRuntime) {
+    for (lines, wanted) in [
+        ([Line::EndIf].as_slice(), (Some(0), true)),
+        (&[Line::Else], (Some(0), true)),
+        (&[Line::ElseIf(true)], (Some(0), true)),
+        (&[Line::If(false), Line::Else, Line::Else], (Some(2), true)),
+        (
+            &[Line::If(false), Line::Else, Line::ElseIf(true)],
+            (Some(2), true),
+        ),
+        (
+            &[Line::If(false), Line::ElseIf(false), Line::ElseIf(false)],
+            (None, false),
+        ),
+        (&[Line::If(true), Line::EndIf, Line::EndIf], (Some(2), true)),
+    ] {
+        assert!(rt; read(rt.alloc(), lines) == wanted);
+    }
+}
