@@ -1,6 +1,6 @@
 -- Conditionals that are open, the innermost first.
 --     next_branch b holds      how far a conditional is with one branch more, whose condition holds or doesn't
---     branch_after c cs        how far it is with these conditions, the first and the others in order
+--     branch_after cs          how far it is with branches of these conditions, in order
 --     entered holds, after_other, after_leave      a nest after `ifeq` and its like, `else`, `endif`; none where that isn't balanced
 --     is_active ks             in each conditional the present branch is the one that is read
 use Rattle.std.specs.Prelude.{Bool, true, false, List, [], ◌∷◌, Option, Some, None, option_and_then, if◌then◌else◌}

@@ -27,7 +27,8 @@ pub struct Conditional {
     pub closed: bool,
 }
 
-/// The conditionals that are open. Contracts see their list, the innermost first. Each call takes one step.
+/// The conditionals that are open. Contracts see their list, the innermost first. Each call takes one step, and `enter` one more for
+/// each open conditional where it needs memory.
 #[derive(Debug, Drop)]
 pub struct Nest {
     open: Stack<Conditional>,
