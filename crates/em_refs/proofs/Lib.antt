@@ -1,3 +1,3 @@
 mod Plain
 mod Nested
-mod Whole
+pub mod Whole

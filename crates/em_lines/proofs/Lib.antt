@@ -1,0 +1,5 @@
+mod Trimmed
+mod Rows
+mod Numbered
+mod Bared
+mod Keeping

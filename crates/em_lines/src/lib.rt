@@ -1,0 +1,17 @@
+//! The logical lines of a makefile.
+#![tactic(auto)]
+
+mod comment;
+mod joining;
+pub mod laws;
+mod line;
+mod no;
+mod read;
+
+pub use comment::bare;
+pub use line::{Line, Lines};
+pub use no::LinesNo;
+pub use read::{joined, logical, logical_before};
+
+#[cfg(test)]
+mod tests;
