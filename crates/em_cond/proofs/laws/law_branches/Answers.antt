@@ -2,7 +2,7 @@ use Rattle.std.proofs.Common.{◌≡◌, Bool, true, false, List, [], ◌∷◌,
 use Rattle.std.specs.Prelude.{option_and_then, unwrap_or}
 use Rattle.em_cond.specs.declared.nest.Branch.{Branch}
 use Rattle.em_cond.specs.declared.nest.Conditional.{Conditional}
-use Rattle.em_cond.specs.Nests.{after_others, entered, otherwise, branch_from, branch_after, next_branch}
+use Rattle.em_cond.specs.Nests.{after_others, entered, otherwise, branch_from, next_branch}
 use Rattle.em_cond.proofs.laws.law_branches.Goals as goal
 
 abbrev conditions : List (Option Bool) → List Bool

@@ -1,8 +1,7 @@
-use Rattle.std.proofs.Common.{◌≡◌, ℕ, suc, Bool, true, false, List, [], ◌∷◌, length, refl, ap, arith}
+use Rattle.std.proofs.Common.{◌≡◌, ℕ, Bool, true, false, List, [], ◌∷◌, length, refl, arith}
 use Rattle.std.specs.List.{position_or_len}
-use Rattle.em_cond.specs.declared.nest.Branch.{Branch}
-use Rattle.em_cond.specs.declared.nest.Branch.TheVariants.{Before, Taken, Behind}
-use Rattle.em_cond.specs.Nests.{branch_from, next_branch, branch_after}
+use Rattle.em_cond.specs.declared.nest.Branch.TheVariants.{Taken, Behind}
+use Rattle.em_cond.specs.Nests.{branch_from, branch_after}
 use Rattle.em_cond.proofs.laws.law_first.Goals as goal
 
 abbrev first : List Bool → ℕ

@@ -1,0 +1,4 @@
+mod Reading
+mod Fitting
+mod Way
+mod Matching

@@ -1,0 +1,2 @@
+pub use Rattle.em_glob.specs.Patterns
+pub mod Walking
