@@ -8,7 +8,6 @@ mod host;
 mod mem;
 mod no;
 mod real;
-mod table;
 
 pub use call::{Call, Called};
 pub use host::Host;

@@ -10,8 +10,7 @@ use crate::call::{Call, Called};
 use crate::calls::Calls;
 use crate::host::Host;
 use crate::no::HostNo;
-use crate::table::FileTable;
-use em_base::{NoMemory, Text};
+use em_base::{NoMemory, Table, Text};
 use std::alloc::Global;
 use std::marker::Model;
 
@@ -23,7 +22,7 @@ use std::marker::Model;
 /// files nor what was printed.
 #[derive(Drop)]
 pub struct MemHost {
-    files: FileTable,
+    files: Table<Text>,
     printed: Text,
     calls: Calls,
 }
@@ -48,7 +47,7 @@ impl MemHost {
         ensures { result ≡ nothing }
     {
         MemHost {
-            files: FileTable::new(alloc),
+            files: Table::new(alloc),
             printed: Text::new(alloc),
             calls: Calls {
                 noted: Vec::new(alloc),
@@ -65,7 +64,10 @@ impl MemHost {
         ensures ok { OnOk result (self.new ≡ with_files self.old (map.insert self.old.outside.files name.now bytes.now)) }
         ensures err { OnErr result (self.new ≡ self.old) }
     {
-        self.files.insert(alloc, name, bytes)?;
+        self.files.insert(
+            Text::from_slice(alloc, name)?,
+            Text::from_slice(alloc, bytes)?,
+        )?;
         Ok(())
     }
 
@@ -82,7 +84,7 @@ impl MemHost {
     pub fn file(&self, name: &[u8]) -> Option<&[u8]>
         ensures { option_copied result ≡ map.get self.now.outside.files name.now }
     {
-        self.files.get(name)
+        Some(self.files.get(name)?.bytes())
     }
 
     /// What was printed.
@@ -151,7 +153,7 @@ impl Host for MemHost {
 }
 
 /// A copy of the bytes, where there are any, unless the call is to fail.
-fn copied(alloc: Global, fails: bool, bytes: Option<&[u8]>) -> Result<Option<Vec<u8>>, HostNo>
+fn copied(alloc: Global, fails: bool, bytes: Option<&Text>) -> Result<Option<Vec<u8>>, HostNo>
     ensures fails { IsErrOf result HostNo.Failed ↔ IsTrue fails }
     ensures copy { IfOk (contents result) (λ copy. copy ≡ option_copied bytes.entry) }
 {
@@ -159,7 +161,7 @@ fn copied(alloc: Global, fails: bool, bytes: Option<&[u8]>) -> Result<Option<Vec
         return Err(HostNo::Failed);
     }
     match bytes {
-        Some(bytes) => Ok(Some(Vec::from_slice(alloc, bytes)?)),
+        Some(bytes) => Ok(Some(bytes.copy(alloc)?.into_vec())),
         None => Ok(None),
     }
 }
@@ -168,7 +170,7 @@ fn copied(alloc: Global, fails: bool, bytes: Option<&[u8]>) -> Result<Option<Vec
 fn written(
     alloc: Global,
     fails: bool,
-    files: &mut FileTable,
+    files: &mut Table<Text>,
     name: &[u8],
     bytes: &[u8],
 ) -> Result<(), HostNo>
@@ -179,7 +181,10 @@ fn written(
     if fails {
         return Err(HostNo::Failed);
     }
-    files.insert(alloc, name, bytes)?;
+    files.insert(
+        Text::from_slice(alloc, name)?,
+        Text::from_slice(alloc, bytes)?,
+    )?;
     Ok(())
 }
 
