@@ -1,4 +1,5 @@
 pub mod Lemmas
 pub mod Spelling
+mod Words
 mod Testing
 mod Walking
