@@ -1,5 +1,5 @@
 pub mod Lemmas
 pub mod Spelling
-mod Words
 mod Testing
 mod Walking
+mod Words
