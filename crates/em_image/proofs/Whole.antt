@@ -4,6 +4,7 @@ use Rattle.std.specs.Prelude.{T, IsSome}
 use Rattle.std.specs.List.{flat_map, AllByRecursion}
 use Rattle.std.specs.declared.cmp.Ordering.TheVariants.{Less, Equal}
 use Rattle.std.specs.Ordering.{is_lt}
+use Rattle.std.specs.Cmp.{tied_itself}
 use Rattle.std.specs.FinMap.{entries, get, insert, empty, find, is_sorted, entries_sorted, get-entries, get-empty, get-insert, len-entries, len-empty, same_entries_map}
 use Rattle.std.specs.FinMap.Entries.{below_all}
 use Rattle.std.proofs.lemmas.List.Concat.{flat_map-cons}
@@ -27,7 +28,7 @@ dir_is None e = absurd cc
 dir_is (Some (File body stamp)) e = absurd cc
 dir_is (Some (Dir stamp)) e = refl
 
-is_a_dir : (o : Option Node) → kind_of o ≡ kind.Dir → is_dir o ≡ true
+pub is_a_dir : (o : Option Node) → kind_of o ≡ kind.Dir → is_dir o ≡ true
 is_a_dir None e = absurd cc
 is_a_dir (Some (File body stamp)) e = absurd cc
 is_a_dir (Some (Dir stamp)) e = refl
@@ -45,6 +46,12 @@ pub record Grown (t : Table) (es : List Entry) (u : Table) : Type 0 where
 
 parent_is_dir : (t : Table) (p q : List ℕ) → has_dir t (parent_text p) ≡ true → parent_text p ≡ Some q → kind_of (get t q) ≡ kind.Dir
 parent_is_dir t p q h e = dir_is (get t q) (rw e at h)
+
+-- the parent of what was put into a tree is one of its directories
+pub home_of : (t : Table) (p q : List ℕ) (n : Node) → IsTree (insert t p n) → parent_text p ≡ Some q → has_dir (insert t p n) (Some q) ≡ true
+home_of t p q n tree up =
+    let here : IsSome (get (insert t p n) p) = rw (get-insert total t p n p, tied_itself total p) refl in
+    is_a_dir (get (insert t p n) q) (tree.parents p q here up)
 
 -- a node that joins a tree makes a tree
 pub joined_tree : (l : Limits) (last : List ℕ) (t : Table) (e : Entry) → IsTree t → AllBelow e.0 (entries t) → Joins l last t e → IsTree (insert t e.0 e.1)

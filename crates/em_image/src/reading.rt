@@ -1,5 +1,5 @@
 //! Reading an image from the left.
-ghost use Rattle.std.specs.Prelude.{◌≡◌, ◌-◌, ◌<◌, ℕ, length, false, nat_lt, IfOk, Ok, Err, None};
+ghost use Rattle.std.specs.Prelude.{◌≡◌, ◌-◌, ◌<◌, ℕ, length, true, false, if◌then◌else◌, nat_lt, IfOk, Ok, Err, Some, None};
 ghost use Rattle.em_image.specs.declared.no.ImageNo.TheVariants as no;
 ghost use Rattle.em_image.specs.declared.no.Which.TheVariants as which;
 ghost use Rattle.std.specs.FinMap as map;
@@ -70,29 +70,34 @@ fn body<'a>(
     Ok((Node::File { body, stamp }, after))
 }
 
-/// Whether the parent of a path is a directory of the tree.
-fn has_parent(alloc: Global, tree: &Tree, path: &Path) -> Result<bool, NoMemory>
-    ensures { IfOk result (λ b. b ≡ has_dir tree.now (parent_text path.now)) }
+/// The parent of a path, where it is a directory of the tree. No search where it is `home`, which is one.
+fn parent_in(alloc: Global, tree: &Tree, home: &Path, path: &Path) -> Result<Option<Path>, NoMemory>
+    requires { has_dir tree.now (Some home.now) ≡ true }
+    ensures { IfOk result (λ r. r ≡ (if has_dir tree.now (parent_text path.now) then parent_text path.now else None)) }
 {
     match path.parent(alloc) {
         Err(_) => Err(NoMemory),
-        Ok(None) => Ok(false),
-        Ok(Some(parent)) => Ok(tree.kind(&parent) == Kind::Dir),
+        Ok(None) => Ok(None),
+        Ok(Some(parent)) if parent == *home || tree.kind(&parent) == Kind::Dir => Ok(Some(parent)),
+        Ok(Some(_)) => Ok(None),
     }
 }
 
-/// Takes a node behind the path `last`, where `tree` was read.
+/// Takes a node behind the path `last`, where `tree` was read, and gives its parent, too.
 #[tactic(auto, unfolding(crate::specs::Reading::node_at))]
 fn node<'a>(
     alloc: Global,
     input: &Bytes,
     tree: &Tree,
+    home: &Path,
     last: &Path,
     cursor: Cursor<'a>,
     is_file: bool,
-) -> Result<(Path, Node, Cursor<'a>), ImageNo>
-    requires { IsAt input.now (seen cursor) }
-    ensures { Gives (λ x. ((x.0, x.1), seen x.2)) result (node_at limits is_file last.now tree.now (seen cursor.entry)) }
+) -> Result<(Path, Node, Cursor<'a>, Path), ImageNo>
+    requires at { IsAt input.now (seen cursor) }
+    requires home { has_dir tree.now (Some home.now) ≡ true }
+    ensures parent { IfOk result (λ x. parent_text x.0 ≡ Some x.3) }
+    ensures node { Gives (λ x. ((x.0, x.1), seen x.2)) result (node_at limits is_file last.now tree.now (seen cursor.entry)) }
 {
     let (header, after) = header(input, cursor, is_file)?;
     let Header {
@@ -104,11 +109,11 @@ fn node<'a>(
     if !last.cmp(&path).is_lt() {
         return Err(ImageNo::Order { at: place });
     }
-    if !has_parent(alloc, tree, &path)? {
+    let Some(parent) = parent_in(alloc, tree, home, &path)? else {
         return Err(ImageNo::Parent { at: place });
-    }
+    };
     let (node, after) = body(input, after, stamp, size)?;
-    Ok((path, node, after))
+    Ok((path, node, after, parent))
 }
 
 /// Takes the nodes behind the root, and the `.` of the end.
@@ -123,6 +128,7 @@ fn nodes<'a>(
 {
     let mut tree = Tree::new(alloc, root_stamp)?;
     let mut last = Path::root();
+    let mut home = Path::root();
     let mut here = cursor;
     for _ in 1..MAX_NODES {
         let (mark, after) = mark(here)?;
@@ -131,9 +137,10 @@ fn nodes<'a>(
             Mark::Dir => false,
             Mark::File => true,
         };
-        let (path, node, after) = node(alloc, input, &tree, &last, after, is_file)?;
+        let (path, node, after, parent) = node(alloc, input, &tree, &home, &last, after, is_file)?;
         last = path.copy()?;
         tree.add(path, node)?;
+        home = parent;
         here = after;
     }
     let (mark, after) = mark(here)?;

@@ -1,5 +1,5 @@
 //! Writing an image.
-ghost use Rattle.std.specs.Prelude.{◌≡◌, ◌+◌, ◌<◌, ◌++◌, length, true, None, Some, Err, IfOk, IfSome, OnOk, MatchOption, MatchResult, decimal, nat_lt};
+ghost use Rattle.std.specs.Prelude.{◌≡◌, ℕ, List, ◌+◌, ◌<◌, ◌++◌, length, true, None, Some, Err, IfOk, IfSome, OnOk, MatchOption, MatchResult, decimal, nat_lt};
 ghost use Rattle.std.specs.List.{list_any};
 ghost use Rattle.std.specs.FinMap.{entries};
 ghost use Rattle.em_tree.specs.Trees.{IsTree};
@@ -72,34 +72,48 @@ fn left_behind(room: usize, path: &Path, node: &Node) -> Option<usize>
     }
 }
 
-/// How many bytes the text may still have; none where it is too long.
-fn room_left(tree: &Tree) -> Option<usize>
-    ensures { MatchOption result (limits.image < length (image_text tree.now)) (λ left. left + length (image_text tree.now) ≡ limits.image) }
-{
-    let mut room = MAX_IMAGE - 11;
-    for (path, node) in tree.nodes() {
-        room = left_behind(room, path, node)?;
-    }
-    Some(room)
+/// What is asked of all nodes: how many bytes the text may still have, whether a file is too big, and whether a stamp is too
+/// late.
+struct Measure {
+    room: usize,
+    has_big_file: bool,
+    has_late_stamp: bool,
 }
 
-/// Whether a file is too big.
-fn has_big_file(tree: &Tree) -> bool
-    ensures { result ≡ list_any (is_too_big limits) (entries tree.now) }
+/// Whether the node is a file that is too big.
+fn is_big(node: &Node) -> bool
+    ensures { (p : List ℕ) → result ≡ is_too_big limits (p, node.now) }
 {
-    tree.nodes().any(|(_, node)| match node {
+    match node {
         Node::File { body, .. } => body.bytes().len() as u64 > MAX_FILE,
         Node::Dir { .. } => false,
-    })
+    }
 }
 
-/// Whether a stamp is too late.
-fn has_late_stamp(tree: &Tree) -> bool
-    ensures { result ≡ list_any (is_too_late limits) (entries tree.now) }
+/// Whether the node's stamp is too late.
+fn is_late(node: &Node) -> bool
+    ensures { (p : List ℕ) → result ≡ is_too_late limits (p, node.now) }
 {
-    tree.nodes().any(|(_, node)| match node {
-        Node::File { stamp, .. } => *stamp > MAX_STAMP,
-        Node::Dir { stamp } => *stamp > MAX_STAMP,
+    node.stamp() > MAX_STAMP
+}
+
+/// Measures the tree in one pass; none where its text is too long.
+fn measured(tree: &Tree) -> Option<Measure>
+    ensures text { MatchOption result (limits.image < length (image_text tree.now)) (λ m. m.room + length (image_text tree.now) ≡ limits.image) }
+    ensures nodes { IfSome result (λ m. (m.has_big_file ≡ list_any (is_too_big limits) (entries tree.now)) × (m.has_late_stamp ≡ list_any (is_too_late limits) (entries tree.now))) }
+{
+    let mut room = MAX_IMAGE - 11;
+    let mut has_big_file = false;
+    let mut has_late_stamp = false;
+    for (path, node) in tree.nodes() {
+        room = left_behind(room, path, node)?;
+        has_big_file |= is_big(node);
+        has_late_stamp |= is_late(node);
+    }
+    Some(Measure {
+        room,
+        has_big_file,
+        has_late_stamp,
     })
 }
 
@@ -108,16 +122,23 @@ fn length_of(tree: &Tree) -> Result<usize, Which>
     ensures exact { MatchResult result (λ n. (broken limits tree.now ≡ None) × (n ≡ length (image_text tree.now))) (λ w. broken limits tree.now ≡ Some w) }
     ensures tree { OnOk result (IsTree tree.now) }
 {
-    let Some(room) = room_left(tree) else {
+    let Some(
+        Measure {
+            room,
+            has_big_file,
+            has_late_stamp,
+        },
+    ) = measured(tree)
+    else {
         return Err(Which::Image);
     };
     if tree.count() > MAX_NODES {
         return Err(Which::Nodes);
     }
-    if has_big_file(tree) {
+    if has_big_file {
         return Err(Which::File);
     }
-    if has_late_stamp(tree) {
+    if has_late_stamp {
         return Err(Which::Stamp);
     }
     Ok(MAX_IMAGE - room)

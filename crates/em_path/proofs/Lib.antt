@@ -2,3 +2,4 @@ pub mod Lemmas
 pub mod Spelling
 mod Testing
 mod Walking
+mod Words

@@ -3,6 +3,7 @@
 
 pub mod laws;
 mod name;
+mod order;
 mod path;
 mod read;
 

@@ -8,6 +8,7 @@ ghost use Rattle.em_path.specs.Reading.{read_fault, resolved_text, name_fault_of
 ghost use Rattle.em_path.specs.declared.path.PathNo.TheVariants.{NoMemory};
 
 use crate::name::{depth, front, is_path, joined, last_slash};
+use crate::order::order;
 use crate::read::{name_fault, resolved};
 use bytes::Bytes;
 use em_base::NoMemory;
@@ -262,6 +263,6 @@ impl Ord for Path {
     ghost matches_eq = { texts_ties };
 
     fn cmp(&self, other: &Self) -> Ordering {
-        self.spelled.cmp(&other.spelled)
+        order(self.text(), other.text())
     }
 }

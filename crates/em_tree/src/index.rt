@@ -51,11 +51,15 @@ impl Place {
     pub(crate) fn new(alloc: Global, p: &Path) -> Result<Place, NoMemory>
         ensures { IfOk result (λ place. place.path ≡ p.now) }
     {
-        match p.parent(alloc) {
-            Ok(above) => Ok(Place {
-                path: p.copy()?,
-                above,
-            }),
+        Place::of(alloc, p.copy()?)
+    }
+
+    /// The path is taken, and not copied.
+    fn of(alloc: Global, path: Path) -> Result<Place, NoMemory>
+        ensures { IfOk result (λ place. place.path ≡ path) }
+    {
+        match path.parent(alloc) {
+            Ok(above) => Ok(Place { path, above }),
             Err(_) => Err(NoMemory),
         }
     }
@@ -130,7 +134,7 @@ pub(crate) fn put_absent<V: Drop>(
     ensures ok { OnOk result (nodes.new ≡ map.insert nodes.old p n) }
     ensures err { OnErr result (nodes.new ≡ nodes.old) }
 {
-    let place = Place::new(alloc, &p)?;
+    let place = Place::of(alloc, p)?;
     put_new(nodes, children, alloc, &place, n)
 }
 
