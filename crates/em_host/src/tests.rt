@@ -1,47 +1,75 @@
 use super::*;
 use crate::no::HostNo;
-use em_base::{NoMemory, Seq};
+use em_base::NoMemory;
 use std::alloc::Global;
 use std::test::Fail;
 
-/// The calls with these answers, in order.
-fn noted(
-    alloc: Global,
-    calls: [(Result<Call, NoMemory>, bool); 6],
-) -> Result<Seq<Called>, NoMemory> {
-    let mut noted = Seq::new(alloc);
-    for (call, ok) in calls {
-        noted.push(Called { call: call?, ok })?;
-    }
-    Ok(noted)
+/// A call on a host.
+#[derive(Clone, Copy)]
+enum Act {
+    Take(&'static [u8]),
+    Replace(&'static [u8], &'static [u8]),
+    Print(&'static [u8]),
 }
 
-#[test]
-fn a_memory_host_keeps_files_output_and_calls(rt: HostRuntime) -> Result<(), Fail> {
-    let alloc = rt.alloc();
+/// Makes the call, and gives what it took.
+fn made(alloc: Global, host: &mut MemHost, act: Act) -> Result<Option<Vec<u8>>, HostNo> {
+    match act {
+        Act::Take(name) => host.take(alloc, name),
+        Act::Replace(name, bytes) => {
+            host.replace(alloc, name, bytes)?;
+            Ok(None)
+        }
+        Act::Print(bytes) => {
+            host.print(bytes)?;
+            Ok(None)
+        }
+    }
+}
+
+/// The call as a host notes it.
+fn noted(alloc: Global, act: Act, ok: bool) -> Result<Called, NoMemory> {
+    let call = match act {
+        Act::Take(name) => Call::take(alloc, name)?,
+        Act::Replace(name, bytes) => Call::replace(alloc, name, bytes)?,
+        Act::Print(bytes) => Call::print(alloc, bytes)?,
+    };
+    Ok(Called { call, ok })
+}
+
+/// A host with a file `a`, on which the second and the fourth call fail.
+fn host(alloc: Global) -> Result<MemHost, NoMemory> {
     let mut host = MemHost::new(alloc);
     host.put(alloc, b"a", b"1")?;
     host.fail_at(1)?;
     host.fail_at(3)?;
-    host.replace(alloc, b"b", b"2")?;
-    let lost = host.replace(alloc, b"a", b"3");
-    host.print(b"x = 1\n")?;
-    let unsaid = host.print(b"lost");
-    let bytes = host.take(alloc, b"a")?.ok_or("absent")?;
-    let none = host.take(alloc, b"c")?;
-    let wanted = [
-        (Call::replace(alloc, b"b", b"2"), true),
-        (Call::replace(alloc, b"a", b"3"), false),
-        (Call::print(alloc, b"x = 1\n"), true),
-        (Call::print(alloc, b"lost"), false),
-        (Call::take(alloc, b"a"), true),
-        (Call::take(alloc, b"c"), true),
-    ];
-    assert!(rt; lost == Err(HostNo::Failed) && unsaid == Err(HostNo::Failed));
-    assert!(rt; bytes.as_slice() == b"1".as_slice() && none.is_none());
+    Ok(host)
+}
+
+#[test]
+fn a_memory_host_keeps_files_output_and_calls(rt: HostRuntime) -> Result<(), Fail> {
+    let mut host = host(rt.alloc())?;
+    for (at, (act, ok, taken)) in [
+        (Act::Replace(b"b", b"2"), true, None),
+        (Act::Replace(b"a", b"3"), false, None),
+        (Act::Print(b"x = 1\n"), true, None),
+        (Act::Print(b"lost"), false, None),
+        (Act::Take(b"a"), true, Some(b"1".as_slice())),
+        (Act::Take(b"c"), true, None),
+    ]
+    .into_iter()
+    .enumerate()
+    {
+        match made(rt.alloc(), &mut host, act) {
+            Ok(bytes) => assert!(rt; ok && bytes.as_ref().map(|b| b.as_slice()) == taken),
+            Err(e) => assert!(rt; !ok && e == HostNo::Failed),
+        }
+        let wanted = noted(rt.alloc(), act, ok)?;
+        assert!(rt; host.calls().len() == at + 1);
+        assert!(rt; host.calls().last() == Some(&wanted));
+    }
     assert!(rt; host.file(b"b") == Some(b"2".as_slice()) && host.file(b"c").is_none());
     assert!(rt; host.printed() == b"x = 1\n".as_slice());
-    assert!(rt; host.calls() == noted(alloc, wanted)?.items());
     Ok(())
 }
 

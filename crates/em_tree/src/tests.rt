@@ -251,28 +251,47 @@ fn show_tree(log: &mut String, tree: &Tree) -> Result<(), AllocError> {
     Ok(())
 }
 
+fn shown(alloc: Global, tree: &Tree) -> Result<String, AllocError> {
+    let mut log = String::new(alloc);
+    show_tree(&mut log, tree)?;
+    Ok(log)
+}
+
+/// The sample without a file, and with one more directory.
+fn changed(alloc: Global) -> Result<Tree, Fail> {
+    let file = path(alloc, b"/d/a.b")?;
+    let dir = path(alloc, b"/d/e")?;
+    let mut tree = sample(alloc)?;
+    take_out(&mut tree, alloc, file)?;
+    lay_new(&mut tree, alloc, dir, Node::Dir { stamp: 9 })?;
+    Ok(tree)
+}
+
 #[test]
-fn a_tree_is_changed_and_gone_over_in_byte_order(rt: HostRuntime) -> Result<(), Fail> {
-    let mut tree = sample(rt.alloc())?;
-    let before = tree.copy()?;
-    take_out(&mut tree, rt.alloc(), path(rt.alloc(), b"/d/a.b")?)?;
-    assert!(rt; tree != before);
-    let e = path(rt.alloc(), b"/d/e")?;
-    lay_new(&mut tree, rt.alloc(), e, Node::Dir { stamp: 9 })?;
-    let mut log = String::new(rt.alloc());
-    show_tree(&mut log, &before)?;
-    log.push_str("; ")?;
-    show_tree(&mut log, &tree)?;
-    assert_eq!(rt;
-        log.as_str(),
-        "/=1 /d=2 /d/a=3 /d/a.b=7 /d/a/b=7 /d/a0=7 ; /=1 /d=2 /d/a=3 /d/a/b=7 /d/a0=7 /d/e=9 "
-    );
-    assert_eq!(rt; tree.count(), 6);
-    assert_eq!(rt; tree.base(), 9);
-    for (i, text) in [(1, b"/d".as_slice()), (5, b"/d/e".as_slice())] {
+fn a_tree_is_gone_over_in_byte_order(rt: HostRuntime) -> Result<(), Fail> {
+    let tree = sample(rt.alloc())?;
+    assert!(rt; shown(rt.alloc(), &tree)?.as_str() == "/=1 /d=2 /d/a=3 /d/a.b=7 /d/a/b=7 /d/a0=7 ");
+    for (i, text) in [(1, b"/d".as_slice()), (5, b"/d/a0".as_slice())] {
         assert!(rt; tree.at(i).is_some_and(|(p, _)| p.text() == text));
     }
     assert!(rt; tree.at(6).is_none());
+    Ok(())
+}
+
+#[test]
+fn a_tree_is_changed(rt: HostRuntime) -> Result<(), Fail> {
+    let tree = changed(rt.alloc())?;
+    assert!(rt; shown(rt.alloc(), &tree)?.as_str() == "/=1 /d=2 /d/a=3 /d/a/b=7 /d/a0=7 /d/e=9 ");
+    assert!(rt; tree.count() == 6 && tree.base() == 9);
+    let other = sample(rt.alloc())?;
+    assert!(rt; tree != other);
+    let copy = tree.copy()?;
+    assert!(rt; tree == copy);
+    Ok(())
+}
+
+#[test]
+fn a_node_is_copied(rt: HostRuntime) -> Result<(), Fail> {
     let node = file(rt.alloc(), b"y", 4)?;
     assert!(rt; node.copy()? == node);
     Ok(())
