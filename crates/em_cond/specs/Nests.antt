@@ -2,8 +2,9 @@
 --     next_branch b holds      how far a conditional is with one branch more, whose condition holds or doesn't
 --     branch_after cs          how far it is with branches of these conditions, in order
 --     entered holds, after_other, after_leave      a nest after `ifeq` and its like, `else`, `endif`; none where that isn't balanced
+--     may_turn ks             a further branch whose condition holds would be read: none was read so far, and all round it is
 --     is_active ks             in each conditional the present branch is the one that is read
-use Rattle.std.specs.Prelude.{Bool, true, false, List, [], ◌∷◌, Option, Some, None, option_and_then, if◌then◌else◌}
+use Rattle.std.specs.Prelude.{Bool, true, false, not, ◌&&◌, List, [], ◌∷◌, Option, Some, None, option_and_then, if◌then◌else◌}
 use Rattle.std.specs.List.{list_all}
 use Rattle.em_cond.specs.declared.nest.Branch.{Branch}
 use Rattle.em_cond.specs.declared.nest.Branch.TheVariants.{Before, Taken, Behind}
@@ -50,3 +51,15 @@ is_taken _ = false
 
 abbrev pub is_active : List Conditional → Bool
 is_active ks = list_all (λ k. is_taken k.branch) ks
+
+abbrev pub is_before : Branch → Bool
+is_before Before = true
+is_before _ = false
+
+-- a further branch can be the one that is read
+abbrev pub is_waiting : Conditional → Bool
+is_waiting k = not k.closed && is_before k.branch
+
+abbrev pub may_turn : List Conditional → Bool
+may_turn [] = false
+may_turn (k ∷ ks) = is_waiting k && is_active ks

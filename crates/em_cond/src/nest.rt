@@ -1,7 +1,7 @@
 //! Conditionals within one another.
 ghost use Rattle.std.specs.Prelude.{◌≡◌, ◌==◌, ◌+◌, ◌∷◌, [], not, count_by, if◌then◌else◌, length, None, Some, IfErr, MatchResult, OnErr, OnOk};
 ghost use Rattle.em_cond.specs.Nests as nests;
-ghost use Rattle.em_cond.specs.Nests.{entered, after_other, after_leave, is_active, is_taken};
+ghost use Rattle.em_cond.specs.Nests.{entered, after_other, after_leave, is_active, is_taken, is_waiting, may_turn};
 
 use crate::no::CondNo;
 use em_base::Stack;
@@ -75,6 +75,15 @@ impl Branch {
     }
 }
 
+impl Conditional {
+    /// Whether a further branch can be the one that is read.
+    fn is_waiting(&self) -> bool
+        ensures { result ≡ is_waiting self.now }
+    {
+        !self.closed && self.branch == Branch::Before
+    }
+}
+
 impl Nest {
     /// No conditional is open.
     pub fn new(alloc: Global) -> Nest
@@ -137,6 +146,17 @@ impl Nest {
         };
         self.off -= top.branch.off();
         Ok(())
+    }
+
+    /// Whether a further branch of the innermost conditional, if its condition holds, would be read: no branch of it was read and no
+    /// plain `else` has come, and the conditionals round it are read. Elsewhere its condition can't matter. One step.
+    pub fn may_turn(&self) -> bool
+        ensures { result ≡ may_turn self.now }
+    {
+        match self.open.top() {
+            None => false,
+            Some(top) => top.is_waiting() && self.off == 1,
+        }
     }
 
     /// Whether lines are read: in each open conditional the present branch is the first whose condition holds, where a plain

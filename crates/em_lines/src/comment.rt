@@ -11,8 +11,8 @@ use em_base::{NoMemory, Span, Text};
 use em_refs::{Bracket, Part, Parted, parts_before};
 use std::alloc::Global;
 
-/// How many bytes of plain text stand before its comment: all of them where there is none.
-fn comment_start(plain: &[u8]) -> usize
+/// How many bytes of plain text stand before its comment: all of them where there is none. Steps for each of them.
+pub fn comment_start(plain: &[u8]) -> usize
     ensures start { result ≡ comments.comment_start plain.now }
     ensures within { result ≤ length plain.now }
 {

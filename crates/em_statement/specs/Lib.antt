@@ -1,0 +1,10 @@
+pub use Rattle.em_base.specs.Blanks
+pub use Rattle.em_lines.specs.Comments
+pub use Rattle.em_wordlist.specs.Words
+pub mod Shapes
+pub mod Split
+pub mod Assignments
+pub mod Keywords
+pub mod Conditions
+pub mod Statements
+pub mod Heads

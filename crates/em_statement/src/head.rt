@@ -1,0 +1,136 @@
+//! The expanded text in front of a rule's recipe.
+ghost use Rattle.std.specs.Prelude.{◌≡◌, IfOk};
+ghost use Rattle.std.specs.List.{position};
+ghost use Rattle.em_statement.specs.Heads as heads;
+ghost use Rattle.em_statement.specs.Heads.{head_of, head_at, is_colon, is_grouped, targets_text, normal_text, order_text};
+ghost use Rattle.em_wordlist.specs.Words.{words_of};
+
+use crate::split::{before, behind, place_of};
+use em_base::{NoMemory, Seq, Text, trim};
+use em_wordlist::texts;
+use std::alloc::Global;
+
+/// `targets : normal | order`, or `targets : form : normal | order`.
+#[derive(Debug, Drop, PartialEq, Eq)]
+pub struct Head {
+    pub targets: Seq<Text>,
+    /// What a static pattern rule's targets match.
+    pub form: Option<Text>,
+    pub normal: Seq<Text>,
+    /// The order-only prerequisites.
+    pub order: Seq<Text>,
+}
+
+/// What a rule's colon is.
+#[derive(Clone, Copy, Debug, PartialEq, Eq)]
+pub enum Colon {
+    Single,
+    /// `::`
+    Double,
+    /// `&:`
+    Grouped,
+}
+
+/// What stands in front of the first `|`.
+fn normal_text(text: &[u8]) -> &[u8]
+    ensures { result.now ≡ normal_text text.now }
+{
+    match place_of(b'|', text) {
+        Some(at) => before(at, text),
+        None => text,
+    }
+}
+
+/// What stands behind it.
+fn order_text(text: &[u8]) -> &[u8]
+    ensures { result.now ≡ order_text text.now }
+{
+    match place_of(b'|', text) {
+        Some(at) => behind(at, text),
+        None => &[],
+    }
+}
+
+/// The targets without the `&` that belongs to the colon.
+fn targets_text(text: &[u8]) -> &[u8]
+    ensures { result.now ≡ targets_text text.now }
+{
+    match text {
+        [targets @ .., b'&'] => targets,
+        _ => text,
+    }
+}
+
+/// The kind of the colon between these texts.
+pub(crate) fn colon_of(targets: &[u8], rest: &[u8]) -> Colon
+    ensures { result ≡ heads.colon_of targets.now rest.now }
+{
+    if rest.starts_with(b":") {
+        Colon::Double
+    } else if targets.ends_with(b"&") {
+        Colon::Grouped
+    } else {
+        Colon::Single
+    }
+}
+
+/// The words of a text.
+fn words(alloc: Global, text: &[u8]) -> Result<Seq<Text>, NoMemory>
+    ensures { IfOk result (λ ws. ws ≡ words_of text.now) }
+{
+    let mut words = Seq::new(alloc);
+    let slices = texts(alloc, text)?;
+    for word in &slices {
+        words.push(Text::from_slice(alloc, word)?)?;
+    }
+    Ok(words)
+}
+
+/// The head of these parts.
+fn head_by(
+    alloc: Global,
+    targets: &[u8],
+    form: Option<Text>,
+    prerequisites: &[u8],
+) -> Result<Head, NoMemory>
+    ensures { IfOk result (λ h. h ≡ heads.head targets.now form prerequisites.now) }
+{
+    Ok(Head {
+        targets: words(alloc, targets)?,
+        form,
+        normal: words(alloc, normal_text(prerequisites))?,
+        order: words(alloc, order_text(prerequisites))?,
+    })
+}
+
+/// The head of these targets and of what stands behind the colon.
+fn head_behind(alloc: Global, targets: &[u8], rest: &[u8]) -> Result<Head, NoMemory>
+    ensures { IfOk result (λ h. h ≡ heads.head_by targets.now rest.now (position is_colon rest.now)) }
+{
+    match place_of(b':', rest) {
+        None => head_by(alloc, targets, None, rest),
+        Some(at) => {
+            let form = Text::from_slice(alloc, trim(before(at, rest)))?;
+            head_by(alloc, targets, Some(form), behind(at, rest))
+        }
+    }
+}
+
+/// The head whose colon stands at a place.
+pub(crate) fn head_at(alloc: Global, text: &[u8], at: usize) -> Result<Head, NoMemory>
+    ensures { IfOk result (λ h. h ≡ head_at text.now at) }
+{
+    head_behind(alloc, targets_text(before(at, text)), behind(at, text))
+}
+
+/// The parts of a rule's head, when it is expanded; `None` exactly where no colon is in it. A second colon ends the form of a static
+/// pattern rule; the first `|` begins the order-only prerequisites. Steps for each byte, and one copy of each word.
+#[tactic(auto, unfolding(crate::specs::Heads::head_of))]
+pub fn read_head(alloc: Global, text: &[u8]) -> Result<Option<Head>, NoMemory>
+    ensures { IfOk result (λ h. h ≡ head_of text.now) }
+{
+    match place_of(b':', text) {
+        None => Ok(None),
+        Some(at) => Ok(Some(head_at(alloc, text, at)?)),
+    }
+}

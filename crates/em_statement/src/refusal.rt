@@ -1,0 +1,167 @@
+//! What is refused in a rule's head.
+ghost use Rattle.std.specs.Prelude.{◌≡◌, ◌++◌, ◌∷◌, map, option_map, IfOk};
+ghost use Rattle.em_statement.specs.Heads as heads;
+ghost use Rattle.em_statement.specs.Heads.{is_member, is_special, percent_refusal, target_refusal, prerequisite_refusal, colon_refusal, refusal_of, first_of, has_several, is_followed};
+
+use crate::head::{Colon, Head, colon_of, head_at};
+use crate::split::{before, behind, from, place_of};
+use em_base::{NoMemory, Text};
+use std::alloc::Global;
+
+/// Whether a word names a member of an archive.
+fn is_member(word: &[u8]) -> bool
+    ensures { result ≡ is_member word.now }
+{
+    word.ends_with(b")") && from(1, word).contains(&b'(')
+}
+
+/// Whether a target is one of the special ones that are refused.
+fn is_special(word: &[u8]) -> bool
+    ensures { result ≡ is_special word.now }
+{
+    match word {
+        b".DEFAULT" => true,
+        b".SECONDEXPANSION" => true,
+        b".LOW_RESOLUTION_TIME" => true,
+        b".EXPORT_ALL_VARIABLES" => true,
+        b".ONESHELL" => true,
+        b".POSIX" => true,
+        b".NOTINTERMEDIATE" => true,
+        _ => false,
+    }
+}
+
+/// The first `\%`, or where a `%` is refused the first of both.
+fn percent_refusal(several: bool, word: &[u8]) -> Option<&'static [u8]>
+    ensures { option_map (λ r. r.now) result ≡ percent_refusal several word.now }
+{
+    for (at, byte) in word.iter().enumerate() {
+        if *byte == b'\\' && word[at + 1..].starts_with(b"%") {
+            return Some(b"\\%");
+        }
+        if several && *byte == b'%' {
+            return Some(b"%");
+        }
+    }
+    None
+}
+
+/// What is refused in a target.
+fn target_refusal(several: bool, followed: bool, word: &[u8]) -> Option<&[u8]>
+    ensures { option_map (λ r. r.now) result ≡ target_refusal several followed word.now }
+{
+    if is_member(word) || is_special(word) || followed && word == b".SUFFIXES".as_slice() {
+        Some(word)
+    } else {
+        percent_refusal(several, word)
+    }
+}
+
+/// What is refused in a prerequisite.
+fn prerequisite_refusal(word: &[u8]) -> Option<&[u8]>
+    ensures { option_map (λ r. r.now) result ≡ prerequisite_refusal word.now }
+{
+    if is_member(word) || word == b".WAIT".as_slice() {
+        Some(word)
+    } else {
+        percent_refusal(false, word)
+    }
+}
+
+/// The first target that is refused.
+fn first_target_refusal(several: bool, followed: bool, targets: &[Text]) -> Option<&[u8]>
+    ensures { option_map (λ r. r.now) result ≡ first_of (map (target_refusal several followed) targets.now) }
+{
+    for target in targets {
+        let refused = target_refusal(several, followed, target.bytes());
+        if refused.is_some() {
+            return refused;
+        }
+    }
+    None
+}
+
+/// The first prerequisite that is refused.
+fn first_prerequisite_refusal(prerequisites: &[Text]) -> Option<&[u8]>
+    ensures { option_map (λ r. r.now) result ≡ first_of (map prerequisite_refusal prerequisites.now) }
+{
+    for prerequisite in prerequisites {
+        let refused = prerequisite_refusal(prerequisite.bytes());
+        if refused.is_some() {
+            return refused;
+        }
+    }
+    None
+}
+
+/// What is refused at the colon.
+fn colon_refusal(colon: Colon, assigns: bool, targets: &[Text]) -> Option<&[u8]>
+    ensures { option_map (λ r. r.now) result ≡ colon_refusal colon assigns targets.now }
+{
+    match colon {
+        Colon::Double => Some(b"::"),
+        Colon::Grouped => Some(b"&:"),
+        Colon::Single => {
+            if !assigns {
+                return None;
+            }
+            match targets.first() {
+                Some(target) => Some(target.bytes()),
+                None => Some(&[]),
+            }
+        }
+    }
+}
+
+/// Whether there are several targets that aren't of a static pattern rule.
+fn has_several(head: &Head) -> bool
+    ensures { result ≡ has_several head.now }
+{
+    head.targets.len() > 1 && head.form.is_none()
+}
+
+/// Whether there are prerequisites.
+fn is_followed(head: &Head) -> bool
+    ensures { result ≡ is_followed head.now }
+{
+    !head.normal.is_empty() || !head.order.is_empty()
+}
+
+/// The first thing that is refused in the head with this colon.
+fn head_refusal(assigns: bool, colon: Colon, head: &Head) -> Option<&[u8]>
+    ensures { option_map (λ r. r.now) result ≡ heads.head_refusal assigns colon head.now }
+{
+    let targets = head.targets.items();
+    let refused = first_target_refusal(has_several(head), is_followed(head), targets);
+    if refused.is_some() {
+        return refused;
+    }
+    let refused = colon_refusal(colon, assigns, targets);
+    if refused.is_some() {
+        return refused;
+    }
+    let refused = first_prerequisite_refusal(head.normal.items());
+    if refused.is_some() {
+        return refused;
+    }
+    first_prerequisite_refusal(head.order.items())
+}
+
+/// The name of the leftmost construct that is refused in a rule's head, when it is expanded; `None` where there is none, and where
+/// no colon is in it. `assigns` tells that an assignment stands behind the colon. Refused are `::`, `&:`, a `%` in one of several
+/// targets, a member of an archive, `\%`, an assignment (by the first target), the special targets that aren't supported, `.SUFFIXES`
+/// with prerequisites and the prerequisite `.WAIT`. Steps for each byte, and one copy of each word.
+#[tactic(auto, unfolding(crate::specs::Heads::refusal_of))]
+pub fn refused_in_head(alloc: Global, assigns: bool, text: &[u8]) -> Result<Option<Text>, NoMemory>
+    ensures { IfOk result (λ r. r ≡ refusal_of assigns text.now) }
+{
+    let Some(at) = place_of(b':', text) else {
+        return Ok(None);
+    };
+    let head = head_at(alloc, text, at)?;
+    let colon = colon_of(before(at, text), behind(at, text));
+    match head_refusal(assigns, colon, &head) {
+        None => Ok(None),
+        Some(name) => Ok(Some(Text::from_slice(alloc, name)?)),
+    }
+}
