@@ -51,8 +51,15 @@ colon_of targets rest =
 abbrev pub targets_text : List ℕ → List ℕ
 targets_text text = if is_grouped text then take (length text - 1) text else text
 
+-- what stands behind the rule's colon, which may be `::`
+abbrev pub behind_colon : List ℕ → List ℕ
+behind_colon rest = if starts_with nat_eq rest (codes ":") then drop 1 rest else rest
+
+abbrev pub head_with : List ℕ → List ℕ → Head
+head_with targets rest = head_by targets rest (position is_colon rest)
+
 abbrev pub head_at : List ℕ → ℕ → Head
-head_at text at = head_by (targets_text (take at text)) (behind at text) (position is_colon (behind at text))
+head_at text at = head_with (targets_text (take at text)) (behind_colon (behind at text))
 
 unfoldable pub head_of : List ℕ → Option Head
 head_of text = option_map (head_at text) (position is_colon text)
@@ -82,18 +89,24 @@ percent_refusal several (b ∷ bs) =
     else if several && (b == 37) then Some (codes "%")
     else percent_refusal several bs
 
+-- a name as it is known, without leading `./`
+abbrev pub plain : List ℕ → List ℕ
+plain [] = []
+plain (a ∷ []) = a ∷ []
+plain (a ∷ b ∷ rest) = if (a == 46) && (b == 47) then plain rest else a ∷ b ∷ rest
+
 -- a target: several of them may hold no `%`, and `.SUFFIXES` has no prerequisites
 abbrev pub target_refusal : Bool → Bool → List ℕ → Option (List ℕ)
 target_refusal several followed word =
     if is_member word then Some word
-    else if is_special word then Some word
-    else if followed && bytes_eq word (codes ".SUFFIXES") then Some word
+    else if is_special (plain word) then Some (plain word)
+    else if followed && bytes_eq (plain word) (codes ".SUFFIXES") then Some (plain word)
     else percent_refusal several word
 
 abbrev pub prerequisite_refusal : List ℕ → Option (List ℕ)
 prerequisite_refusal word =
     if is_member word then Some word
-    else if bytes_eq word (codes ".WAIT") then Some word
+    else if bytes_eq (plain word) (codes ".WAIT") then Some (plain word)
     else percent_refusal false word
 
 -- the first that there is

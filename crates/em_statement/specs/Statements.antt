@@ -50,10 +50,10 @@ conditional_by k text = option_map_or (λ c. Some (statement.If c)) (condition_b
 abbrev pub modifiers : Bool → Bool → Modifiers
 modifiers overriding exported = record { overriding = overriding; exported = exported }
 
--- `override` and `export`, in either order
 abbrev pub none : Modifiers
 none = modifiers false false
 
+-- `override` and `export` in either order, once each
 abbrev pub behind_override : Option Keyword → List ℕ → Modifiers × List ℕ
 behind_override (Some keyword.Export) text = (modifiers true true, after_word text)
 behind_override _ text = (modifiers true false, text)
@@ -81,24 +81,21 @@ defined_by m text (Some a) = if is_empty a.value then statement.Define a else st
 abbrev pub define_line : Modifiers → List ℕ → Statement
 define_line m text = defined_by m text (assignment_of m text)
 
--- `export` without a name is refused by that word; `override` without an assignment is no statement
-abbrev pub unassigned : Modifiers → List ℕ → Statement
-unassigned m text =
-    if not m.exported then statement.Stray
-    else if is_empty text then statement.Unsupported (codes "export")
-    else statement.Export text
-
-abbrev pub modified_line : Modifiers → List ℕ → Statement
-modified_line m text = option_map_or statement.Assign (assignment_of m text) (unassigned m text)
+abbrev pub assignment_line : Modifiers → List ℕ → Option Statement
+assignment_line m text = option_map statement.Assign (assignment_of m text)
 
 abbrev pub undefine : Modifiers → List ℕ → Statement
 undefine m text = statement.Undefine (record { overriding = m.overriding; name = trimmed text })
 
--- what modifiers are put before
+-- what modifiers are put before; elsewhere they are no modifiers
 abbrev pub with_modifiers : Option Keyword → Modifiers → List ℕ → Option Statement
 with_modifiers (Some keyword.Define) m text = Some (define_line m (after_word text))
 with_modifiers (Some keyword.Undefine) m text = Some (undefine m (after_word text))
-with_modifiers _ m text = if m.overriding || m.exported then Some (modified_line m text) else None
+with_modifiers _ m text = if m.overriding || m.exported then assignment_line m text else None
+
+-- `export` and `unexport` without a name are refused by that word
+abbrev pub export_line : List ℕ → Statement
+export_line text = if is_empty text then statement.Unsupported (codes "export") else statement.Export text
 
 abbrev pub unexport_line : List ℕ → Statement
 unexport_line text = if is_empty text then statement.Unsupported (codes "unexport") else statement.Unexport text
@@ -109,7 +106,9 @@ include required text = statement.Include (record { required = required; names =
 abbrev pub other_directive : Option Keyword → List ℕ → Option Statement
 other_directive (Some keyword.Include) text = Some (include true (after_word text))
 other_directive (Some keyword.TryInclude) text = Some (include false (after_word text))
+other_directive (Some keyword.Export) text = Some (export_line (after_word text))
 other_directive (Some keyword.Unexport) text = Some (unexport_line (after_word text))
+other_directive (Some keyword.Override) text = Some statement.Stray
 other_directive (Some keyword.Endef) text = Some statement.Stray
 other_directive (Some keyword.Refused) text = Some (statement.Unsupported (first_word text))
 other_directive _ text = None
@@ -152,10 +151,7 @@ rule_line line = recipe_at line (recipe_start (shape line))
 abbrev pub by_first_word : List ℕ → Option Statement
 by_first_word text = or_else (conditional_by (keyword_in text) (after_word text)) (directive_of text)
 
-abbrev pub assignment_line : List ℕ → Option Statement
-assignment_line text = option_map statement.Assign (assignment_of none text)
-
 unfoldable pub statement_of : List ℕ → Statement
 statement_of line =
     if is_empty (bare line) then statement.Blank
-    else unwrap_or (or_else (by_first_word (bare line)) (assignment_line (bare line))) (statement.Rule (rule_line line))
+    else unwrap_or (or_else (by_first_word (bare line)) (assignment_line none (bare line))) (statement.Rule (rule_line line))

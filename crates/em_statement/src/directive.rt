@@ -134,26 +134,17 @@ fn define_line(alloc: Global, modifiers: Modifiers, text: &[u8]) -> Result<State
     }
 }
 
-/// What stands behind modifiers and is no assignment.
-fn unassigned(alloc: Global, modifiers: Modifiers, text: &[u8]) -> Result<Statement, NoMemory>
-    ensures { IfOk result (λ s. s ≡ statements.unassigned modifiers text.now) }
-{
-    if !modifiers.exported {
-        Ok(Statement::Stray)
-    } else if is_empty(text) {
-        Ok(Statement::Unsupported(Text::from_slice(alloc, b"export")?))
-    } else {
-        Ok(Statement::Export(Text::from_slice(alloc, text)?))
-    }
-}
-
-/// What stands behind modifiers.
-fn modified_line(alloc: Global, modifiers: Modifiers, text: &[u8]) -> Result<Statement, NoMemory>
-    ensures { IfOk result (λ s. s ≡ statements.modified_line modifiers text.now) }
+/// The assignment that the text is, without the words in front of it.
+pub(crate) fn assignment_line(
+    alloc: Global,
+    modifiers: Modifiers,
+    text: &[u8],
+) -> Result<Option<Statement>, NoMemory>
+    ensures { IfOk result (λ s. s ≡ statements.assignment_line modifiers text.now) }
 {
     match read_assignment(alloc, modifiers, text)? {
-        Some(assignment) => Ok(Statement::Assign(assignment)),
-        None => unassigned(alloc, modifiers, text),
+        Some(assignment) => Ok(Some(Statement::Assign(assignment))),
+        None => Ok(None),
     }
 }
 
@@ -166,7 +157,7 @@ fn undefine(alloc: Global, modifiers: Modifiers, text: &[u8]) -> Result<Statemen
     Ok(Statement::Undefine(Undefine { overriding, name }))
 }
 
-/// The directives that may have modifiers.
+/// What modifiers are put before: `define`, `undefine` and, where there are modifiers, an assignment.
 #[tactic(auto, unfolding(crate::specs::Statements::directive_behind))]
 fn with_modifiers(
     alloc: Global,
@@ -175,17 +166,17 @@ fn with_modifiers(
 ) -> Result<Option<Statement>, NoMemory>
     ensures { IfOk result (λ s. s ≡ directive_behind modifiers text.now) }
 {
-    Ok(match keyword_in(text) {
-        Some(Keyword::Define) => Some(define_line(alloc, modifiers, after_word(text))?),
-        Some(Keyword::Undefine) => Some(undefine(alloc, modifiers, after_word(text))?),
+    match keyword_in(text) {
+        Some(Keyword::Define) => Ok(Some(define_line(alloc, modifiers, after_word(text))?)),
+        Some(Keyword::Undefine) => Ok(Some(undefine(alloc, modifiers, after_word(text))?)),
         _ => {
             if modifiers.overriding || modifiers.exported {
-                Some(modified_line(alloc, modifiers, text)?)
+                assignment_line(alloc, modifiers, text)
             } else {
-                None
+                Ok(None)
             }
         }
-    })
+    }
 }
 
 /// `include` and its kin.
@@ -196,7 +187,18 @@ fn include(alloc: Global, required: bool, text: &[u8]) -> Result<Statement, NoMe
     Ok(Statement::Include(Include { required, names }))
 }
 
-/// `unexport`, with what stands behind it.
+/// `export` and names.
+fn export_line(alloc: Global, text: &[u8]) -> Result<Statement, NoMemory>
+    ensures { IfOk result (λ s. s ≡ statements.export_line text.now) }
+{
+    if is_empty(text) {
+        Ok(Statement::Unsupported(Text::from_slice(alloc, b"export")?))
+    } else {
+        Ok(Statement::Export(Text::from_slice(alloc, text)?))
+    }
+}
+
+/// `unexport` and names.
 fn unexport_line(alloc: Global, text: &[u8]) -> Result<Statement, NoMemory>
     ensures { IfOk result (λ s. s ≡ statements.unexport_line text.now) }
 {
@@ -207,7 +209,7 @@ fn unexport_line(alloc: Global, text: &[u8]) -> Result<Statement, NoMemory>
     }
 }
 
-/// The directives that have no modifiers.
+/// The other directives, which have no modifiers.
 fn other_directive(alloc: Global, text: &[u8]) -> Result<Option<Statement>, NoMemory>
     ensures { IfOk result (λ s. s ≡ statements.other_directive (keyword_in text.now) text.now) }
 {
@@ -215,7 +217,9 @@ fn other_directive(alloc: Global, text: &[u8]) -> Result<Option<Statement>, NoMe
     Ok(match keyword_in(text) {
         Some(Keyword::Include) => Some(include(alloc, true, rest)?),
         Some(Keyword::TryInclude) => Some(include(alloc, false, rest)?),
+        Some(Keyword::Export) => Some(export_line(alloc, rest)?),
         Some(Keyword::Unexport) => Some(unexport_line(alloc, rest)?),
+        Some(Keyword::Override) => Some(Statement::Stray),
         Some(Keyword::Endef) => Some(Statement::Stray),
         Some(Keyword::Refused) => {
             let word = Text::from_slice(alloc, first_word(text))?;

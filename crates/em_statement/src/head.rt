@@ -1,5 +1,5 @@
 //! The expanded text in front of a rule's recipe.
-ghost use Rattle.std.specs.Prelude.{◌≡◌, IfOk};
+ghost use Rattle.std.specs.Prelude.{◌≡◌, IfOk, IsErr, IsSome};
 ghost use Rattle.std.specs.List.{position};
 ghost use Rattle.em_statement.specs.Heads as heads;
 ghost use Rattle.em_statement.specs.Heads.{head_of, head_at, is_colon, is_grouped, targets_text, normal_text, order_text};
@@ -103,9 +103,19 @@ fn head_by(
     })
 }
 
+/// What stands behind the rule's colon, which may be `::`.
+fn behind_colon(rest: &[u8]) -> &[u8]
+    ensures { result.now ≡ heads.behind_colon rest.now }
+{
+    match rest {
+        [b':', rest @ ..] => rest,
+        _ => rest,
+    }
+}
+
 /// The head of these targets and of what stands behind the colon.
-fn head_behind(alloc: Global, targets: &[u8], rest: &[u8]) -> Result<Head, NoMemory>
-    ensures { IfOk result (λ h. h ≡ heads.head_by targets.now rest.now (position is_colon rest.now)) }
+fn head_with(alloc: Global, targets: &[u8], rest: &[u8]) -> Result<Head, NoMemory>
+    ensures { IfOk result (λ h. h ≡ heads.head_with targets.now rest.now) }
 {
     match place_of(b':', rest) {
         None => head_by(alloc, targets, None, rest),
@@ -120,14 +130,16 @@ fn head_behind(alloc: Global, targets: &[u8], rest: &[u8]) -> Result<Head, NoMem
 pub(crate) fn head_at(alloc: Global, text: &[u8], at: usize) -> Result<Head, NoMemory>
     ensures { IfOk result (λ h. h ≡ head_at text.now at) }
 {
-    head_behind(alloc, targets_text(before(at, text)), behind(at, text))
+    let rest = behind_colon(behind(at, text));
+    head_with(alloc, targets_text(before(at, text)), rest)
 }
 
-/// The parts of a rule's head, when it is expanded; `None` exactly where no colon is in it. A second colon ends the form of a static
+/// The parts of a rule's head, when it is expanded; `None` exactly where no colon is in it, also where memory is short. A second colon ends the form of a static
 /// pattern rule; the first `|` begins the order-only prerequisites. Steps for each byte, and one copy of each word.
 #[tactic(auto, unfolding(crate::specs::Heads::head_of))]
 pub fn read_head(alloc: Global, text: &[u8]) -> Result<Option<Head>, NoMemory>
-    ensures { IfOk result (λ h. h ≡ head_of text.now) }
+    ensures value { IfOk result (λ h. h ≡ head_of text.now) }
+    ensures memory { IsErr result → IsSome (position is_colon text.now) }
 {
     match place_of(b':', text) {
         None => Ok(None),

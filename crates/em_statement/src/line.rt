@@ -4,8 +4,8 @@ ghost use Rattle.em_statement.specs.Statements as statements;
 ghost use Rattle.em_lines.specs.Comments as comments;
 ghost use Rattle.em_statement.specs.Statements.{statement_of, rule_of, recipe_start};
 
-use crate::assignment::{read_assignment, sign_of};
-use crate::directive::{conditional, directive, keyword_in, modifiers};
+use crate::assignment::sign_of;
+use crate::directive::{assignment_line, conditional, directive, keyword_in, modifiers};
 use crate::shape::shape;
 use crate::split::{after_word, before, behind, is_empty, place_of};
 use crate::statement::{RuleLine, Statement};
@@ -80,16 +80,6 @@ fn by_first_word(alloc: Global, text: &[u8]) -> Result<Option<Statement>, NoMemo
     }
 }
 
-/// The assignment that the text without its comment is.
-fn assignment_line(alloc: Global, text: &[u8]) -> Result<Option<Statement>, NoMemory>
-    ensures { IfOk result (λ s. s ≡ statements.assignment_line text.now) }
-{
-    match read_assignment(alloc, modifiers(false, false), text)? {
-        Some(assignment) => Ok(Some(Statement::Assign(assignment))),
-        None => Ok(None),
-    }
-}
-
 /// What a logical line is that stands outside recipes, with its comment. The tests come in this order: nothing but blanks, a
 /// conditional, a directive by its first word, an assignment, a rule. Nothing is expanded. Steps for each byte; a byte of the line is
 /// copied at most six times.
@@ -104,7 +94,7 @@ pub fn read_statement(alloc: Global, line: &[u8]) -> Result<Statement, NoMemory>
     if let Some(statement) = by_first_word(alloc, text.bytes())? {
         return Ok(statement);
     }
-    if let Some(statement) = assignment_line(alloc, text.bytes())? {
+    if let Some(statement) = assignment_line(alloc, modifiers(false, false), text.bytes())? {
         return Ok(statement);
     }
     Ok(Statement::Rule(rule_line(alloc, line)?))

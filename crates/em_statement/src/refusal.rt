@@ -1,7 +1,8 @@
 //! What is refused in a rule's head.
-ghost use Rattle.std.specs.Prelude.{◌≡◌, ◌++◌, ◌∷◌, map, option_map, IfOk};
+ghost use Rattle.std.specs.Prelude.{◌≡◌, ◌++◌, ◌∷◌, map, option_map, IfOk, IsErr, IsSome};
+ghost use Rattle.std.specs.List.{position};
 ghost use Rattle.em_statement.specs.Heads as heads;
-ghost use Rattle.em_statement.specs.Heads.{is_member, is_special, percent_refusal, target_refusal, prerequisite_refusal, colon_refusal, refusal_of, first_of, has_several, is_followed};
+ghost use Rattle.em_statement.specs.Heads.{is_member, is_special, plain, percent_refusal, target_refusal, prerequisite_refusal, colon_refusal, is_colon, refusal_of, first_of, has_several, is_followed};
 
 use crate::head::{Colon, Head, colon_of, head_at};
 use crate::split::{before, behind, from, place_of};
@@ -46,12 +47,26 @@ fn percent_refusal(several: bool, word: &[u8]) -> Option<&'static [u8]>
     None
 }
 
+/// A name as it is known, without leading `./`.
+fn plain(word: &[u8]) -> &[u8]
+    ensures { result.now ≡ plain word.now }
+{
+    let mut rest = word;
+    while let [b'.', b'/', behind @ ..] = rest {
+        rest = behind;
+    }
+    rest
+}
+
 /// What is refused in a target.
 fn target_refusal(several: bool, followed: bool, word: &[u8]) -> Option<&[u8]>
     ensures { option_map (λ r. r.now) result ≡ target_refusal several followed word.now }
 {
-    if is_member(word) || is_special(word) || followed && word == b".SUFFIXES".as_slice() {
+    let name = plain(word);
+    if is_member(word) {
         Some(word)
+    } else if is_special(name) || followed && name == b".SUFFIXES".as_slice() {
+        Some(name)
     } else {
         percent_refusal(several, word)
     }
@@ -61,8 +76,11 @@ fn target_refusal(several: bool, followed: bool, word: &[u8]) -> Option<&[u8]>
 fn prerequisite_refusal(word: &[u8]) -> Option<&[u8]>
     ensures { option_map (λ r. r.now) result ≡ prerequisite_refusal word.now }
 {
-    if is_member(word) || word == b".WAIT".as_slice() {
+    let name = plain(word);
+    if is_member(word) {
         Some(word)
+    } else if name == b".WAIT".as_slice() {
+        Some(name)
     } else {
         percent_refusal(false, word)
     }
@@ -153,7 +171,8 @@ fn head_refusal(assigns: bool, colon: Colon, head: &Head) -> Option<&[u8]>
 /// with prerequisites and the prerequisite `.WAIT`. Steps for each byte, and one copy of each word.
 #[tactic(auto, unfolding(crate::specs::Heads::refusal_of))]
 pub fn refused_in_head(alloc: Global, assigns: bool, text: &[u8]) -> Result<Option<Text>, NoMemory>
-    ensures { IfOk result (λ r. r ≡ refusal_of assigns text.now) }
+    ensures value { IfOk result (λ r. r ≡ refusal_of assigns text.now) }
+    ensures memory { IsErr result → IsSome (position is_colon text.now) }
 {
     let Some(at) = place_of(b':', text) else {
         return Ok(None);
