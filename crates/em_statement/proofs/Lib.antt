@@ -1,0 +1,2 @@
+mod Blotted
+mod Blank

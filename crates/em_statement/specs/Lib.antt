@@ -8,3 +8,4 @@ pub mod Keywords
 pub mod Conditions
 pub mod Statements
 pub mod Heads
+pub mod Written

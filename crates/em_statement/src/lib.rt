@@ -6,6 +6,7 @@ mod condition;
 mod directive;
 mod head;
 mod keyword;
+pub mod laws;
 mod line;
 mod refusal;
 mod shape;

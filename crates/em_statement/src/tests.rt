@@ -1,5 +1,6 @@
 use super::*;
-use em_base::Text;
+use em_base::{NoMemory, Text};
+use std::alloc::Global;
 use std::test::Fail;
 
 /// A condition, with slices in place of texts.
@@ -247,50 +248,51 @@ fn a_rule_has_a_head_and_a_recipe(rt: HostRuntime) -> Result<(), Fail> {
     Ok(())
 }
 
-fn holds(words: &[Text], wanted: &[&[u8]]) -> bool {
-    words.len() == wanted.len() && words.iter().zip(wanted).all(|(a, b)| a.bytes() == *b)
+/// The words with a comma behind each.
+fn listed(alloc: Global, words: &[Text]) -> Result<Text, NoMemory> {
+    let mut list = Text::new(alloc);
+    for word in words {
+        list.add(word.bytes())?;
+        list.add(b",")?;
+    }
+    Ok(list)
 }
 
 /// Expanded heads with targets, form, prerequisites and order-only ones.
 #[test]
 fn a_head_has_parts(rt: HostRuntime) -> Result<(), Fail> {
-    let none: &[&[u8]] = &[];
+    let none: Option<&[u8]> = None;
     for (text, targets, form, normal, order) in [
         (
             b"a: b c".as_slice(),
-            [b"a".as_slice()].as_slice(),
-            None,
-            [b"b".as_slice(), b"c"].as_slice(),
+            b"a,".as_slice(),
             none,
+            b"b,c,".as_slice(),
+            b"".as_slice(),
         ),
-        (b" a  b :", &[b"a", b"b"], None, none, none),
-        (b"a:b|c d", &[b"a"], None, &[b"b"], &[b"c", b"d"]),
-        (b"a: | c | d", &[b"a"], None, none, &[b"c", b"|", b"d"]),
-        (b"a&: b", &[b"a"], None, &[b"b"], none),
-        (b"a & : b", &[b"a", b"&"], None, &[b"b"], none),
+        (b" a  b :", b"a,b,", none, b"", b""),
+        (b"a:b|c d", b"a,", none, b"b,", b"c,d,"),
+        (b"a: | c | d", b"a,", none, b"", b"c,|,d,"),
+        (b"a&: b", b"a,", none, b"b,", b""),
+        (b"a & : b", b"a,&,", none, b"b,", b""),
         (
             b"a.o: %.o : %.c | d",
-            &[b"a.o"],
+            b"a.o,",
             Some(b"%.o".as_slice()),
-            &[b"%.c"],
-            &[b"d"],
+            b"%.c,",
+            b"d,",
         ),
-        (b"a: : b", &[b"a"], Some(b""), &[b"b"], none),
-        (
-            b"a: b c : d: e",
-            &[b"a"],
-            Some(b"b c"),
-            &[b"d:", b"e"],
-            none,
-        ),
-        (b"a:: b", &[b"a"], None, &[b"b"], none),
-        (b": b", none, None, &[b"b"], none),
+        (b"a: : b", b"a,", Some(b""), b"b,", b""),
+        (b"a: b c : d: e", b"a,", Some(b"b c"), b"d:,e,", b""),
+        (b"a:: b", b"a,", none, b"b,", b""),
+        (b": b", b"", none, b"b,", b""),
     ] {
         let Some(head) = read_head(rt.alloc(), text)? else {
             return Err(Fail::from("no head"));
         };
-        assert!(rt; holds(head.targets.items(), targets) && holds(head.normal.items(), normal));
-        assert!(rt; holds(head.order.items(), order));
+        assert!(rt; listed(rt.alloc(), head.targets.items())?.bytes() == targets);
+        assert!(rt; listed(rt.alloc(), head.normal.items())?.bytes() == normal);
+        assert!(rt; listed(rt.alloc(), head.order.items())?.bytes() == order);
         assert!(rt; head.form.as_ref().map(|form| form.bytes()) == form);
     }
     assert!(rt; read_head(rt.alloc(), b"a b")?.is_none());
