@@ -1,6 +1,6 @@
 -- A line of blanks and a comment.
-use Rattle.std.proofs.Common.{◌≡◌, ◌⊎◌, inl, inr, ℕ, zero, suc, ◌+◌, ◌<◌, ◌&&◌, ◌||◌, not, Bool, true, false, cond, eqb, ltb, List, [], ◌∷◌, ◌++◌, length, take, drop, Option, Some, None, refl, sym, subst, ap, ◌∙◌, append_assoc, arith}
-use Rattle.std.specs.Prelude.{All, IfSome, slice_get, nat_lt}
+use Rattle.std.proofs.Common.{◌≡◌, ◌⊎◌, inl, inr, ℕ, zero, suc, ◌+◌, true, false, cond, eqb, ltb, List, [], ◌∷◌, ◌++◌, length, take, drop, Option, Some, None, refl, sym, subst, ap, ◌∙◌, append_assoc, arith}
+use Rattle.std.specs.Prelude.{All, IfSome, slice_get}
 use Rattle.std.specs.List.{AllByRecursion, flat_map, prefix_len}
 use Rattle.std.proofs.lemmas.List.Elements.{recursion_from_All}
 use Rattle.std.proofs.lemmas.Bool.{ne_eqb, lt-ltb}
@@ -11,10 +11,10 @@ use Rattle.em_base.proofs.Lemmas.{by_cases}
 use Rattle.em_refs.specs.declared.part.Bracket.{Bracket}
 use Rattle.em_refs.specs.declared.part.Part.{Part}
 use Rattle.em_refs.specs.declared.part.Part.TheVariants.{Literal, Dollar, Ref}
-use Rattle.em_refs.specs.Parts.{parted, bracketed, bracket_before, opening_of, closing_of, source, left}
+use Rattle.em_refs.specs.Parts.{parted, bracketed, bracket_before, source, left}
 use Rattle.em_refs.specs.Nesting.{IsUnclosed}
 use Rattle.em_refs.proofs.Whole.{told_law}
-use Rattle.em_lines.specs.Comments.{comment_behind, comment_start, begins_with_hash, unescaped, plain_then, bare_parts, bare}
+use Rattle.em_lines.specs.Comments.{comment_start, unescaped, plain_then, bare_parts, bare}
 use Rattle.em_lines.specs.Kept.{IsComment}
 use Rattle.em_statement.specs.declared.statement.Statement.TheVariants.{Blank}
 use Rattle.em_statement.specs.Split.{is_empty}

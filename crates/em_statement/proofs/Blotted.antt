@@ -1,21 +1,19 @@
 -- The shape of a text is the text with some bytes blotted out.
-use Rattle.std.proofs.Common.{◌≡◌, ◌≢◌, ◌⊎◌, inl, inr, ℕ, zero, suc, ◌+◌, ◌<◌, ◌&&◌, Bool, true, false, cond, eqb, List, [], ◌∷◌, ◌++◌, length, take, drop, map, Option, Some, None, refl, sym, subst, ap, ◌∙◌, arith}
+use Rattle.std.proofs.Common.{◌≡◌, ◌≢◌, ◌⊎◌, inl, inr, ℕ, zero, suc, ◌&&◌, Bool, true, false, List, [], ◌∷◌, ◌++◌, length, drop, Option, Some, None, refl, sym, subst, ap, ◌∙◌, arith}
 use Rattle.std.specs.Prelude.{All, nat_eq, codes, option_and_then, option_map}
 use Rattle.std.specs.List.{AllByRecursion, flat_map, position, starts_with}
 use Rattle.std.proofs.lemmas.Bool.{ne_eqb}
 use Rattle.std.proofs.lemmas.List.Elements.{recursion_from_All}
 use Rattle.em_base.specs.Spans.{cut}
-use Rattle.em_base.proofs.Lemmas.{by_cases}
 use Rattle.em_refs.specs.declared.part.Bracket.{Bracket}
 use Rattle.em_refs.specs.declared.part.Part.{Part}
 use Rattle.em_refs.specs.declared.part.Part.TheVariants.{Literal, Dollar, Ref}
 use Rattle.em_refs.specs.Parts.{parted, bracketed, bracket_before, closing_of, source, left}
 use Rattle.em_refs.proofs.Whole.{told_law}
 use Rattle.em_statement.specs.declared.assignment.Modifiers.{Modifiers}
-use Rattle.em_statement.specs.declared.assignment.Sign.{Sign}
 use Rattle.em_statement.specs.Shapes.{blotted, blotted_reference, part_shape, shape}
 use Rattle.em_statement.specs.Written.{IsBlotted}
-use Rattle.em_statement.specs.Assignments.{is_mark, at_mark, at_colon, sign_of, assignment_at, assignment_of}
+use Rattle.em_statement.specs.Assignments.{is_mark, at_mark, assignment_at, assignment_of}
 
 kept : (text : List ℕ) → IsBlotted text text
 kept [] = tt

@@ -1,2 +1,3 @@
 mod Blotted
 mod Blank
+mod Assigned

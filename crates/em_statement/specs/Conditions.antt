@@ -2,7 +2,7 @@
 --     sides_of text            the two texts of `(A,B)`, or of `"A" "B"` in quotes of either kind
 --     condition_by k text      the condition that the text behind this keyword is, if that begins one
 -- A comma and a closing bracket are looked for outside references and outside brackets within the text.
-use Rattle.std.specs.Prelude.{ℕ, zero, suc, ◌+◌, ◌==◌, ◌||◌, Bool, true, false, List, [], ◌∷◌, take, drop, Option, Some, None, option_map, option_and_then, if◌then◌else◌}
+use Rattle.std.specs.Prelude.{ℕ, zero, suc, ◌==◌, ◌||◌, Bool, true, false, List, [], ◌∷◌, take, Option, Some, None, option_map, option_and_then, if◌then◌else◌}
 use Rattle.std.specs.List.{position}
 use Rattle.em_base.specs.Blanks.{trimmed_start, trimmed_end}
 use Rattle.em_statement.specs.declared.condition.Sides.{Sides}

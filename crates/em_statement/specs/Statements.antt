@@ -1,18 +1,16 @@
 -- What a logical line of a makefile is. The tests come in this order: an empty line, a conditional, a directive by its first word,
 -- an assignment, a rule.
 --     statement_of line      the statement; the line is joined, stands outside recipes and has its comment
-use Rattle.std.specs.Prelude.{ℕ, ◌==◌, ◌||◌, nat_lt, not, Bool, true, false, List, [], ◌∷◌, take, drop, length, Option, Some, None, is_some, option_map, option_and_then, unwrap_or, codes, if◌then◌else◌}
+use Rattle.std.specs.Prelude.{ℕ, ◌==◌, ◌||◌, nat_lt, Bool, true, false, List, [], take, Option, Some, None, is_some, option_map, option_and_then, unwrap_or, codes, if◌then◌else◌}
 use Rattle.std.specs.List.{position}
 use Rattle.std.specs.Option.{option_map_or}
-use Rattle.em_base.specs.Blanks.{trimmed, trimmed_end}
+use Rattle.em_base.specs.Blanks.{trimmed}
 use Rattle.em_lines.specs.Comments.{bare, comment_start}
 use Rattle.em_statement.specs.declared.assignment.Assignment.{Assignment}
 use Rattle.em_statement.specs.declared.assignment.Modifiers.{Modifiers}
 use Rattle.em_statement.specs.declared.assignment.Operator.TheVariants.{Recursive}
 use Rattle.em_statement.specs.declared.statement.Statement.{Statement}
 use Rattle.em_statement.specs.declared.statement.Statement.TheVariants as statement
-use Rattle.em_statement.specs.declared.statement.Include.{Include}
-use Rattle.em_statement.specs.declared.statement.Undefine.{Undefine}
 use Rattle.em_statement.specs.declared.keyword.Keyword.{Keyword}
 use Rattle.em_statement.specs.declared.keyword.Keyword.TheVariants as keyword
 use Rattle.em_statement.specs.declared.statement.RuleLine.{RuleLine}

@@ -1,13 +1,16 @@
 //! Laws of the definitions: each function's contract is the law, and its body is empty.
-ghost use Rattle.std.specs.Prelude.{◌≡◌, ◌≢◌, ◌++◌, ◌==◌, true, ℕ, List, None, All, length};
+ghost use Rattle.std.specs.Prelude.{◌≡◌, ◌≢◌, ◌++◌, ◌==◌, true, ℕ, List, None, Some, All, length};
 ghost use Rattle.em_base.specs.Blanks.{is_blank};
 ghost use Rattle.em_lines.specs.Kept.{IsComment};
+ghost use Rattle.em_statement.specs.declared.assignment.Assignment.{Assignment};
 ghost use Rattle.em_statement.specs.declared.assignment.Modifiers.{Modifiers};
 ghost use Rattle.em_statement.specs.declared.statement.Statement.TheVariants.{Blank};
 ghost use Rattle.em_statement.specs.Shapes.{shape};
-ghost use Rattle.em_statement.specs.Written.{IsBlotted};
+ghost use Rattle.em_statement.specs.Written.{IsBlotted, IsWritten};
 ghost use Rattle.em_statement.specs.Assignments.{assignment_of};
 ghost use Rattle.em_statement.specs.Statements.{statement_of};
+
+use em_base::laws::law_trimmed;
 
 /// The shape of a text is as long as the text, and has its bytes or an `x` for them: what stands in the shape and is no `x` stands
 /// at the same place of the text.
@@ -21,6 +24,15 @@ pub fn law_blank()
     ensures { (blanks comment : List ℕ) → All (λ b. is_blank b ≡ true) blanks → IsComment comment
         → statement_of (blanks ++ comment) ≡ Blank }
 {}
+
+/// An assignment's text is its name, its operator as it may be written, and its value, in this order, with blanks round the name and
+/// behind the operator.
+pub fn law_assignment()
+    ensures { (modifiers : Modifiers) (text : List ℕ) (assignment : Assignment)
+        → assignment_of modifiers text ≡ Some assignment → IsWritten text assignment }
+{
+    law_trimmed();
+}
 
 /// A text without `=` is no assignment.
 pub fn law_operator()
