@@ -1,7 +1,7 @@
 -- The expanded text in front of a rule's recipe.
 --     head_of text              `targets : normal | order-only`, or `targets : form : normal | order-only`; none without a colon
 --     refusal_of assigns text   the leftmost construct in it that is refused, by its name
-use Rattle.std.specs.Prelude.{ℕ, ◌-◌, ◌==◌, ◌&&◌, ◌||◌, nat_eq, nat_lt, not, Bool, true, false, List, [], ◌∷◌, map, take, drop, length, Option, Some, None, is_some, option_map, option_and_then, codes, if◌then◌else◌}
+use Rattle.std.specs.Prelude.{ℕ, ◌-◌, ◌==◌, ◌&&◌, ◌||◌, nat_eq, nat_lt, not, Bool, true, false, List, [], ◌∷◌, map, take, drop, length, Option, Some, None, is_some, option_map, option_and_then, slice_get, codes, if◌then◌else◌}
 use Rattle.std.specs.List.{position, list_any, starts_with, ends_with}
 use Rattle.std.specs.Option.{option_map_or, option_or}
 use Rattle.std.specs.Str.{bytes_eq}
@@ -115,15 +115,11 @@ first_of [] = None
 first_of (None ∷ rs) = first_of rs
 first_of (Some r ∷ rs) = Some r
 
-abbrev pub first_target : List (List ℕ) → List ℕ
-first_target [] = []
-first_target (t ∷ ts) = t
-
--- at the colon: its kind, and an assignment behind it, by the name of the first target
+-- at the colon: its kind, and an assignment behind it, by the first target, if there is one
 abbrev pub colon_refusal : Colon → Bool → List (List ℕ) → Option (List ℕ)
 colon_refusal Double assigns targets = Some (codes "::")
 colon_refusal Grouped assigns targets = Some (codes "&:")
-colon_refusal Single assigns targets = if assigns then Some (first_target targets) else None
+colon_refusal Single assigns targets = if assigns then slice_get targets 0 else None
 
 abbrev pub has_several : Head → Bool
 has_several h = nat_lt 1 (length h.targets) && not (is_some h.form)

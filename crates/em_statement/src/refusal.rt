@@ -123,10 +123,8 @@ fn colon_refusal(colon: Colon, assigns: bool, targets: &[Text]) -> Option<&[u8]>
             if !assigns {
                 return None;
             }
-            match targets.first() {
-                Some(target) => Some(target.bytes()),
-                None => Some(&[]),
-            }
+            let target = targets.first()?;
+            Some(target.bytes())
         }
     }
 }

@@ -321,6 +321,7 @@ fn the_leftmost_construct_is_refused(rt: HostRuntime) -> Result<(), Fail> {
         (false, b"a: b\\%c", Some(b"\\%")),
         (true, b"a b: X = 1", Some(b"a")),
         (true, b"a b: l(m)", Some(b"a")),
+        (true, b": X = 1", none),
         (true, b"a&: l(m)", Some(b"&:")),
         (false, b".SUFFIXES:", none),
         (false, b".SUFFIXES: | .c", Some(b".SUFFIXES")),
