@@ -1,12 +1,11 @@
 //! Laws of the definitions: each function's contract is the law, and its body is empty.
-ghost use Rattle.std.specs.Prelude.{◌≡◌, ◌≢◌, ◌++◌, ◌==◌, true, ℕ, List, None, Some, All, length};
-ghost use Rattle.em_base.specs.Blanks.{is_blank};
+ghost use Rattle.std.specs.Prelude.{◌≡◌, ◌≢◌, ◌++◌, ℕ, List, None, Some, All, length};
 ghost use Rattle.em_lines.specs.Kept.{IsComment};
 ghost use Rattle.em_statement.specs.declared.assignment.Assignment.{Assignment};
 ghost use Rattle.em_statement.specs.declared.assignment.Modifiers.{Modifiers};
 ghost use Rattle.em_statement.specs.declared.statement.Statement.TheVariants.{Blank};
 ghost use Rattle.em_statement.specs.Shapes.{shape};
-ghost use Rattle.em_statement.specs.Written.{IsBlotted, IsWritten};
+ghost use Rattle.em_statement.specs.Written.{AllBlank, IsBlotted, IsWritten};
 ghost use Rattle.em_statement.specs.Assignments.{assignment_of};
 ghost use Rattle.em_statement.specs.Statements.{statement_of};
 
@@ -21,7 +20,7 @@ pub fn law_shape()
 
 /// A line of nothing but blanks and a comment is blank.
 pub fn law_blank()
-    ensures { (blanks comment : List ℕ) → All (λ b. is_blank b ≡ true) blanks → IsComment comment
+    ensures { (blanks comment : List ℕ) → AllBlank blanks → IsComment comment
         → statement_of (blanks ++ comment) ≡ Blank }
 {}
 
@@ -36,5 +35,6 @@ pub fn law_assignment()
 
 /// A text without `=` is no assignment.
 pub fn law_operator()
-    ensures { (modifiers : Modifiers) (text : List ℕ) → All (λ b. b ≢ 61) text → assignment_of modifiers text ≡ None }
+    ensures { (modifiers : Modifiers) (text : List ℕ) → All (λ b. b ≢ 61) text
+        → assignment_of modifiers text ≡ None }
 {}
