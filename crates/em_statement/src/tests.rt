@@ -353,3 +353,21 @@ fn every_special_target_is_refused(rt: HostRuntime) -> Result<(), Fail> {
     }
     Ok(())
 }
+
+#[test]
+fn a_first_word_ends_at_a_blank(rt: HostRuntime) {
+    for (text, word) in [
+        (b" a b".as_slice(), b"a".as_slice()),
+        (b"\ta:\tb", b"a:"),
+        (b"$(x y)", b"$(x"),
+        (b"a", b"a"),
+        (b" \t", b""),
+    ] {
+        assert!(rt; first_word(text) == word);
+        assert!(rt; is_empty(text) == word.is_empty());
+    }
+    laws::law_shape();
+    laws::law_blank();
+    laws::law_assignment();
+    laws::law_operator();
+}
