@@ -1,4 +1,4 @@
-//! Laws of the definitions: each function's contract is the law, and its body is empty.
+//! Laws of the definitions: each function's contract is the law, and its body does nothing.
 ghost use Rattle.std.specs.Prelude.{◌≡◌, ◌≢◌, ◌++◌, ℕ, List, None, Some, All, length};
 ghost use Rattle.em_lines.specs.Kept.{IsComment};
 ghost use Rattle.em_statement.specs.declared.assignment.Assignment.{Assignment};
