@@ -1,6 +1,7 @@
 //! Implicit rules: the pattern rule by which a target is remade that has no recipe of its own.
 #![tactic(auto)]
 
+pub mod laws;
 mod made;
 mod pattern;
 mod seek;

@@ -47,7 +47,7 @@ fn matched<'a>(pattern: &[u8], target: &'a [u8]) -> Option<Match<'a>>
 
 /// How a target matches the first target pattern of a rule that it matches; `None` exactly where it matches none.
 pub fn rule_match<'a>(rule: &Rule, target: &'a [u8]) -> Option<Match<'a>>
-    ensures { option_map (λ m. (m.dir.now, m.stem.now)) result ≡ rule_match rule.now target.now }
+    ensures first { option_map (λ m. (m.dir.now, m.stem.now)) result ≡ rule_match rule.now target.now }
 {
     for pattern in rule.targets.items() {
         let found = matched(pattern.bytes(), target);
