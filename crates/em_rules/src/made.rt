@@ -1,0 +1,173 @@
+//! What a rule comes to: its names as they are known, and a rule for each target of a static pattern rule.
+ghost use Rattle.std.specs.Prelude.{◌≡◌, ◌<◌, map, length, slice_get, is_none, Some, None, option_map, MatchOption, IfOk};
+ghost use Rattle.em_wordlist.specs.Stems.{stem_of};
+ghost use Rattle.em_rules.specs.Dots.{undotted};
+ghost use Rattle.em_rules.specs.Static as static;
+
+use crate::dots::{undot, undotted};
+use crate::rule::{RecipeLine, Rule};
+use em_base::{NoMemory, Seq, Text};
+use em_wordlist::{fill, stem};
+use std::alloc::Global;
+
+/// The names as they are known.
+fn undotted_all(alloc: Global, names: Seq<Text>) -> Result<Seq<Text>, NoMemory>
+    ensures { IfOk result (λ s. s ≡ map undotted names) }
+{
+    let names = names.into_vec();
+    let mut known = Vec::with_capacity(alloc, names.len())?;
+    for name in names {
+        known.push(undot(name))?;
+    }
+    Ok(Seq::from_vec(known))
+}
+
+/// The name as it is known, if there is one.
+fn undotted_form(form: Option<Text>) -> Option<Text>
+    ensures { result ≡ option_map undotted form }
+{
+    match form {
+        Some(form) => Some(undot(form)),
+        None => None,
+    }
+}
+
+/// The rule with its names as they are known.
+pub(crate) fn undotted_rule(alloc: Global, r: Rule) -> Result<Rule, NoMemory>
+    ensures { IfOk result (λ k. k ≡ static.undotted_rule r) }
+{
+    let Rule {
+        targets,
+        pattern,
+        form,
+        normal,
+        order,
+        recipe,
+        place,
+    } = r;
+    Ok(Rule {
+        targets: undotted_all(alloc, targets)?,
+        pattern,
+        form: undotted_form(form),
+        normal: undotted_all(alloc, normal)?,
+        order: undotted_all(alloc, order)?,
+        recipe,
+        place,
+    })
+}
+
+/// Whether the name as it is known matches the target pattern.
+fn is_unmatched(form: &[u8], target: &Text) -> bool
+    ensures { result ≡ is_none (stem_of form.now (undotted target.now)) }
+{
+    stem(form, undotted(target.bytes())).is_none()
+}
+
+/// The place of the first target that the target pattern doesn't match.
+fn unmatched_in(form: &[u8], targets: &[Text]) -> Option<usize>
+    ensures { MatchOption result
+        (static.unmatched_by (Some form.now) (map undotted targets.now) ≡ None)
+        (λ i. (i < length targets.now) × (static.unmatched_by (Some form.now) (map undotted targets.now) ≡ slice_get (map undotted targets.now) i)) }
+{
+    for (i, target) in targets.iter().enumerate() {
+        if is_unmatched(form, target) {
+            return Some(i);
+        }
+    }
+    None
+}
+
+/// The place of the first target of a static pattern rule that its target pattern doesn't match. No memory.
+pub(crate) fn unmatched(r: &Rule) -> Option<usize>
+    ensures { MatchOption result
+        (static.unmatched (static.undotted_rule r.now) ≡ None)
+        (λ i. (i < length r.now.targets) × (static.unmatched (static.undotted_rule r.now) ≡ slice_get (map undotted r.now.targets) i)) }
+{
+    match &r.form {
+        Some(form) => unmatched_in(undotted(form.bytes()), r.targets.items()),
+        None => None,
+    }
+}
+
+/// The target at this place as it is known. No memory.
+pub(crate) fn into_target(r: Rule, at: usize) -> Text
+    requires { at < length r.targets }
+    ensures { slice_get (map undotted r.targets) at ≡ Some result }
+{
+    let mut targets = r.targets.into_vec();
+    undot(targets.swap_remove(at))
+}
+
+/// The names that the patterns are with this stem, as they are known.
+fn made(alloc: Global, stem: &[u8], patterns: &[Text]) -> Result<Seq<Text>, NoMemory>
+    ensures { IfOk result (λ s. s ≡ static.made stem.now patterns.now) }
+{
+    let mut names = Seq::new(alloc);
+    for pattern in patterns {
+        let name = fill(alloc, pattern.bytes(), stem)?;
+        names.push(Text::from_slice(alloc, undotted(name.bytes()))?)?;
+    }
+    Ok(names)
+}
+
+/// The rule of one target of a static pattern rule.
+fn rule_for(alloc: Global, rule: &Rule, target: &Text) -> Result<Rule, NoMemory>
+    ensures { IfOk result (λ r. r ≡ static.rule_for rule.now target.now) }
+{
+    let mut targets = Seq::new(alloc);
+    targets.push(target.copy(alloc)?)?;
+    let stem = rule.stem(target.bytes());
+    Ok(Rule {
+        targets,
+        pattern: rule.pattern,
+        form: copied_form(alloc, &rule.form)?,
+        normal: made(alloc, stem, rule.normal.items())?,
+        order: made(alloc, stem, rule.order.items())?,
+        recipe: copied_recipe(alloc, &rule.recipe)?,
+        place: rule.place.copy(alloc)?,
+    })
+}
+
+fn copied_form(alloc: Global, form: &Option<Text>) -> Result<Option<Text>, NoMemory>
+    ensures { IfOk result (λ c. c ≡ form.now) }
+{
+    match form {
+        Some(form) => Ok(Some(form.copy(alloc)?)),
+        None => Ok(None),
+    }
+}
+
+fn copied_recipe(
+    alloc: Global,
+    recipe: &Option<Seq<RecipeLine>>,
+) -> Result<Option<Seq<RecipeLine>>, NoMemory>
+    ensures { IfOk result (λ c. c ≡ recipe.now) }
+{
+    match recipe {
+        Some(lines) => Ok(Some(lines.copy(alloc)?)),
+        None => Ok(None),
+    }
+}
+
+/// The rules of the targets of a static pattern rule.
+fn rules_for(alloc: Global, rule: &Rule) -> Result<Vec<Rule>, NoMemory>
+    ensures { IfOk result (λ v. v.items ≡ map (static.rule_for rule.now) rule.now.targets) }
+{
+    let mut rules = Vec::new(alloc);
+    for target in rule.targets.items() {
+        rules.push(rule_for(alloc, rule, target)?)?;
+    }
+    Ok(rules)
+}
+
+/// The explicit rules that a rule comes to: one for each target of a static pattern rule, else the rule itself.
+pub(crate) fn explicit(alloc: Global, rule: Rule) -> Result<Vec<Rule>, NoMemory>
+    ensures { IfOk result (λ v. v.items ≡ static.explicit rule) }
+{
+    if rule.form.is_some() {
+        return rules_for(alloc, &rule);
+    }
+    let mut rules = Vec::new(alloc);
+    rules.push(rule)?;
+    Ok(rules)
+}
