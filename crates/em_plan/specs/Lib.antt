@@ -1,0 +1,5 @@
+pub mod Makings
+pub mod Jobs
+pub mod Order
+pub mod Plans
+pub mod Resuming

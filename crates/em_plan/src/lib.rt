@@ -1,0 +1,15 @@
+//! The plan of a build: the jobs that the goals need, in serial order.
+#![tactic(auto)]
+
+mod goals;
+mod job;
+mod making;
+mod no;
+mod planned;
+mod planning;
+mod walk;
+
+pub use making::{Making, Makefile, Need, RecipeLine};
+pub use no::PlanNo;
+pub use planned::{Plan, PlanJob, Pre};
+pub use planning::plan;
