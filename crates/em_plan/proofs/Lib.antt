@@ -1,3 +1,4 @@
 pub mod Numbers
 pub mod Walks
 pub mod Asked
+pub mod Serial

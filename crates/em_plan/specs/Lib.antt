@@ -1,5 +1,6 @@
 pub mod Makings
 pub mod Jobs
 pub mod Order
+pub mod Serial
 pub mod Plans
 pub mod Resuming
