@@ -1,0 +1,7 @@
+-- Names as they are known: a name's leading `./` are dropped.
+use Rattle.std.specs.Prelude.{ℕ, ◌==◌, ◌&&◌, List, [], ◌∷◌, if◌then◌else◌}
+
+abbrev pub undotted : List ℕ → List ℕ
+undotted [] = []
+undotted (a ∷ []) = a ∷ []
+undotted (a ∷ b ∷ rest) = if (a == 46) && (b == 47) then undotted rest else a ∷ b ∷ rest

@@ -1,0 +1,16 @@
+//! The rules of makefiles.
+#![tactic(auto)]
+
+mod book;
+mod dots;
+mod rule;
+mod rules;
+mod special;
+mod uses;
+mod walk;
+
+pub use book::{Book, BookNo};
+pub use dots::undotted;
+pub use rule::{RecipeLine, Rule};
+pub use rules::Rules;
+pub use special::{Names, Special};
