@@ -9,7 +9,7 @@ mod planned;
 mod planning;
 mod walk;
 
-pub use making::{Making, Makefile, Need, RecipeLine};
+pub use making::{Makefile, Making, Need};
 pub use no::PlanNo;
 pub use planned::{Plan, PlanJob, Pre};
 pub use planning::plan;

@@ -1,15 +1,13 @@
 //! What the makefiles say of a name.
-ghost use Rattle.std.specs.Prelude.{◌≡◌, ◌<◌, ◌^◌, length, IfOk};
-ghost use Rattle.em_plan.specs.Makings.{says};
+ghost use Rattle.std.specs.Prelude.{◌≡◌, ◌++◌, ◌<◌, ◌^◌, length, map, IfOk, OnOk, option_copied, slice_get};
+ghost use Rattle.std.specs.List.{flat_map};
+ghost use Rattle.std.specs.Option.{option_and_then};
+ghost use Rattle.em_rules.specs.Rules.{recipe_rule};
+ghost use Rattle.em_plan.specs.Makings.{need, needs_at, needs_in, own_making, own_needs, recipe_by, recipe_first, says, stem_by};
 
-use em_base::{NoMemory, Place, Seq, Text};
+use em_base::{NoMemory, Seq, Text};
+use em_rules::{Book, RecipeLine, Rule, Rules};
 use std::alloc::Global;
-
-#[derive(Debug, Drop)]
-pub struct RecipeLine {
-    pub place: Place,
-    pub text: Text,
-}
 
 /// A prerequisite, as it is written.
 #[derive(Debug, Drop)]
@@ -24,22 +22,150 @@ pub struct Need {
 pub struct Making {
     /// Its prerequisites in the order in which they are visited.
     pub needs: Seq<Need>,
+    /// What `%` stands for, where the recipe is that of a pattern rule or of a static pattern rule; else empty.
     pub stem: Text,
     pub recipe: Option<Seq<RecipeLine>>,
+    /// Whether it has a rule, or a pattern rule applies to it.
     pub ruled: bool,
     pub phony: bool,
 }
 
+/// Appends prerequisites of one kind, each with a copy of its name.
+fn add_names(
+    alloc: Global,
+    needs: &mut Seq<Need>,
+    names: &[Text],
+    order: bool,
+) -> Result<(), NoMemory>
+    ensures { OnOk result (needs.new ≡ needs.old ++ map (need order) names.now) }
+{
+    for name in names {
+        needs.push(Need {
+            name: name.copy(alloc)?,
+            order,
+        })?;
+    }
+    Ok(())
+}
+
+/// Appends the prerequisites of a rule.
+fn add_needs(
+    alloc: Global,
+    needs: &mut Seq<Need>,
+    normal: &[Text],
+    order: &[Text],
+) -> Result<(), NoMemory>
+    ensures { OnOk result (needs.new ≡ needs.old ++ needs_in normal.now order.now) }
+{
+    add_names(alloc, needs, normal, false)?;
+    add_names(alloc, needs, order, true)?;
+    Ok(())
+}
+
+/// Appends the prerequisites of the rule of this number.
+fn add_needs_at(
+    alloc: Global,
+    needs: &mut Seq<Need>,
+    rules: &Rules,
+    number: usize,
+) -> Result<(), NoMemory>
+    ensures { OnOk result (needs.new ≡ needs.old ++ needs_at rules.now number) }
+{
+    match rules.get(number) {
+        None => Ok(()),
+        Some(rule) => add_needs(alloc, needs, rule.normal.items(), rule.order.items()),
+    }
+}
+
+/// The number of the rule with the recipe, then the others in order.
+fn recipe_first(recipe: Option<usize>, mut numbers: Vec<usize>) -> Result<Vec<usize>, NoMemory>
+    ensures { IfOk result (λ v. v.items ≡ recipe_first recipe numbers.items) }
+{
+    let Some(recipe) = recipe else {
+        return Ok(numbers);
+    };
+    numbers.retain(|number| *number != recipe);
+    numbers.insert(0, recipe)?;
+    Ok(numbers)
+}
+
+/// The prerequisites of a name's own rules.
+fn own_needs(
+    alloc: Global,
+    rules: &Rules,
+    recipe: Option<usize>,
+    name: &[u8],
+) -> Result<Seq<Need>, NoMemory>
+    requires { recipe ≡ recipe_rule rules.now name.now }
+    ensures { IfOk result (λ n. n ≡ own_needs rules.now name.now) }
+{
+    let numbers = recipe_first(recipe, rules.rules_of(alloc, name)?.into_vec())?;
+    let mut needs = Seq::new(alloc);
+    for number in &numbers {
+        add_needs_at(alloc, &mut needs, rules, *number)?;
+    }
+    Ok(needs)
+}
+
+/// The rule of this number.
+fn rule_at(rules: &Rules, number: Option<usize>) -> Option<&Rule>
+    ensures { option_copied result ≡ option_and_then (λ i. slice_get rules.now i) number }
+{
+    rules.get(number?)
+}
+
+/// What `%` stands for in a static pattern rule.
+fn stem_of(alloc: Global, rule: Option<&Rule>, name: &[u8]) -> Result<Text, NoMemory>
+    ensures { IfOk result (λ t. t ≡ stem_by (option_copied rule.entry) name.now) }
+{
+    match rule {
+        None => Ok(Text::new(alloc)),
+        Some(rule) => Text::from_slice(alloc, rule.stem(name)),
+    }
+}
+
+/// The rule's recipe, if it has one.
+fn recipe_of(alloc: Global, rule: Option<&Rule>) -> Result<Option<Seq<RecipeLine>>, NoMemory>
+    ensures { IfOk result (λ r. r ≡ option_and_then (λ x. x.recipe) (option_copied rule.entry)) }
+{
+    match rule {
+        None => Ok(None),
+        Some(rule) => match &rule.recipe {
+            None => Ok(None),
+            Some(lines) => Ok(Some(lines.copy(alloc)?)),
+        },
+    }
+}
+
+/// What makefiles say, and the tree in which it is judged whether a name exists.
 #[derive(Clone, Copy)]
 pub struct Makefile<'a> {
-    pub names: &'a [Text],
+    pub book: &'a Book,
 }
 
 impl Makefile<'_> {
-    pub fn making(&self, _alloc: Global, _name: &[u8]) -> Result<Making, NoMemory>
-        ensures exact { IfOk result (λ m. m ≡ says self.now _name.now) }
+    /// How a name is made by the rules for it alone.
+    fn own_making(&self, alloc: Global, name: &[u8]) -> Result<Making, NoMemory>
+        ensures { IfOk result (λ m. m ≡ own_making self.now.book.now.rules name.now) }
+    {
+        let rules = &self.book.rules;
+        let number = rules.recipe_rule(name);
+        let rule = rule_at(rules, number);
+        Ok(Making {
+            needs: own_needs(alloc, rules, number, name)?,
+            stem: stem_of(alloc, rule, name)?,
+            recipe: recipe_of(alloc, rule)?,
+            ruled: rules.is_target(name),
+            phony: rules.is_phony(name),
+        })
+    }
+
+    pub fn making(&self, alloc: Global, name: &[u8]) -> Result<Making, NoMemory>
+        ensures exact { IfOk result (λ m. m ≡ says self.now name.now) }
         ensures few { IfOk result (λ m. length m.needs < 2 ^ 64) }
     {
-        Err(NoMemory)
+        let making = self.own_making(alloc, name)?;
+        let _count = making.needs.len();
+        Ok(making)
     }
 }

@@ -1,6 +1,6 @@
 //! The plan as data.
 
-use crate::making::RecipeLine;
+use em_rules::RecipeLine;
 use em_base::{Seq, Text};
 
 /// A prerequisite, and the number of its job.
