@@ -1,0 +1,60 @@
+-- The pattern rule that is chosen for a target.
+--     exists tree cwd name                  something stands at the name
+--     applies rules tree cwd r target       each prerequisite that the rule makes for the target exists or is mentioned
+--     candidates rules patterns tree cwd target      the pattern rules that match and apply, in order, with their stems
+--     shortest fs                           the one with the shortest stem, the first of equal ones
+--     found rules patterns tree cwd target  the one that is chosen
+use Rattle.std.specs.Prelude.{ℕ, ◌+◌, ◌&&◌, ◌||◌, nat_lt, Bool, true, false, List, [], ◌∷◌, ◌++◌, length, fold, Option, Some, None, is_some, if◌then◌else◌}
+use Rattle.std.specs.List.{list_all}
+use Rattle.std.specs.FinMap.{get}
+use Rattle.em_path.specs.declared.path.PathNo.{PathNo}
+use Rattle.em_path.specs.Reading.{read_fault, resolved_text}
+use Rattle.em_tree.specs.Trees.{Table}
+use Rattle.em_rules.specs.declared.rule.Rule.{Rule}
+use Rattle.em_rules.specs.Rules.{is_mentioned}
+use Rattle.em_implicit.specs.declared.seek.Found.{Found}
+use Rattle.em_implicit.specs.Matches.{rule_match, normal_of, order_of}
+
+-- a name that is no path is absent
+abbrev pub exists_by : Option PathNo → Table → List ℕ → List ℕ → Bool
+exists_by None tree cwd name = is_some (get tree (resolved_text cwd name))
+exists_by (Some fault) tree cwd name = false
+
+abbrev pub exists : Table → List ℕ → List ℕ → Bool
+exists tree cwd name = exists_by (read_fault cwd name) tree cwd name
+
+-- it is mentioned as a target or as an explicit prerequisite, or exists
+abbrev pub is_there : List Rule → Table → List ℕ → List ℕ → Bool
+is_there rules tree cwd name = is_mentioned rules name || exists tree cwd name
+
+abbrev pub applies : List Rule → Table → List ℕ → Rule → List ℕ → Bool
+applies rules tree cwd r target = list_all (is_there rules tree cwd) (normal_of r target) && list_all (is_there rules tree cwd) (order_of r target)
+
+-- the stem begins with the directory
+abbrev pub candidate_by : Bool → ℕ → Option (List ℕ × List ℕ) → List Found
+candidate_by applies i None = []
+candidate_by applies i (Some m) = if applies then record { rule = i; stem = m.0 ++ m.1 } ∷ [] else []
+
+abbrev pub candidate : List Rule → Table → List ℕ → List ℕ → ℕ → Rule → List Found
+candidate rules tree cwd target i r = candidate_by (applies rules tree cwd r target) i (rule_match r target)
+
+abbrev pub candidates_from : ℕ → List Rule → List Rule → Table → List ℕ → List ℕ → List Found
+candidates_from i rules [] tree cwd target = []
+candidates_from i rules (r ∷ patterns) tree cwd target = candidate rules tree cwd target i r ++ candidates_from (i + 1) rules patterns tree cwd target
+
+abbrev pub candidates : List Rule → List Rule → Table → List ℕ → List ℕ → List Found
+candidates rules patterns tree cwd target = candidates_from 0 rules patterns tree cwd target
+
+abbrev pub beats : List ℕ → Option Found → Bool
+beats stem None = true
+beats stem (Some best) = nat_lt (length stem) (length best.stem)
+
+-- the next one only where its stem is shorter
+abbrev pub shorter : Option Found → Found → Option Found
+shorter best next = if beats next.stem best then Some next else best
+
+abbrev pub shortest : List Found → Option Found
+shortest fs = fold shorter None fs
+
+abbrev pub found : List Rule → List Rule → Table → List ℕ → List ℕ → Option Found
+found rules patterns tree cwd target = shortest (candidates rules patterns tree cwd target)

@@ -1,0 +1,9 @@
+pub use Rattle.em_base.specs.Spans
+pub use Rattle.em_wordlist.specs.Stems
+pub use Rattle.em_path.specs.Paths
+pub use Rattle.em_path.specs.Reading
+pub use Rattle.em_tree.specs.Trees
+pub use Rattle.em_rules.specs.Dots
+pub use Rattle.em_rules.specs.Rules
+pub mod Matches
+pub mod Implicit

@@ -1,0 +1,11 @@
+//! Implicit rules: the pattern rule by which a target is remade that has no recipe of its own.
+#![tactic(auto)]
+
+mod made;
+mod pattern;
+mod seek;
+mod there;
+
+pub use made::{Prerequisites, prerequisites_of};
+pub use pattern::{Match, rule_match};
+pub use seek::{Found, find};

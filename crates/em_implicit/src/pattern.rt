@@ -1,0 +1,59 @@
+//! Whether a target matches a target pattern.
+ghost use Rattle.std.specs.Prelude.{◌≡◌, ◌≤◌, length, option_copied, option_map};
+ghost use Rattle.em_implicit.specs.Matches.{behind, filled_stem, match_of, rule_match};
+
+use em_rules::Rule;
+use em_wordlist::stem;
+
+/// How a target matches a target pattern.
+#[derive(Clone, Copy, Debug)]
+pub struct Match<'a> {
+    /// The target's directory with its slash, where the pattern has no slash; else empty.
+    pub dir: &'a [u8],
+    /// What the pattern's `%` stands for, behind the directory. It isn't empty.
+    pub stem: &'a [u8],
+}
+
+/// How many bytes stand behind the last slash, or in all.
+fn behind(name: &[u8]) -> usize
+    ensures count { result ≡ behind name.now }
+    ensures within { result ≤ length name.now }
+{
+    name.iter().rev().take_while(|b| **b != b'/').count()
+}
+
+/// What the pattern's `%` stands for in a word: at least one byte.
+fn filled_stem<'a>(pattern: &[u8], word: &'a [u8]) -> Option<&'a [u8]>
+    ensures { option_copied result ≡ filled_stem pattern.now word.now }
+{
+    let found = stem(pattern, word)?.of(word);
+    if found.is_empty() { None } else { Some(found) }
+}
+
+/// How a target matches a target pattern; `None` exactly where it doesn't. A pattern without a slash is matched against what
+/// stands behind the target's last slash, and its `%` stands for at least one byte.
+fn matched<'a>(pattern: &[u8], target: &'a [u8]) -> Option<Match<'a>>
+    ensures { option_map (λ m. (m.dir.now, m.stem.now)) result ≡ match_of pattern.now target.now }
+{
+    let at = if pattern.contains(&b'/') {
+        0
+    } else {
+        target.len() - behind(target)
+    };
+    let (dir, word) = target.split_at(at);
+    let stem = filled_stem(pattern, word)?;
+    Some(Match { dir, stem })
+}
+
+/// How a target matches the first target pattern of a rule that it matches; `None` exactly where it matches none.
+pub fn rule_match<'a>(rule: &Rule, target: &'a [u8]) -> Option<Match<'a>>
+    ensures { option_map (λ m. (m.dir.now, m.stem.now)) result ≡ rule_match rule.now target.now }
+{
+    for pattern in rule.targets.items() {
+        let found = matched(pattern.bytes(), target);
+        if found.is_some() {
+            return found;
+        }
+    }
+    None
+}
