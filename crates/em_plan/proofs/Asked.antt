@@ -1,20 +1,23 @@
 -- Goals.
 --     there_none, there_more     a table has the names so far, where one more is put
---     plan_some                  what the plan is where there are goals, put together from what the code's calls give
-use Rattle.std.proofs.Common.{◌≡◌, ℕ, Bool, true, false, cond, ◌||◌, List, [], ◌∷◌, ◌++◌, length, nat_eq, Option, Some, Ok, refl, sym, ap, ◌∙◌}
+--     plan_none, plan_some, plan_fails      what the plan is without goals, and where there are some, put together from what the code's calls give
+use Rattle.std.proofs.Common.{◌≡◌, ◌⊎◌, inl, inr, ℕ, suc, arith, Bool, true, false, cond, ◌||◌, List, [], ◌∷◌, ◌++◌, length, nat_eq, Option, Some, Ok, Err, refl, sym, ap, ◌∙◌}
 use Rattle.std.specs.Prelude.{is_some}
 use Rattle.std.specs.List.{list_any, filter_map}
 use Rattle.std.specs.FinMap.{FinMap, get, insert, empty, get-empty}
 use Rattle.std.specs.Cmp.Lexicographic.{slice_cmp}
 use Rattle.std.specs.Ordering.{nat_cmp}
 use Rattle.std.proofs.lemmas.List.Folds.{list_any-append}
+use Rattle.std.proofs.lemmas.Bool.Decides.{nat_tests}
 use Rattle.em_base.proofs.Lemmas.{get_put}
 use Rattle.em_plan.specs.declared.making.Making.{Making}
 use Rattle.em_plan.specs.declared.walk.Walked.{Walked}
+use Rattle.em_plan.specs.declared.no.PlanNo.{PlanNo}
+use Rattle.em_plan.specs.declared.no.PlanNo.TheVariants as no
 use Rattle.em_plan.specs.Jobs.{same, number_of}
 use Rattle.em_plan.specs.Order.{is_in, visit_all, nothing_walked}
 use Rattle.em_plan.specs.Plans.{each_once, plan_for}
-use Rattle.em_plan.specs.Resuming.{Marks, AreMarked, number_in}
+use Rattle.em_plan.specs.Resuming.{Marks, AreMarked, number_in, Fails}
 use Rattle.em_plan.proofs.Walks.{numbers_all}
 
 abbrev Names : Type 0
@@ -41,3 +44,17 @@ pub plan_some : (says : List ℕ → Making) (goals names : List (List ℕ)) (ma
     → plan_for says goals ≡ Ok (record { jobs = w.jobs; goals = numbers; notes = w.notes })
 plan_some says [] names marks w numbers some once walked marked are = absurd cc
 plan_some says (g ∷ gs) names marks w numbers some once walked marked are = rw (← once, walked, ← numbers_all marks [] w.jobs marked, are) refl
+
+not_zero : (n : ℕ) → nat_eq (suc n) 0 ≡ true → ⊥
+not_zero n e = let h : suc n ≡ 0 = grind (arith, nat_tests) in omega arith
+
+pub plan_none : (says : List ℕ → Making) (goals : List (List ℕ)) → (nat_eq (length goals) 0 ≡ true) → plan_for says goals ≡ Err no.NoTargets
+plan_none says [] none = refl
+plan_none says (g ∷ gs) none = absurd (not_zero (length gs) none)
+
+pub plan_fails : (says : List ℕ → Making) (goals names : List (List ℕ)) (e : PlanNo) → (nat_eq (length goals) 0 ≡ false) → names ≡ each_once [] goals
+    → Fails (visit_all says names nothing_walked) e → (e ≡ no.NoMemory) ⊎ (plan_for says goals ≡ Err e)
+plan_fails says [] names e some once fails = absurd cc
+plan_fails says (g ∷ gs) names no.NoMemory some once fails = inl refl
+plan_fails says (g ∷ gs) names no.NoTargets some once fails = absurd fails
+plan_fails says (g ∷ gs) names no.TooManyJobs some once fails = inr (rw (← once, fails) refl)

@@ -4,21 +4,24 @@
 --     no_notes                      where prerequisites have lower ranks than their targets, nothing is dropped
 --     job_at, pres_before, waits_below, once_only      what follows for each job of such a list
 use Rattle.std.proofs.Common.{◌≡◌, ◌⊎◌, inl, inr, ℕ, zero, suc, ◌+◌, ◌<◌, ◌≤◌, Bool, true, false, cond, ◌||◌, List, [], ◌∷◌, ◌++◌, map, length, take, Option, Some, None, Result, Ok, Err, refl, sym, ap, subst, ◌∙◌, arith, append_assoc, length-append, option_map, slice_get, is_some}
-use Rattle.std.specs.List.{AllByRecursion, Contains, cons_option, filter_map, list_any, position_from}
+use Rattle.std.specs.List.{All, AllByRecursion, Contains, cons_option, filter_map, list_any, position_from}
+use Rattle.std.specs.List.Sorted.{IsStrictlySortedBy}
 use Rattle.std.specs.Ordering.{nat_cmp}
 use Rattle.std.specs.FinMap.{nat_cmp-IsAntisymmetric}
 use Rattle.std.proofs.lemmas.Cmp.{nat_cmp_total}
 use Rattle.std.proofs.lemmas.List.{append-nil}
-use Rattle.em_base.proofs.Lemmas.{by_cases, same_key, own_key, in_order_has}
+use Rattle.em_base.proofs.Lemmas.{by_cases, same_key, own_key, in_order_has, in_order_rises}
 use Rattle.em_plan.specs.declared.making.Need.{Need}
 use Rattle.em_plan.specs.declared.making.Making.{Making}
 use Rattle.em_plan.specs.declared.planned.Pre.{Pre}
+use Rattle.em_plan.specs.declared.planned.Plan.{Plan}
 use Rattle.em_plan.specs.declared.planned.PlanJob.{PlanJob}
 use Rattle.em_plan.specs.declared.walk.Walked.{Walked}
 use Rattle.em_plan.specs.declared.no.PlanNo.{PlanNo}
-use Rattle.em_plan.specs.declared.no.PlanNo.TheVariants.{TooManyJobs}
+use Rattle.em_plan.specs.declared.no.PlanNo.TheVariants.{NoTargets, TooManyJobs}
 use Rattle.em_plan.specs.Jobs.{same, number_of, is_numbered, pre, pres, job_of}
 use Rattle.em_plan.specs.Order.{limit, Walking, and_then, is_in, meet, finish, visit, visit_all, has_room, with_job, noted, nothing_walked}
+use Rattle.em_plan.specs.Plans.{as_plan, each_once, plan_for}
 use Rattle.em_plan.specs.Serial.{IsNext, IsSerial, StandsBefore}
 use Rattle.em_plan.proofs.Numbers.{number_kept, number_last, number_other}
 
@@ -263,6 +266,11 @@ module _ (says : List ℕ → Making) (jobs : List PlanJob) (serial : IsSerial s
         λ i p e. in_front k job s p (pre_at (number_of s.front) _ i p (ap (λ (x : PlanJob). slice_get x.order i) (sym s.next.is) ∙ e)),
       )
 
+  pub waits_rise : (k : ℕ) (job : PlanJob) → slice_get jobs k ≡ Some job → IsStrictlySortedBy nat_cmp job.waits
+  waits_rise k job at =
+      let s = job_at says [] jobs k job serial at in
+      subst (λ (x : PlanJob). IsStrictlySortedBy nat_cmp x.waits) (sym s.next.is) (in_order_rises nat_cmp (map (λ (p : Pre). p.job) (pres (number_of s.front) (says job.target).needs)))
+
   -- a number among the waits is that of a prerequisite
   pub waits_below : (k : ℕ) (job : PlanJob) → slice_get jobs k ≡ Some job → (q : ℕ) → Contains job.waits q → q < k
   waits_below k job at q c =
@@ -299,6 +307,24 @@ module _ (says : List ℕ → Making) (jobs : List PlanJob) (serial : IsSerial s
               → is_some (cond b (Some at) (position_from (λ (y : PlanJob). same x.target y.target) (at + 1) js)) ≡ true
           by_case true h = refl
           by_case false h = h
+
+-- what holds at each place holds of each item
+pub each_place : {X : Type 0} (P : X → Type 0) (xs : List X) → ((i : ℕ) (x : X) → slice_get xs i ≡ Some x → P x) → All P xs
+each_place P [] h k d l = absurd (omega arith)
+each_place P (x ∷ xs) h zero d l = h 0 x refl
+each_place P (x ∷ xs) h (suc k) d l = each_place P xs (λ i y at. h (suc i) y at) k d (omega arith)
+
+pub all_by_recursion : {X : Type 0} (P : X → Type 0) (xs : List X) → All P xs → AllByRecursion P xs
+all_by_recursion P [] h = tt
+all_by_recursion P (x ∷ xs) h = (h 0 x (omega arith), all_by_recursion P xs (λ k d l. h (suc k) d (omega arith)))
+
+-- when a name gets its number, each of its prerequisites has one or is open
+pub dropped_open : (says : List ℕ → Making) (left : ℕ) (stack : List (List ℕ)) (t : List ℕ) (w v : Walked) → finish (visit says left (t ∷ stack)) t stack (says t) (says t).needs w ≡ Ok v
+    → (last : Walked) × (v ≡ with_job t stack (says t) last) × All (λ (n : Need). (is_in (t ∷ stack) n.name ≡ true) ⊎ (is_numbered last.jobs n.name ≡ true)) (says t).needs
+dropped_open says left stack t w v e =
+    let f = finish_kept says (visit says left (t ∷ stack)) t stack (visit_kept says left (t ∷ stack)) (says t).needs w v e in
+    (f.last, f.is, each_place (λ (n : Need). (is_in (t ∷ stack) n.name ≡ true) ⊎ (is_numbered f.last.jobs n.name ≡ true)) (says t).needs (λ i n at. by_cases (is_in (t ∷ stack) n.name)
+    (λ b. is_in (t ∷ stack) n.name ≡ b → (b ≡ true) ⊎ (is_numbered f.last.jobs n.name ≡ true)) (λ _ _. inl refl) (λ _ away. inr (f.met i n at away)) refl))
 
 -- ---- without circles
 
@@ -356,3 +382,22 @@ module _ (says : List ℕ → Making) (rank : List ℕ → ℕ) (down : (n : Lis
       by_visit : (r : Walking) → visit says limit [] w g ≡ r → and_then r (visit_all says gs) ≡ Ok v → ((u : Walked) → visit_all says gs u ≡ Ok v → v.notes ≡ u.notes) → v.notes ≡ w.notes
       by_visit (Err x) is h rest = absurd (let b : Err x ≡ Ok v = h in cc)
       by_visit (Ok u) is h rest = rest u h ∙ visit_quiet limit [] w u g tt is
+
+-- ---- plans
+
+-- a plan's jobs and notes are those of a walk from goals
+pub plan_walked : (says : List ℕ → Making) (goals : List (List ℕ)) (p : Plan) → plan_for says goals ≡ Ok p
+    → (names : List (List ℕ)) × (visit_all says names nothing_walked ≡ Ok (record { jobs = p.jobs; notes = p.notes }))
+plan_walked says [] p e = absurd (let b : Err NoTargets ≡ Ok p = e in cc)
+plan_walked says (g ∷ gs) p e = (each_once [] (g ∷ gs), by_walk (visit_all says (each_once [] (g ∷ gs)) nothing_walked) refl e)
+  where
+    by_walk : (r : Walking) → visit_all says (each_once [] (g ∷ gs)) nothing_walked ≡ r → as_plan (each_once [] (g ∷ gs)) r ≡ Ok p
+        → visit_all says (each_once [] (g ∷ gs)) nothing_walked ≡ Ok (record { jobs = p.jobs; notes = p.notes })
+    by_walk (Err x) is h = absurd (let b : Err x ≡ Ok p = h in cc)
+    by_walk (Ok w) is h =
+        let same_jobs : w.jobs ≡ p.jobs = cc in
+        let same_notes : w.notes ≡ p.notes = cc in
+        is ∙ rw (← same_jobs, ← same_notes) refl
+
+pub plan_serial : (says : List ℕ → Making) (goals : List (List ℕ)) (p : Plan) → plan_for says goals ≡ Ok p → IsSerial says [] p.jobs
+plan_serial says goals p e = let w = plan_walked says goals p e in goals_serial says w.0 (record { jobs = p.jobs; notes = p.notes }) w.1

@@ -7,10 +7,13 @@
 use Rattle.std.specs.Prelude.{ℕ, ◌==◌, ◌&&◌, Bool, true, false, not, List, [], ◌∷◌, ◌++◌, map, Option, Some, None, is_none, slice_get, if◌then◌else◌}
 use Rattle.std.specs.List.{filter, flat_map}
 use Rattle.std.specs.Option.{option_and_then}
-use Rattle.em_base.specs.declared.place.Place.{Place}
+use Rattle.em_tree.specs.Trees.{Table}
 use Rattle.em_rules.specs.declared.rule.Rule.{Rule}
 use Rattle.em_rules.specs.Rules.{numbers_of, recipe_rule, is_target, is_phony}
 use Rattle.em_rules.specs.Static.{stem_in}
+use Rattle.em_implicit.specs.declared.seek.Found.{Found}
+use Rattle.em_implicit.specs.Matches.{normal_of, order_of}
+use Rattle.em_implicit.specs.Implicit.{found}
 use Rattle.em_plan.specs.declared.making.Need.{Need}
 use Rattle.em_plan.specs.declared.making.Making.{Making}
 use Rattle.em_plan.specs.declared.making.Makefile.{Makefile}
@@ -52,5 +55,29 @@ own_making rules name = record {
   phony = is_phony rules name;
 }
 
+-- the pattern rule's prerequisites come before those of the name's own rules
+abbrev pub with_rule : Option Rule → List ℕ → List ℕ → Making → Making
+with_rule None stem name m = m
+with_rule (Some r) stem name m = record {
+  needs = needs_in (normal_of r name) (order_of r name) ++ m.needs;
+  stem = stem;
+  recipe = r.recipe;
+  ruled = true;
+  phony = m.phony;
+}
+
+abbrev pub with_pattern : List Rule → Option Found → List ℕ → Making → Making
+with_pattern patterns None name m = m
+with_pattern patterns (Some f) name m = with_rule (slice_get patterns f.rule) f.stem name m
+
+abbrev pub wants_pattern : Making → Bool
+wants_pattern m = not m.phony && is_none m.recipe
+
+abbrev pub made_by : List Rule → List Rule → Table → List ℕ → List ℕ → Making → Making
+made_by rules patterns tree cwd name m = if wants_pattern m then with_pattern patterns (found rules patterns tree cwd name) name m else m
+
+abbrev pub making_of : List Rule → List Rule → Table → List ℕ → List ℕ → Making
+making_of rules patterns tree cwd name = made_by rules patterns tree cwd name (own_making rules name)
+
 unfoldable pub says : Makefile → List ℕ → Making
-says m name = own_making m.book.now.rules name
+says m name = making_of m.book.now.rules m.book.now.patterns m.tree.now m.cwd.now name

@@ -3,12 +3,13 @@ ghost use Rattle.std.specs.Prelude.{◌≡◌, ◌++◌, ◌∷◌, [], ℕ, Lis
 ghost use Rattle.std.specs.FinMap as finmap;
 ghost use Rattle.std.specs.List.{cons_option, filter_map};
 ghost use Rattle.em_plan.specs.Order.{is_in};
-ghost use Rattle.em_plan.specs.Plans.{asked, each_once, once_more, undotted};
+ghost use Rattle.em_plan.specs.Plans.{asked, each_once, once_more};
 ghost use Rattle.em_plan.specs.Resuming.{number_in};
 
 use crate::job::number;
 use crate::walk::Mark;
 use em_base::{NoMemory, Seq, Table, Text};
+use em_rules::undotted;
 use std::alloc::Global;
 
 /// The goals that are given, or else the default goal.
@@ -30,7 +31,7 @@ fn add_once(
 ) -> Result<(), NoMemory>
     requires { (q : List ℕ) → is_some (finmap.get there.old q) ≡ is_in names.old q }
     ensures there { OnOk result ((q : List ℕ) → is_some (finmap.get there.new q) ≡ is_in names.new q) }
-    ensures names { OnOk result (names.new ≡ once_more names.old (undotted name.now)) }
+    ensures names { OnOk result (names.new ≡ once_more names.old name.now) }
 {
     if there.get(name).is_some() {
         return Ok(());
@@ -40,14 +41,14 @@ fn add_once(
     Ok(())
 }
 
-/// The goals' names, each where it first stands.
+/// The goals' names without the `./` that they begin with, each where it first stands. One search for each.
 pub(crate) fn each_once(alloc: Global, goals: &[Text]) -> Result<Seq<Text>, NoMemory>
     ensures { IfOk result (λ ns. ns ≡ each_once [] goals.now) }
 {
     let mut names = Seq::new(alloc);
     let mut there = Table::new(alloc);
     for goal in goals {
-        add_once(alloc, &mut names, &mut there, goal.bytes())?;
+        add_once(alloc, &mut names, &mut there, undotted(goal.bytes()))?;
     }
     Ok(names)
 }

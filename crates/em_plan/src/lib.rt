@@ -3,6 +3,7 @@
 
 mod goals;
 mod job;
+pub mod laws;
 mod making;
 mod no;
 mod planned;

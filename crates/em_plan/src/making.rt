@@ -1,11 +1,14 @@
 //! What the makefiles say of a name.
-ghost use Rattle.std.specs.Prelude.{◌≡◌, ◌++◌, ◌<◌, ◌^◌, length, map, IfOk, OnOk, option_copied, slice_get};
+ghost use Rattle.std.specs.Prelude.{◌≡◌, ◌++◌, ◌<◌, ◌^◌, length, map, IfOk, OnOk, option_copied, slice_get, Some};
 ghost use Rattle.std.specs.List.{flat_map};
 ghost use Rattle.std.specs.Option.{option_and_then};
 ghost use Rattle.em_rules.specs.Rules.{recipe_rule};
-ghost use Rattle.em_plan.specs.Makings.{need, needs_at, needs_in, own_making, own_needs, recipe_by, recipe_first, says, stem_by};
+ghost use Rattle.em_plan.specs.Makings.{made_by, need, needs_at, needs_in, own_making, own_needs, recipe_by, recipe_first, says, stem_by, with_pattern, with_rule};
 
 use em_base::{NoMemory, Seq, Text};
+use em_implicit::{Found, find, prerequisites_of};
+use em_path::Path;
+use em_tree::Tree;
 use em_rules::{Book, RecipeLine, Rule, Rules};
 use std::alloc::Global;
 
@@ -77,6 +80,16 @@ fn add_needs_at(
     }
 }
 
+/// Appends these prerequisites.
+fn append(needs: &mut Seq<Need>, more: Seq<Need>) -> Result<(), NoMemory>
+    ensures { OnOk result (needs.new ≡ needs.old ++ more) }
+{
+    for need in more.into_vec() {
+        needs.push(need)?;
+    }
+    Ok(())
+}
+
 /// The number of the rule with the recipe, then the others in order.
 fn recipe_first(recipe: Option<usize>, mut numbers: Vec<usize>) -> Result<Vec<usize>, NoMemory>
     ensures { IfOk result (λ v. v.items ≡ recipe_first recipe numbers.items) }
@@ -137,10 +150,35 @@ fn recipe_of(alloc: Global, rule: Option<&Rule>) -> Result<Option<Seq<RecipeLine
     }
 }
 
-/// What makefiles say, and the tree in which it is judged whether a name exists.
+/// How a name is made by a pattern rule with this stem and by its own rules.
+fn with_rule(
+    alloc: Global,
+    rule: &Rule,
+    stem: Text,
+    name: &[u8],
+    own: Making,
+) -> Result<Making, NoMemory>
+    ensures { IfOk result (λ m. m ≡ with_rule (Some rule.now) stem name.now own) }
+{
+    let made = prerequisites_of(alloc, rule, name)?;
+    let mut needs = Seq::new(alloc);
+    add_needs(alloc, &mut needs, made.normal.items(), made.order.items())?;
+    append(&mut needs, own.needs)?;
+    Ok(Making {
+        needs,
+        stem,
+        recipe: recipe_of(alloc, Some(rule))?,
+        ruled: true,
+        phony: own.phony,
+    })
+}
+
+/// What makefiles say, and the tree and the working directory by which it is judged whether a name exists.
 #[derive(Clone, Copy)]
 pub struct Makefile<'a> {
     pub book: &'a Book,
+    pub tree: &'a Tree,
+    pub cwd: &'a Path,
 }
 
 impl Makefile<'_> {
@@ -160,11 +198,44 @@ impl Makefile<'_> {
         })
     }
 
-    pub fn making(&self, alloc: Global, name: &[u8]) -> Result<Making, NoMemory>
+    /// How a name is made where this pattern rule was found for it, if one was.
+    fn with_pattern(
+        &self,
+        alloc: Global,
+        found: Option<Found>,
+        name: &[u8],
+        own: Making,
+    ) -> Result<Making, NoMemory>
+        ensures { IfOk result (λ m. m ≡ with_pattern self.now.book.now.patterns found name.now own) }
+    {
+        let Some(Found { rule, stem }) = found else {
+            return Ok(own);
+        };
+        match self.book.patterns.get(rule) {
+            None => Ok(own),
+            Some(rule) => with_rule(alloc, rule, stem, name, own),
+        }
+    }
+
+    /// How a name is made, where a pattern rule is looked for if it isn't phony and has no recipe.
+    fn by_patterns(&self, alloc: Global, name: &[u8], own: Making) -> Result<Making, NoMemory>
+        ensures { IfOk result (λ m. m ≡ made_by self.now.book.now.rules self.now.book.now.patterns self.now.tree.now self.now.cwd.now name.now own) }
+    {
+        if own.phony || own.recipe.is_some() {
+            return Ok(own);
+        }
+        let found = find(alloc, self.book, name, self.tree, self.cwd)?;
+        self.with_pattern(alloc, found, name, own)
+    }
+
+    /// How a name is made. A few searches by name; where the name isn't phony and has no recipe, also a search for a pattern rule.
+    /// Each prerequisite's name and the recipe are copied once (what a pattern rule makes four times).
+    pub(crate) fn making(&self, alloc: Global, name: &[u8]) -> Result<Making, NoMemory>
         ensures exact { IfOk result (λ m. m ≡ says self.now name.now) }
         ensures few { IfOk result (λ m. length m.needs < 2 ^ 64) }
     {
-        let making = self.own_making(alloc, name)?;
+        let own = self.own_making(alloc, name)?;
+        let making = self.by_patterns(alloc, name, own)?;
         let _count = making.needs.len();
         Ok(making)
     }

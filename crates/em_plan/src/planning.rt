@@ -1,7 +1,6 @@
 //! The plan.
 ghost use Rattle.std.specs.Prelude.{◌≡◌, ◌⊎◌, ◌↔◌, [], Ok, Err, None, IfOk, IfErr};
-ghost use Rattle.em_plan.specs.Makings.{says};
-ghost use Rattle.em_plan.specs.Plans.{asked, plan_for};
+ghost use Rattle.em_plan.specs.Plans.{plan_of};
 
 use crate::goals::{asked, each_once, numbers};
 use crate::making::Makefile;
@@ -9,22 +8,36 @@ use crate::no::PlanNo;
 use crate::planned::Plan;
 use crate::walk::{Walk, walk_all};
 use em_base::Text;
+use em_path::Path;
+use em_rules::Book;
+use em_tree::Tree;
 use std::alloc::Global;
 
+/// The plan for these goals, or for the default goal where none is given: a job for each name that they reach, in serial order.
+/// Whether a name exists is judged by the tree, names being read against the working directory.
+///
+/// `NoTargets` comes exactly where no goal is given and the book has no default goal, also where memory is short. `TooManyJobs`
+/// comes exactly where more than 65,536 names are reached.
+///
+/// A few searches by name for each name that is reached and for each of its prerequisites, and `find` for each name that isn't phony and
+/// has no recipe. The names that are open lie on a stack of its own, so the depth is bounded by nothing else. A name is copied
+/// twice for each prerequisite that is written, and up to four times for its job.
 pub fn plan(
     alloc: Global,
-    makefile: Makefile,
-    default_goal: &Option<Text>,
+    book: &Book,
     goals: &[Text],
+    tree: &Tree,
+    cwd: &Path,
 ) -> Result<Plan, PlanNo>
-    ensures ok { IfOk result (λ p. plan_for (says makefile.entry) (asked goals.now default_goal.now) ≡ Ok p) }
-    ensures err { IfErr result (λ e. (e ≡ PlanNo.NoMemory) ⊎ (plan_for (says makefile.entry) (asked goals.now default_goal.now) ≡ Err e)) }
-    ensures none { (result ≡ Err PlanNo.NoTargets) ↔ ((goals.now ≡ []) × (default_goal.now ≡ None)) }
+    ensures ok { IfOk result (λ p. plan_of book.now goals.now tree.now cwd.now ≡ Ok p) }
+    ensures err { IfErr result (λ e. (e ≡ PlanNo.NoMemory) ⊎ (plan_of book.now goals.now tree.now cwd.now ≡ Err e)) }
+    ensures no_targets { (result ≡ Err PlanNo.NoTargets) ↔ ((goals.now ≡ []) × (book.now.default_goal ≡ None)) }
 {
-    let goals = asked(goals, default_goal);
+    let goals = asked(goals, &book.default_goal);
     if goals.is_empty() {
         return Err(PlanNo::NoTargets);
     }
+    let makefile = Makefile { book, tree, cwd };
     let names = each_once(alloc, goals)?;
     let Walk {
         begun: _,
