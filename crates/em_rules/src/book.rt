@@ -1,15 +1,18 @@
 //! All that makefiles say.
-ghost use Rattle.std.specs.Prelude.{◌≡◌, ◌⊎◌, None, Some, Ok, IfOk, IfErr, OnErr};
+ghost use Rattle.std.specs.Prelude.{◌≡◌, ◌⊎◌, not, None, Some, Ok, IfOk, IfErr, OnOk, OnErr};
+ghost use Rattle.std.specs.List.{filter};
 ghost use Rattle.em_rules.specs.declared.book.BookNo.TheVariants.{NoMemory as OutOfMemory};
 ghost use Rattle.em_rules.specs.Rules.{special};
-ghost use Rattle.em_rules.specs.Books.{new_book, fault_of, added};
+ghost use Rattle.em_rules.specs.Books.{new_book, fault_of, is_alike, with_pattern, added};
 
+use crate::made::{explicit, undotted_rule, unmatched};
 use crate::rule::Rule;
 use crate::rules::Rules;
 use crate::special::{Special, special_of};
 use em_base::{NoMemory, Seq, Text};
 use em_vars::Vars;
 use std::alloc::Global;
+use std::mem;
 use thiserror::Error;
 
 /// Why a rule can't be added.
@@ -44,6 +47,41 @@ pub struct Book {
     pub found: bool,
 }
 
+/// Whether the rules have the same targets and prerequisites.
+fn is_alike(p: &Rule, r: &Rule) -> bool
+    ensures { result ≡ is_alike p.now r.now }
+{
+    p.targets == r.targets && p.normal == r.normal && p.order == r.order
+}
+
+/// Takes out the rules that are alike.
+fn drop_alike(rules: &mut Vec<Rule>, rule: &Rule)
+    ensures { rules.new.items ≡ filter (λ p. not (is_alike p rule.now)) rules.old.items }
+{
+    rules.retain(|p| !is_alike(p, rule));
+}
+
+/// Takes out the pattern rules that are alike.
+fn take_alike(alloc: Global, patterns: &mut Seq<Rule>, rule: &Rule)
+    ensures { patterns.new ≡ filter (λ p. not (is_alike p rule.now)) patterns.old }
+{
+    let mut rules = mem::replace(patterns, Seq::new(alloc)).into_vec();
+    drop_alike(&mut rules, rule);
+    *patterns = Seq::from_vec(rules);
+}
+
+/// Adds a pattern rule, or takes out those that are alike where it has no recipe.
+fn add_pattern(alloc: Global, patterns: &mut Seq<Rule>, rule: Rule) -> Result<(), NoMemory>
+    ensures ok { OnOk result (patterns.new ≡ with_pattern patterns.old rule) }
+    ensures err { OnErr result (patterns.new ≡ patterns.old) }
+{
+    if rule.recipe.is_some() {
+        return patterns.push(rule);
+    }
+    take_alike(alloc, patterns, &rule);
+    Ok(())
+}
+
 impl Book {
     /// The book of no makefile.
     pub fn new(alloc: Global) -> Result<Book, NoMemory>
@@ -72,7 +110,17 @@ impl Book {
         ensures only { IfErr result (λ e. (e ≡ BookNo.NoMemory) ⊎ (fault_of r ≡ Some e)) }
         ensures err { OnErr result (self.new ≡ self.old) }
     {
-        Err(BookNo::NoMemory)
+        let alloc = self.rules.alloc();
+        let rule = undotted_rule(alloc, r)?;
+        if let Some(target) = unmatched(&rule) {
+            return Err(BookNo::Static(target.copy(alloc)?));
+        }
+        if rule.pattern {
+            add_pattern(alloc, &mut self.patterns, rule)?;
+        } else {
+            self.rules.add(explicit(alloc, rule)?)?;
+        }
+        Ok(())
     }
 
     /// What the special targets say.

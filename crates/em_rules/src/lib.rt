@@ -3,6 +3,7 @@
 
 mod book;
 mod dots;
+mod made;
 mod rule;
 mod rules;
 mod special;
