@@ -2,3 +2,4 @@ pub mod Numbers
 pub mod Walks
 pub mod Asked
 pub mod Serial
+pub mod Reaching

@@ -102,41 +102,52 @@ module _ (says : List ℕ → Making) where
       }
       by_case false isnt g = let r = h w v n isnt g in record { kept = r.0; there = λ _. r.1 }
 
-  -- the target's number comes behind what its prerequisites left, of which each has a number or is open
-  pub record Finished (t : List ℕ) (stack : List (List ℕ)) (ns : List Need) (w v : Walked) : Type 0 where
+  -- the target's number comes behind what its prerequisites left, of which each has a number or is open; what the walk keeps there holds
+  pub record Finished (P : Walked → Type 0) (t : List ℕ) (stack : List (List ℕ)) (ns : List Need) (w v : Walked) : Type 0 where
     pub last : Walked
     pub is : v ≡ with_job t stack (says t) last
     pub kept : Kept says (t ∷ stack) w last
+    pub holds : P last
     pub met : (i : ℕ) (n : Need) → slice_get ns i ≡ Some n → is_in (t ∷ stack) n.name ≡ false → is_numbered last.jobs n.name ≡ true
 
-  pub finish_kept : (visit : Walked → List ℕ → Walking) (t : List ℕ) (stack : List (List ℕ)) → Visits visit (t ∷ stack)
-      → (ns : List Need) (w v : Walked) → finish visit t stack (says t) ns w ≡ Ok v → Finished t stack ns w v
-  finish_kept visit t stack h [] w v e = record {
+  -- a walk from a name that isn't open keeps this
+  abbrev pub Keeps : (Walked → Type 0) → (Walked → List ℕ → Walking) → List (List ℕ) → Type 0
+  Keeps P visit stack = (w v : Walked) (m : List ℕ) → is_in stack m ≡ false → P w → visit w m ≡ Ok v → P v
+
+  pub finish_kept : (P : Walked → Type 0) → ((w v : Walked) → v.jobs ≡ w.jobs → P w → P v) → (visit : Walked → List ℕ → Walking) (t : List ℕ) (stack : List (List ℕ))
+      → Visits visit (t ∷ stack) → Keeps P visit (t ∷ stack) → (ns : List Need) (w v : Walked) → P w → finish visit t stack (says t) ns w ≡ Ok v → Finished P t stack ns w v
+  finish_kept P by_jobs visit t stack h keeps [] w v p e = record {
     last = w;
     is = (let s : v ≡ with_job t stack (says t) w = cc in s);
     kept = kept_same (t ∷ stack) w w refl;
+    holds = p;
     met = λ i n at. absurd (none i n at);
   }
     where
       none : (i : ℕ) (n : Need) → slice_get [] i ≡ Some n → ⊥
       none zero n at = let b : None ≡ Some n = at in cc
       none (suc i) n at = let b : None ≡ Some n = at in cc
-  finish_kept visit t stack h (m ∷ ms) w v e = by_meet (meet visit t stack w m.name) refl e (λ u. finish_kept visit t stack h ms u v)
+  finish_kept P by_jobs visit t stack h keeps (m ∷ ms) w v p e = by_meet (meet visit t stack w m.name) refl e (λ u. finish_kept P by_jobs visit t stack h keeps ms u v)
     where
       by_meet : (r : Walking) → meet visit t stack w m.name ≡ r → and_then r (finish visit t stack (says t) ms) ≡ Ok v
-          → ((u : Walked) → finish visit t stack (says t) ms u ≡ Ok v → Finished t stack ms u v) → Finished t stack (m ∷ ms) w v
+          → ((u : Walked) → P u → finish visit t stack (says t) ms u ≡ Ok v → Finished P t stack ms u v) → Finished P t stack (m ∷ ms) w v
       by_meet (Err x) is g rest = absurd (let b : Err x ≡ Ok v = g in cc)
       by_meet (Ok u) is g rest =
           let first = meet_kept visit t stack h w u m.name is in
-          let behind = rest u g in
+          let behind = rest u (holds_there (is_in (t ∷ stack) m.name) u refl is) g in
           record {
             last = behind.last;
             is = behind.is;
             kept = kept_both (t ∷ stack) (t ∷ stack) w u behind.last (λ q i. i) first.kept behind.kept;
+            holds = behind.holds;
             met = at_place first behind;
           }
         where
-          at_place : Met t stack w u m.name → (behind : Finished t stack ms u v) → (i : ℕ) (n : Need) → slice_get (m ∷ ms) i ≡ Some n → is_in (t ∷ stack) n.name ≡ false → is_numbered behind.last.jobs n.name ≡ true
+          holds_there : (b : Bool) (u : Walked) → is_in (t ∷ stack) m.name ≡ b → cond b (Ok (noted t m.name w)) (visit w m.name) ≡ Ok u → P u
+          holds_there true u is g = by_jobs w u (ap (λ (x : Walked). x.jobs) (let s : u ≡ noted t m.name w = cc in s)) p
+          holds_there false u isnt g = keeps w u m.name isnt p g
+
+          at_place : Met t stack w u m.name → (behind : Finished P t stack ms u v) → (i : ℕ) (n : Need) → slice_get (m ∷ ms) i ≡ Some n → is_in (t ∷ stack) n.name ≡ false → is_numbered behind.last.jobs n.name ≡ true
           at_place first behind zero n at away =
               let same_need : m ≡ n = cc in
               let away_m : is_in (t ∷ stack) m.name ≡ false = ap (λ (x : Need). is_in (t ∷ stack) x.name) same_need ∙ away in
@@ -152,7 +163,7 @@ module _ (says : List ℕ → Making) where
       by_case true is g = let s : v ≡ w = cc in (kept_same stack w v (ap (λ (u : Walked). u.jobs) s), ap (λ (u : Walked). is_numbered u.jobs n) s ∙ is)
   visit_kept (suc left) stack w v n apart e = by_case (is_numbered w.jobs n) (has_room stack w) refl e (visit_kept left (n ∷ stack))
     where
-      opened : Finished n stack (says n).needs w v → number_of w.jobs n ≡ None → Kept says stack w v × (is_numbered v.jobs n ≡ true)
+      opened : Finished (λ _. Unit {0}) n stack (says n).needs w v → number_of w.jobs n ≡ None → Kept says stack w v × (is_numbered v.jobs n ≡ true)
       opened f new =
           let job = kept_job stack f.last n apart (f.kept.apart n (rw (own_key n) refl) new) in
           (kept_both stack (n ∷ stack) w f.last v (λ q there. rw there (or_true (same q n))) f.kept (subst (λ (u : Walked). Kept says stack f.last u) (sym f.is) job.0),
@@ -171,7 +182,7 @@ module _ (says : List ℕ → Making) where
           → Visits (visit says left (n ∷ stack)) (n ∷ stack) → Kept says stack w v × (is_numbered v.jobs n ≡ true)
       by_case true c is g deeper = let s : v ≡ w = cc in (kept_same stack w v (ap (λ (u : Walked). u.jobs) s), ap (λ (u : Walked). is_numbered u.jobs n) s ∙ is)
       by_case false false is g deeper = absurd (let b : Err TooManyJobs ≡ Ok v = g in cc)
-      by_case false true is g deeper = opened (finish_kept (visit says left (n ∷ stack)) n stack deeper (says n).needs w v g) (unnumbered (number_of w.jobs n) is)
+      by_case false true is g deeper = opened (finish_kept (λ _. Unit {0}) (λ _ _ _ p. p) (visit says left (n ∷ stack)) n stack deeper (λ _ _ _ _ p _. p) (says n).needs w v tt g) (unnumbered (number_of w.jobs n) is)
 
   pub goals_kept : (goals : List (List ℕ)) (w v : Walked) → visit_all says goals w ≡ Ok v → Kept says [] w v
   goals_kept [] w v e = kept_same [] w v (ap (λ (u : Walked). u.jobs) (let s : v ≡ w = cc in s))
@@ -322,7 +333,7 @@ all_by_recursion P (x ∷ xs) h = (h 0 x (omega arith), all_by_recursion P xs (�
 pub dropped_open : (says : List ℕ → Making) (left : ℕ) (stack : List (List ℕ)) (t : List ℕ) (w v : Walked) → finish (visit says left (t ∷ stack)) t stack (says t) (says t).needs w ≡ Ok v
     → (last : Walked) × (v ≡ with_job t stack (says t) last) × All (λ (n : Need). (is_in (t ∷ stack) n.name ≡ true) ⊎ (is_numbered last.jobs n.name ≡ true)) (says t).needs
 dropped_open says left stack t w v e =
-    let f = finish_kept says (visit says left (t ∷ stack)) t stack (visit_kept says left (t ∷ stack)) (says t).needs w v e in
+    let f = finish_kept says (λ _. Unit {0}) (λ _ _ _ p. p) (visit says left (t ∷ stack)) t stack (visit_kept says left (t ∷ stack)) (λ _ _ _ _ p _. p) (says t).needs w v tt e in
     (f.last, f.is, each_place (λ (n : Need). (is_in (t ∷ stack) n.name ≡ true) ⊎ (is_numbered f.last.jobs n.name ≡ true)) (says t).needs (λ i n at. by_cases (is_in (t ∷ stack) n.name)
     (λ b. is_in (t ∷ stack) n.name ≡ b → (b ≡ true) ⊎ (is_numbered f.last.jobs n.name ≡ true)) (λ _ _. inl refl) (λ _ away. inr (f.met i n at away)) refl))
 
@@ -387,9 +398,9 @@ module _ (says : List ℕ → Making) (rank : List ℕ → ℕ) (down : (n : Lis
 
 -- a plan's jobs and notes are those of a walk from goals
 pub plan_walked : (says : List ℕ → Making) (goals : List (List ℕ)) (p : Plan) → plan_for says goals ≡ Ok p
-    → (names : List (List ℕ)) × (visit_all says names nothing_walked ≡ Ok (record { jobs = p.jobs; notes = p.notes }))
+    → visit_all says (each_once [] goals) nothing_walked ≡ Ok (record { jobs = p.jobs; notes = p.notes })
 plan_walked says [] p e = absurd (let b : Err NoTargets ≡ Ok p = e in cc)
-plan_walked says (g ∷ gs) p e = (each_once [] (g ∷ gs), by_walk (visit_all says (each_once [] (g ∷ gs)) nothing_walked) refl e)
+plan_walked says (g ∷ gs) p e = by_walk (visit_all says (each_once [] (g ∷ gs)) nothing_walked) refl e
   where
     by_walk : (r : Walking) → visit_all says (each_once [] (g ∷ gs)) nothing_walked ≡ r → as_plan (each_once [] (g ∷ gs)) r ≡ Ok p
         → visit_all says (each_once [] (g ∷ gs)) nothing_walked ≡ Ok (record { jobs = p.jobs; notes = p.notes })
@@ -399,5 +410,15 @@ plan_walked says (g ∷ gs) p e = (each_once [] (g ∷ gs), by_walk (visit_all s
         let same_notes : w.notes ≡ p.notes = cc in
         is ∙ rw (← same_jobs, ← same_notes) refl
 
+-- where there are too many jobs the walk finds no room
+pub plan_failed : (says : List ℕ → Making) (goals : List (List ℕ)) → plan_for says goals ≡ Err TooManyJobs → visit_all says (each_once [] goals) nothing_walked ≡ Err TooManyJobs
+plan_failed says [] e = absurd (let b : Err NoTargets ≡ Err TooManyJobs = e in cc)
+plan_failed says (g ∷ gs) e = by_walk (visit_all says (each_once [] (g ∷ gs)) nothing_walked) refl e
+  where
+    by_walk : (r : Walking) → visit_all says (each_once [] (g ∷ gs)) nothing_walked ≡ r → as_plan (each_once [] (g ∷ gs)) r ≡ Err TooManyJobs
+        → visit_all says (each_once [] (g ∷ gs)) nothing_walked ≡ Err TooManyJobs
+    by_walk (Err x) is h = let same_error : x ≡ TooManyJobs = cc in is ∙ ap Err same_error
+    by_walk (Ok w) is h = absurd (let b : as_plan (each_once [] (g ∷ gs)) (Ok w) ≡ Err TooManyJobs = h in cc)
+
 pub plan_serial : (says : List ℕ → Making) (goals : List (List ℕ)) (p : Plan) → plan_for says goals ≡ Ok p → IsSerial says [] p.jobs
-plan_serial says goals p e = let w = plan_walked says goals p e in goals_serial says w.0 (record { jobs = p.jobs; notes = p.notes }) w.1
+plan_serial says goals p e = goals_serial says (each_once [] goals) (record { jobs = p.jobs; notes = p.notes }) (plan_walked says goals p e)

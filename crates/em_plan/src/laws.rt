@@ -1,5 +1,5 @@
 //! Laws of the definitions: each function's contract is the law, and its body is empty.
-ghost use Rattle.std.specs.Prelude.{◌≡◌, ◌⊎◌, ◌<◌, ◌∷◌, ℕ, List, [], Ok, Some, All, slice_get, true};
+ghost use Rattle.std.specs.Prelude.{◌≡◌, ◌⊎◌, ◌↔◌, ◌<◌, ◌≤◌, ◌∷◌, length, Err, ℕ, List, [], Ok, Some, All, slice_get, true};
 ghost use Rattle.std.specs.List.{Contains};
 ghost use Rattle.std.specs.List.Sorted.{IsStrictlySortedBy};
 ghost use Rattle.std.specs.Ordering.{nat_cmp};
@@ -8,9 +8,13 @@ ghost use Rattle.em_plan.specs.declared.planned.Plan.{Plan};
 ghost use Rattle.em_plan.specs.declared.planned.PlanJob.{PlanJob};
 ghost use Rattle.em_plan.specs.declared.walk.Walked.{Walked};
 ghost use Rattle.em_plan.specs.Jobs.{is_numbered};
-ghost use Rattle.em_plan.specs.Order.{finish, is_in, visit, with_job};
-ghost use Rattle.em_plan.specs.Plans.{plan_for};
+ghost use Rattle.em_plan.specs.Order.{finish, is_in, limit, visit, with_job};
+ghost use Rattle.em_plan.specs.Plans.{each_once, plan_for};
+ghost use Rattle.em_plan.specs.Reached.{Reached};
+ghost use Rattle.em_plan.specs.Resuming.{AreOnce};
 ghost use Rattle.em_plan.specs.Serial.{StandsBefore};
+
+use crate::no::PlanNo;
 
 /// In a plan the job of each prerequisite that wasn't dropped stands before the job that needs it, and has the prerequisite's number.
 pub fn law_prerequisites_stand_before()
@@ -47,4 +51,20 @@ pub fn law_dropped()
         → finish (visit says left (t ∷ stack)) t stack (says t) (says t).needs w ≡ Ok v
         → (last : Walked) × (v ≡ with_job t stack (says t) last)
         × All (λ n. (is_in (t ∷ stack) n.name ≡ true) ⊎ (is_numbered last.jobs n.name ≡ true)) (says t).needs }
+{}
+
+/// A plan has a job for exactly the names that the goals reach: those that are in every set of names that has the goals and, with
+/// a name, what it needs.
+pub fn law_reached()
+    ensures { (says : List ℕ → Making) (goals : List (List ℕ)) (p : Plan) → plan_for says goals ≡ Ok p
+        → (n : List ℕ) → (is_numbered p.jobs n ≡ true) ↔ Reached says (each_once [] goals) n }
+{}
+
+/// A plan has at most 65,536 jobs, and where there are too many, more names than that are reached: here they are, each once.
+pub fn law_limit()
+    ensures few { (says : List ℕ → Making) (goals : List (List ℕ)) (p : Plan) → plan_for says goals ≡ Ok p
+        → length p.jobs ≤ limit }
+    ensures many { (says : List ℕ → Making) (goals : List (List ℕ))
+        → plan_for says goals ≡ Err PlanNo.TooManyJobs → (names : List (List ℕ)) × AreOnce names
+        × (limit < length names) × All (Reached says (each_once [] goals)) names }
 {}
