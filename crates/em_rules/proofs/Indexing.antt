@@ -231,13 +231,13 @@ pub number_more : (b : Bool) (i : ℕ) (numbers rest : List ℕ) → (numbers ++
 number_more true i numbers rest = append_assoc numbers (i ∷ []) rest
 number_more false i numbers rest = ap (λ xs. xs ++ rest) (append-nil numbers)
 
-pub none_past : (rules : List Rule) (i : ℕ) → length rules ≤ i → slice_get rules i ≡ None
+pub none_past : {X : Type 0} (rules : List X) (i : ℕ) → length rules ≤ i → slice_get rules i ≡ None
 none_past [] zero le = refl
 none_past [] (suc i) le = refl
 none_past (r ∷ rs) zero le = absurd (omega arith)
 none_past (r ∷ rs) (suc i) le = none_past rs i (omega arith)
 
-pub some_at : (rules : List Rule) (i : ℕ) (r : Rule) → i < length rules → r ≡ get_or rules i r → slice_get rules i ≡ Some r
-some_at [] i r lt e = absurd (omega arith)
-some_at (x ∷ rs) zero r lt e = ap Some (sym e)
-some_at (x ∷ rs) (suc i) r lt e = some_at rs i r (omega arith) e
+pub get_at : {X : Type 0} (xs : List X) (i : ℕ) (x : X) → i < length xs → x ≡ get_or xs i x → slice_get xs i ≡ Some x
+get_at [] i x lt e = absurd (omega arith)
+get_at (y ∷ xs) zero x lt e = ap Some (sym e)
+get_at (y ∷ xs) (suc i) x lt e = get_at xs i x (omega arith) e

@@ -1,11 +1,12 @@
 //! All that makefiles say.
-ghost use Rattle.std.specs.Prelude.{◌≡◌, ◌⊎◌, not, None, Some, Ok, IfOk, IfErr, OnOk, OnErr};
+ghost use Rattle.std.specs.Prelude.{◌≡◌, ◌⊎◌, not, None, Some, Ok, Err, IfOk, IfErr, OnOk, OnErr};
 ghost use Rattle.std.specs.List.{filter};
+ghost use Rattle.em_rules.specs.declared.book.BookNo.{BookNo as Fault};
 ghost use Rattle.em_rules.specs.declared.book.BookNo.TheVariants.{NoMemory as OutOfMemory};
 ghost use Rattle.em_rules.specs.Rules.{special};
 ghost use Rattle.em_rules.specs.Books.{new_book, fault_of, is_alike, with_pattern, added};
 
-use crate::made::{explicit, undotted_rule, unmatched};
+use crate::made::{explicit, into_target, undotted_rule, unmatched};
 use crate::rule::Rule;
 use crate::rules::Rules;
 use crate::special::{Special, special_of};
@@ -100,7 +101,7 @@ impl Book {
     ///
     /// - A static pattern rule comes to one rule for each target, whose prerequisites are made from what the target has for the
     ///   `%` of the target pattern, which may be empty. `Static` comes exactly where a target doesn't match, with the first
-    ///   such target.
+    ///   such target, and also where memory is short.
     /// - A pattern rule with a recipe goes to the pattern rules; one without takes out those with the same targets and
     ///   prerequisites, and isn't kept.
     ///
@@ -108,13 +109,14 @@ impl Book {
     pub fn add(&mut self, r: Rule) -> Result<(), BookNo>
         ensures ok { IfOk result (λ _. (fault_of r ≡ None) × (self.new ≡ added self.old r)) }
         ensures only { IfErr result (λ e. (e ≡ BookNo.NoMemory) ⊎ (fault_of r ≡ Some e)) }
+        ensures known { (e : Fault) → fault_of r ≡ Some e → result ≡ Err e }
         ensures err { OnErr result (self.new ≡ self.old) }
     {
+        if let Some(at) = unmatched(&r) {
+            return Err(BookNo::Static(into_target(r, at)));
+        }
         let alloc = self.rules.alloc();
         let rule = undotted_rule(alloc, r)?;
-        if let Some(target) = unmatched(&rule) {
-            return Err(BookNo::Static(target.copy(alloc)?));
-        }
         if rule.pattern {
             add_pattern(alloc, &mut self.patterns, rule)?;
         } else {

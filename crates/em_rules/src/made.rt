@@ -1,33 +1,34 @@
 //! What a rule comes to: its names as they are known, and a rule for each target of a static pattern rule.
-ghost use Rattle.std.specs.Prelude.{◌≡◌, map, find, is_none, option_map, option_copied, IfOk};
+ghost use Rattle.std.specs.Prelude.{◌≡◌, ◌<◌, map, length, slice_get, is_none, Some, None, option_map, MatchOption, IfOk};
 ghost use Rattle.em_wordlist.specs.Stems.{stem_of};
 ghost use Rattle.em_rules.specs.Dots.{undotted};
 ghost use Rattle.em_rules.specs.Static as static;
 
-use crate::dots::undotted;
+use crate::dots::{undot, undotted};
 use crate::rule::{RecipeLine, Rule};
 use em_base::{NoMemory, Seq, Text};
 use em_wordlist::{fill, stem};
 use std::alloc::Global;
 
 /// The names as they are known.
-fn undotted_all(alloc: Global, names: &[Text]) -> Result<Seq<Text>, NoMemory>
-    ensures { IfOk result (λ s. s ≡ map undotted names.now) }
+fn undotted_all(alloc: Global, names: Seq<Text>) -> Result<Seq<Text>, NoMemory>
+    ensures { IfOk result (λ s. s ≡ map undotted names) }
 {
-    let mut known = Seq::new(alloc);
+    let names = names.into_vec();
+    let mut known = Vec::with_capacity(alloc, names.len())?;
     for name in names {
-        known.push(Text::from_slice(alloc, undotted(name.bytes()))?)?;
+        known.push(undot(name))?;
     }
-    Ok(known)
+    Ok(Seq::from_vec(known))
 }
 
 /// The name as it is known, if there is one.
-fn undotted_form(alloc: Global, form: &Option<Text>) -> Result<Option<Text>, NoMemory>
-    ensures { IfOk result (λ f. f ≡ option_map undotted form.now) }
+fn undotted_form(form: Option<Text>) -> Option<Text>
+    ensures { result ≡ option_map undotted form }
 {
     match form {
-        Some(form) => Ok(Some(Text::from_slice(alloc, undotted(form.bytes()))?)),
-        None => Ok(None),
+        Some(form) => Some(undot(form)),
+        None => None,
     }
 }
 
@@ -45,31 +46,56 @@ pub(crate) fn undotted_rule(alloc: Global, r: Rule) -> Result<Rule, NoMemory>
         place,
     } = r;
     Ok(Rule {
-        targets: undotted_all(alloc, targets.items())?,
+        targets: undotted_all(alloc, targets)?,
         pattern,
-        form: undotted_form(alloc, &form)?,
-        normal: undotted_all(alloc, normal.items())?,
-        order: undotted_all(alloc, order.items())?,
+        form: undotted_form(form),
+        normal: undotted_all(alloc, normal)?,
+        order: undotted_all(alloc, order)?,
         recipe,
         place,
     })
 }
 
-/// The first target that a target pattern doesn't match.
-fn first_unmatched<'a>(form: &[u8], targets: &'a [Text]) -> Option<&'a Text>
-    ensures { option_copied result ≡ find (λ t. is_none (stem_of form.now t)) targets.now }
+/// Whether the name as it is known matches the target pattern.
+fn is_unmatched(form: &[u8], target: &Text) -> bool
+    ensures { result ≡ is_none (stem_of form.now (undotted target.now)) }
 {
-    targets.iter().find(|t| stem(form, t.bytes()).is_none())
+    stem(form, undotted(target.bytes())).is_none()
 }
 
-/// The first target of a static pattern rule that its target pattern doesn't match.
-pub(crate) fn unmatched(rule: &Rule) -> Option<&Text>
-    ensures { option_copied result ≡ static.unmatched rule.now }
+/// The place of the first target that the target pattern doesn't match.
+fn unmatched_in(form: &[u8], targets: &[Text]) -> Option<usize>
+    ensures { MatchOption result
+        (static.unmatched_by (Some form.now) (map undotted targets.now) ≡ None)
+        (λ i. (i < length targets.now) × (static.unmatched_by (Some form.now) (map undotted targets.now) ≡ slice_get (map undotted targets.now) i)) }
 {
-    match &rule.form {
-        Some(form) => first_unmatched(form.bytes(), rule.targets.items()),
+    for (i, target) in targets.iter().enumerate() {
+        if is_unmatched(form, target) {
+            return Some(i);
+        }
+    }
+    None
+}
+
+/// The place of the first target of a static pattern rule that its target pattern doesn't match. No memory.
+pub(crate) fn unmatched(r: &Rule) -> Option<usize>
+    ensures { MatchOption result
+        (static.unmatched (static.undotted_rule r.now) ≡ None)
+        (λ i. (i < length r.now.targets) × (static.unmatched (static.undotted_rule r.now) ≡ slice_get (map undotted r.now.targets) i)) }
+{
+    match &r.form {
+        Some(form) => unmatched_in(undotted(form.bytes()), r.targets.items()),
         None => None,
     }
+}
+
+/// The target at this place as it is known. No memory.
+pub(crate) fn into_target(r: Rule, at: usize) -> Text
+    requires { at < length r.targets }
+    ensures { slice_get (map undotted r.targets) at ≡ Some result }
+{
+    let mut targets = r.targets.into_vec();
+    undot(targets.swap_remove(at))
 }
 
 /// The names that the patterns are with this stem, as they are known.
