@@ -60,6 +60,10 @@ pub record AreMarked (marks : Marks) (stack : List (List ℕ)) (jobs : List Plan
   pub apart : (n : List ℕ) → is_in stack n ≡ true → number_of jobs n ≡ None
   pub few : length jobs + length stack ≤ limit
 
+-- the marks of a walk on its way, where these names are open
+abbrev pub IsMarked : List (List ℕ) → Walk → Type 0
+IsMarked stack w = AreMarked w.marks stack w.walked.jobs
+
 -- the prerequisites that are left, and one step more for each name that is open
 abbrev pub room : List Frame → ℕ
 room [] = 0
@@ -70,11 +74,11 @@ weight fs jobs = (limit - (length jobs + length fs)) * 2 ^ 64 + room fs
 
 -- a step leaves less to do, and the same end
 pub record Steps (says : List ℕ → Making) (frames : List Frame) (before : Walked) (after : Walk) : Type 0 where
-  pub marked : AreMarked after.marks (names after.begun) after.walked.jobs
+  pub marked : IsMarked (names after.begun) after
   pub end : resume says after.begun after.walked ≡ resume says frames before
   pub less : weight after.begun after.walked.jobs < weight frames before.jobs
 
--- whatever this walk comes to, it may answer so
+-- where the walk comes to this, the code may answer so
 abbrev pub Fails : Walking → PlanNo → Type 0
 Fails whole no.NoMemory = Unit {0}
 Fails whole no.TooManyJobs = whole ≡ Err no.TooManyJobs

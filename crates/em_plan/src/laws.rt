@@ -19,23 +19,28 @@ use crate::no::PlanNo;
 /// In a plan the job of each prerequisite that wasn't dropped stands before the job that needs it, and has the prerequisite's number.
 pub fn law_prerequisites_stand_before()
     ensures normal { (says : List ℕ → Making) (goals : List (List ℕ)) (p : Plan) → plan_for says goals ≡ Ok p
-        → (k : ℕ) (job : PlanJob) → slice_get p.jobs k ≡ Some job → All (StandsBefore p.jobs k) job.normal }
+        → (k : ℕ) (job : PlanJob) → slice_get p.jobs k ≡ Some job
+        → All (StandsBefore p.jobs k) job.normal }
     ensures order { (says : List ℕ → Making) (goals : List (List ℕ)) (p : Plan) → plan_for says goals ≡ Ok p
-        → (k : ℕ) (job : PlanJob) → slice_get p.jobs k ≡ Some job → All (StandsBefore p.jobs k) job.order }
+        → (k : ℕ) (job : PlanJob) → slice_get p.jobs k ≡ Some job
+        → All (StandsBefore p.jobs k) job.order }
 {}
 
 /// The jobs that a job waits for rise, and stand before it.
 pub fn law_waits()
     ensures rise { (says : List ℕ → Making) (goals : List (List ℕ)) (p : Plan) → plan_for says goals ≡ Ok p
-        → (k : ℕ) (job : PlanJob) → slice_get p.jobs k ≡ Some job → IsStrictlySortedBy nat_cmp job.waits }
+        → (k : ℕ) (job : PlanJob) → slice_get p.jobs k ≡ Some job
+        → IsStrictlySortedBy nat_cmp job.waits }
     ensures below { (says : List ℕ → Making) (goals : List (List ℕ)) (p : Plan) → plan_for says goals ≡ Ok p
-        → (k : ℕ) (job : PlanJob) → slice_get p.jobs k ≡ Some job → (i : ℕ) → Contains job.waits i → i < k }
+        → (k : ℕ) (job : PlanJob) → slice_get p.jobs k ≡ Some job
+        → (i : ℕ) → Contains job.waits i → i < k }
 {}
 
 /// Each name stands once in a plan.
 pub fn law_once()
     ensures { (says : List ℕ → Making) (goals : List (List ℕ)) (p : Plan) → plan_for says goals ≡ Ok p
-        → (i k : ℕ) (a b : PlanJob) → slice_get p.jobs i ≡ Some a → slice_get p.jobs k ≡ Some b → i < k → a.target ≡ b.target → ⊥ }
+        → (i k : ℕ) (a b : PlanJob) → slice_get p.jobs i ≡ Some a → slice_get p.jobs k ≡ Some b
+        → i < k → a.target ≡ b.target → ⊥ }
 {}
 
 /// Without circles nothing is said: where names can be ranked so that each prerequisite has a lower rank than its target.
@@ -50,7 +55,8 @@ pub fn law_dropped()
     ensures { (says : List ℕ → Making) (left : ℕ) (stack : List (List ℕ)) (t : List ℕ) (w v : Walked)
         → finish (visit says left (t ∷ stack)) t stack (says t) (says t).needs w ≡ Ok v
         → (last : Walked) × (v ≡ with_job t stack (says t) last)
-        × All (λ n. (is_in (t ∷ stack) n.name ≡ true) ⊎ (is_numbered last.jobs n.name ≡ true)) (says t).needs }
+        × All (λ n. (is_in (t ∷ stack) n.name ≡ true) ⊎ (is_numbered last.jobs n.name ≡ true))
+        (says t).needs }
 {}
 
 /// A plan has a job for exactly the names that the goals reach: those that are in every set of names that has the goals and, with

@@ -206,7 +206,8 @@ impl Makefile<'_> {
         name: &[u8],
         own: Making,
     ) -> Result<Making, NoMemory>
-        ensures { IfOk result (λ m. m ≡ with_pattern self.now.book.now.patterns found name.now own) }
+        ensures { IfOk result
+            (λ m. m ≡ with_pattern self.now.book.now.patterns found name.now own) }
     {
         let Some(Found { rule, stem }) = found else {
             return Ok(own);
@@ -219,7 +220,8 @@ impl Makefile<'_> {
 
     /// How a name is made, where a pattern rule is looked for if it isn't phony and has no recipe.
     fn by_patterns(&self, alloc: Global, name: &[u8], own: Making) -> Result<Making, NoMemory>
-        ensures { IfOk result (λ m. m ≡ made_by self.now.book.now.rules self.now.book.now.patterns self.now.tree.now self.now.cwd.now name.now own) }
+        ensures { let book = self.now.book.now in IfOk result
+            (λ m. m ≡ made_by book.rules book.patterns self.now.tree.now self.now.cwd.now name.now own) }
     {
         if own.phony || own.recipe.is_some() {
             return Ok(own);

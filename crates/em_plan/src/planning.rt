@@ -30,8 +30,10 @@ pub fn plan(
     cwd: &Path,
 ) -> Result<Plan, PlanNo>
     ensures ok { IfOk result (λ p. plan_of book.now goals.now tree.now cwd.now ≡ Ok p) }
-    ensures err { IfErr result (λ e. (e ≡ PlanNo.NoMemory) ⊎ (plan_of book.now goals.now tree.now cwd.now ≡ Err e)) }
-    ensures no_targets { (result ≡ Err PlanNo.NoTargets) ↔ ((goals.now ≡ []) × (book.now.default_goal ≡ None)) }
+    ensures err { IfErr result
+        (λ e. (e ≡ PlanNo.NoMemory) ⊎ (plan_of book.now goals.now tree.now cwd.now ≡ Err e)) }
+    ensures no_targets { (result ≡ Err PlanNo.NoTargets)
+        ↔ ((goals.now ≡ []) × (book.now.default_goal ≡ None)) }
 {
     let goals = asked(goals, &book.default_goal);
     if goals.is_empty() {

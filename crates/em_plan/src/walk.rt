@@ -5,7 +5,7 @@ ghost use Rattle.std.specs.FinMap as finmap;
 ghost use Rattle.em_plan.specs.declared.making.Making.{Making as Made};
 ghost use Rattle.em_plan.specs.Makings.{says};
 ghost use Rattle.em_plan.specs.Order.{and_then, note, visit, visit_all, nothing_walked, limit};
-ghost use Rattle.em_plan.specs.Resuming.{names, number_in, reach, resume, AreMarked, Steps, Fails, weight};
+ghost use Rattle.em_plan.specs.Resuming.{names, number_in, reach, resume, IsMarked, Steps, Fails, weight};
 
 use crate::job::job;
 use crate::making::{Makefile, Making};
@@ -95,12 +95,16 @@ fn later(frame: Frame) -> Frame
 
 /// The walk comes to a name that it hasn't met.
 fn enter(alloc: Global, makefile: Makefile, walk: &mut Walk, name: Text) -> Result<(), PlanNo>
-    requires marked { AreMarked walk.old.marks (names walk.old.begun) walk.old.walked.jobs }
+    requires marked { IsMarked (names walk.old.begun) walk.old }
     requires new { finmap.get walk.old.marks name ≡ None }
-    ensures marked { OnOk result (AreMarked walk.new.marks (names walk.new.begun) walk.new.walked.jobs) }
-    ensures end { OnOk result (resume (says makefile.entry) walk.new.begun walk.new.walked ≡ and_then (reach (says makefile.entry) (names walk.old.begun) walk.old.walked name) (resume (says makefile.entry) walk.old.begun)) }
-    ensures less { OnOk result (weight walk.new.begun walk.new.walked.jobs ≤ weight walk.old.begun walk.old.walked.jobs) }
-    ensures err { IfErr result (λ e. Fails (reach (says makefile.entry) (names walk.old.begun) walk.old.walked name) e) }
+    ensures marked { OnOk result (IsMarked (names walk.new.begun) walk.new) }
+    ensures end { let said = says makefile.entry in OnOk result
+        (resume said walk.new.begun walk.new.walked
+        ≡ and_then (reach said (names walk.old.begun) walk.old.walked name) (resume said walk.old.begun)) }
+    ensures less { OnOk result
+        (weight walk.new.begun walk.new.walked.jobs ≤ weight walk.old.begun walk.old.walked.jobs) }
+    ensures err { IfErr result
+        (Fails (reach (says makefile.entry) (names walk.old.begun) walk.old.walked name)) }
 {
     if !has_room(walk.walked.jobs.len(), walk.begun.len()) {
         return Err(PlanNo::TooManyJobs);
@@ -117,10 +121,11 @@ fn enter(alloc: Global, makefile: Makefile, walk: &mut Walk, name: Text) -> Resu
 
 /// The innermost name's next prerequisite is open: it is dropped, with a note.
 fn drop_circular(alloc: Global, walk: &mut Walk, frame: Frame, name: &[u8]) -> Result<(), PlanNo>
-    requires marked { AreMarked walk.old.marks (frame.target ∷ names walk.old.begun) walk.old.walked.jobs }
+    requires marked { IsMarked (frame.target ∷ names walk.old.begun) walk.old }
     requires next { option_map (λ x. x.name) (slice_get frame.making.needs frame.next) ≡ Some name.now }
     requires circular { finmap.get walk.old.marks name.now ≡ Some Mark.Open }
-    ensures ok { OnOk result ((f : List ℕ → Made) → Steps f (frame ∷ walk.old.begun) walk.old.walked walk.new) }
+    ensures ok { OnOk result
+        ((said : List ℕ → Made) → Steps said (frame ∷ walk.old.begun) walk.old.walked walk.new) }
     ensures only { IfErr result (λ e. e ≡ PlanNo.NoMemory) }
 {
     let text = note(alloc, frame.target.bytes(), name)?;
@@ -137,11 +142,13 @@ fn go_into(
     frame: Frame,
     name: Text,
 ) -> Result<(), PlanNo>
-    requires marked { AreMarked walk.old.marks (frame.target ∷ names walk.old.begun) walk.old.walked.jobs }
+    requires marked { IsMarked (frame.target ∷ names walk.old.begun) walk.old }
     requires next { option_map (λ x. x.name) (slice_get frame.making.needs frame.next) ≡ Some name }
     requires new { finmap.get walk.old.marks name ≡ None }
-    ensures ok { OnOk result (Steps (says makefile.entry) (frame ∷ walk.old.begun) walk.old.walked walk.new) }
-    ensures err { IfErr result (λ e. Fails (resume (says makefile.entry) (frame ∷ walk.old.begun) walk.old.walked) e) }
+    ensures ok { OnOk result
+        (Steps (says makefile.entry) (frame ∷ walk.old.begun) walk.old.walked walk.new) }
+    ensures err { IfErr result
+        (Fails (resume (says makefile.entry) (frame ∷ walk.old.begun) walk.old.walked)) }
 {
     walk.begun.push(later(frame))?;
     enter(alloc, makefile, walk, name)?;
@@ -150,9 +157,11 @@ fn go_into(
 
 /// The innermost name's next prerequisite has a number.
 fn pass(walk: &mut Walk, frame: Frame) -> Result<(), PlanNo>
-    requires marked { AreMarked walk.old.marks (frame.target ∷ names walk.old.begun) walk.old.walked.jobs }
-    requires past { IsSomeAnd (slice_get frame.making.needs frame.next) (λ x. is_some (number_in walk.old.marks x.name) ≡ true) }
-    ensures ok { OnOk result ((f : List ℕ → Made) → Steps f (frame ∷ walk.old.begun) walk.old.walked walk.new) }
+    requires marked { IsMarked (frame.target ∷ names walk.old.begun) walk.old }
+    requires past { IsSomeAnd (slice_get frame.making.needs frame.next)
+        (λ x. is_some (number_in walk.old.marks x.name) ≡ true) }
+    ensures ok { OnOk result
+        ((said : List ℕ → Made) → Steps said (frame ∷ walk.old.begun) walk.old.walked walk.new) }
     ensures only { IfErr result (λ e. e ≡ PlanNo.NoMemory) }
 {
     walk.begun.push(later(frame))?;
@@ -171,9 +180,10 @@ fn above(alloc: Global, begun: &Stack<Frame>) -> Result<Option<Text>, NoMemory>
 
 /// The innermost name, whose prerequisites have been visited, gets the next number.
 fn close(alloc: Global, walk: &mut Walk, frame: Frame) -> Result<(), PlanNo>
-    requires marked { AreMarked walk.old.marks (frame.target ∷ names walk.old.begun) walk.old.walked.jobs }
+    requires marked { IsMarked (frame.target ∷ names walk.old.begun) walk.old }
     requires none { slice_get frame.making.needs frame.next ≡ None }
-    ensures ok { OnOk result ((f : List ℕ → Made) → Steps f (frame ∷ walk.old.begun) walk.old.walked walk.new) }
+    ensures ok { OnOk result
+        ((said : List ℕ → Made) → Steps said (frame ∷ walk.old.begun) walk.old.walked walk.new) }
     ensures only { IfErr result (λ e. e ≡ PlanNo.NoMemory) }
 {
     let Frame {
@@ -197,9 +207,11 @@ fn step(
     walk: &mut Walk,
     frame: Frame,
 ) -> Result<(), PlanNo>
-    requires marked { AreMarked walk.old.marks (frame.target ∷ names walk.old.begun) walk.old.walked.jobs }
-    ensures ok { OnOk result (Steps (says makefile.entry) (frame ∷ walk.old.begun) walk.old.walked walk.new) }
-    ensures err { IfErr result (λ e. Fails (resume (says makefile.entry) (frame ∷ walk.old.begun) walk.old.walked) e) }
+    requires marked { IsMarked (frame.target ∷ names walk.old.begun) walk.old }
+    ensures ok { OnOk result
+        (Steps (says makefile.entry) (frame ∷ walk.old.begun) walk.old.walked walk.new) }
+    ensures err { IfErr result
+        (Fails (resume (says makefile.entry) (frame ∷ walk.old.begun) walk.old.walked)) }
 {
     let Some(need) = frame.making.needs.get(frame.next) else {
         return close(alloc, walk, frame);
@@ -219,12 +231,14 @@ fn step(
 
 /// The walk from a goal.
 fn walk_from(alloc: Global, makefile: Makefile, walk: &mut Walk, goal: &Text) -> Result<(), PlanNo>
-    requires marked { AreMarked walk.old.marks [] walk.old.walked.jobs }
+    requires marked { IsMarked [] walk.old }
     requires empty { walk.old.begun ≡ [] }
-    ensures marked { OnOk result (AreMarked walk.new.marks [] walk.new.walked.jobs) }
+    ensures marked { OnOk result (IsMarked [] walk.new) }
     ensures empty { OnOk result (walk.new.begun ≡ []) }
-    ensures ok { OnOk result (visit (says makefile.entry) limit [] walk.old.walked goal.now ≡ Ok walk.new.walked) }
-    ensures err { IfErr result (λ e. Fails (visit (says makefile.entry) limit [] walk.old.walked goal.now) e) }
+    ensures ok { OnOk result
+        (visit (says makefile.entry) limit [] walk.old.walked goal.now ≡ Ok walk.new.walked) }
+    ensures err { IfErr result
+        (Fails (visit (says makefile.entry) limit [] walk.old.walked goal.now)) }
 {
     if mark_at(&walk.marks, goal.bytes()).is_some() {
         return Ok(());
@@ -238,9 +252,11 @@ fn walk_from(alloc: Global, makefile: Makefile, walk: &mut Walk, goal: &Text) ->
 
 /// The walk from each of these names in turn: it ends with nothing open.
 pub(crate) fn walk_all(alloc: Global, makefile: Makefile, goals: &[Text]) -> Result<Walk, PlanNo>
-    ensures marked { IfOk result (λ w. AreMarked w.marks [] w.walked.jobs) }
-    ensures ok { IfOk result (λ w. visit_all (says makefile.entry) goals.now nothing_walked ≡ Ok w.walked) }
-    ensures err { IfErr result (λ e. Fails (visit_all (says makefile.entry) goals.now nothing_walked) e) }
+    ensures marked { IfOk result (λ w. IsMarked [] w) }
+    ensures ok { IfOk result
+        (λ w. visit_all (says makefile.entry) goals.now nothing_walked ≡ Ok w.walked) }
+    ensures err { IfErr result
+        (Fails (visit_all (says makefile.entry) goals.now nothing_walked)) }
 {
     let mut walk = Walk {
         begun: Stack::new(alloc),
