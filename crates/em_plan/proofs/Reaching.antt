@@ -27,8 +27,6 @@ use Rattle.em_plan.specs.Serial.{IsNext, IsSerial}
 use Rattle.em_plan.proofs.Numbers.{number_kept, number_last}
 use Rattle.em_plan.proofs.Serial.{all_by_recursion, each_place, Finished, Keeps, Kept, finish_kept, kept_number, number_place, Visits, visit_kept, goals_kept, plan_walked, plan_failed}
 
-
-
 -- ---- a set that has what its names need
 
 module _ (says : List ℕ → Making) (set : List ℕ → Bool) where
@@ -192,7 +190,8 @@ once_append : (xs ys : List (List ℕ)) → AreOnce xs → AreOnce ys → ((q : 
 once_append [] ys a b h = b
 once_append (x ∷ xs) ys a b h = (
   list_any-append (same x) xs ys ∙ rw (a.0, h x (rw (own_key x) refl)) refl,
-  once_append xs ys a.1 b (λ q there. h q (rw there (or_true (same q x)))))
+  once_append xs ys a.1 b (λ q there. h q (rw there (or_true (same q x)))),
+)
   where
     or_true : (b : Bool) → (b || true) ≡ true
     or_true true = refl
@@ -227,8 +226,10 @@ module _ (says : List ℕ → Making) where
       → Overfull says stack w (λ set. set n ≡ true)
   no_room stack w n once a new full = record {
     names = n ∷ (stack ++ targets w.jobs);
-    once = (list_any-append (same n) stack (targets w.jobs) ∙ rw (once.0, sym (is_target w.jobs 0 n) ∙ new) refl,
-    once_append stack (targets w.jobs) once.1 a.once (λ q there. sym (is_target w.jobs 0 q) ∙ ap is_some (a.away q there)));
+    once = (
+      list_any-append (same n) stack (targets w.jobs) ∙ rw (once.0, sym (is_target w.jobs 0 n) ∙ new) refl,
+      once_append stack (targets w.jobs) once.1 a.once (λ q there. sym (is_target w.jobs 0 q) ∙ ap is_some (a.away q there)),
+    );
     many = rw (length-append stack (targets w.jobs), length-map w.jobs (λ (j : PlanJob). j.target)) (omega arith);
     reached = λ set closed open_names jobs in_n. (in_n, all_append (λ (q : List ℕ). set q ≡ true) stack (targets w.jobs) open_names (targets_in says set w.jobs jobs));
   }
@@ -362,7 +363,7 @@ reached_is says goals p e n = (onto (number_of p.jobs n) refl, λ r. r (is_numbe
     onto (Some k) is h = λ set closed all.
         let d = number_place p.jobs 0 n k is in
         let there = at_place (λ (j : PlanJob). set j.target ≡ true) p.jobs d.0 d.3.0
-            (goals_in says set closed (each_once [] goals) nothing_walked (record { jobs = p.jobs; notes = p.notes }) (all_by_recursion (λ (g : List ℕ). set g ≡ true) (each_once [] goals) all) tt (plan_walked says goals p e)) d.3.1 in
+        (goals_in says set closed (each_once [] goals) nothing_walked (record { jobs = p.jobs; notes = p.notes }) (all_by_recursion (λ (g : List ℕ). set g ≡ true) (each_once [] goals) all) tt (plan_walked says goals p e)) d.3.1 in
         ap set (sym d.3.2) ∙ there
 
     closed : IsClosed says (is_numbered p.jobs)
@@ -384,6 +385,10 @@ plan_few says goals p e = goals_few says (each_once [] goals) nothing_walked (re
 pub too_many : (says : List ℕ → Making) (goals : List (List ℕ)) → plan_for says goals ≡ Err TooManyJobs
     → (names : List (List ℕ)) × AreOnce names × (limit < length names) × All (Reached says (each_once [] goals)) names
 too_many says goals e =
-    let o = goals_over says (each_once [] goals) nothing_walked TooManyJobs none_apart (plan_failed says goals e) in
-    (o.names, o.once, o.many, each_place (Reached says (each_once [] goals)) o.names (λ i n at set closed all.
-    at_place (λ (q : List ℕ). set q ≡ true) o.names i n (o.reached set closed tt tt (all_by_recursion (λ (g : List ℕ). set g ≡ true) (each_once [] goals) all)) at))
+    let o = goals_over says (each_once [] goals) nothing_walked TooManyJobs none_apart (plan_failed says goals e) in (
+      o.names,
+      o.once,
+      o.many,
+      each_place (Reached says (each_once [] goals)) o.names (λ i n at set closed all.
+          at_place (λ (q : List ℕ). set q ≡ true) o.names i n (o.reached set closed tt tt (all_by_recursion (λ (g : List ℕ). set g ≡ true) (each_once [] goals) all)) at),
+    )

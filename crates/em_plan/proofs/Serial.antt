@@ -73,7 +73,8 @@ module _ (says : List ℕ → Making) where
       serial = (record { new = new; is = refl }, tt);
       apart = λ q there none. number_other w.jobs job q (other q there) ∙ none;
     },
-    ap is_some (number_last w.jobs job n new ∙ ap (λ b. cond b (Some (length w.jobs)) None) (own_key n)))
+    ap is_some (number_last w.jobs job n new ∙ ap (λ b. cond b (Some (length w.jobs)) None) (own_key n)),
+  )
     where
       job : PlanJob
       job = job_of (number_of w.jobs) n (slice_get stack 0) (says n)
@@ -165,9 +166,10 @@ module _ (says : List ℕ → Making) where
     where
       opened : Finished (λ _. Unit {0}) n stack (says n).needs w v → number_of w.jobs n ≡ None → Kept says stack w v × (is_numbered v.jobs n ≡ true)
       opened f new =
-          let job = kept_job stack f.last n apart (f.kept.apart n (rw (own_key n) refl) new) in
-          (kept_both stack (n ∷ stack) w f.last v (λ q there. rw there (or_true (same q n))) f.kept (subst (λ (u : Walked). Kept says stack f.last u) (sym f.is) job.0),
-          ap (λ (u : Walked). is_numbered u.jobs n) f.is ∙ job.1)
+          let job = kept_job stack f.last n apart (f.kept.apart n (rw (own_key n) refl) new) in (
+            kept_both stack (n ∷ stack) w f.last v (λ q there. rw there (or_true (same q n))) f.kept (subst (λ (u : Walked). Kept says stack f.last u) (sym f.is) job.0),
+            ap (λ (u : Walked). is_numbered u.jobs n) f.is ∙ job.1,
+          )
         where
           or_true : (b : Bool) → (b || true) ≡ true
           or_true true = refl
@@ -333,9 +335,12 @@ all_by_recursion P (x ∷ xs) h = (h 0 x (omega arith), all_by_recursion P xs (�
 pub dropped_open : (says : List ℕ → Making) (left : ℕ) (stack : List (List ℕ)) (t : List ℕ) (w v : Walked) → finish (visit says left (t ∷ stack)) t stack (says t) (says t).needs w ≡ Ok v
     → (last : Walked) × (v ≡ with_job t stack (says t) last) × All (λ (n : Need). (is_in (t ∷ stack) n.name ≡ true) ⊎ (is_numbered last.jobs n.name ≡ true)) (says t).needs
 dropped_open says left stack t w v e =
-    let f = finish_kept says (λ _. Unit {0}) (λ _ _ _ p. p) (visit says left (t ∷ stack)) t stack (visit_kept says left (t ∷ stack)) (λ _ _ _ _ p _. p) (says t).needs w v tt e in
-    (f.last, f.is, each_place (λ (n : Need). (is_in (t ∷ stack) n.name ≡ true) ⊎ (is_numbered f.last.jobs n.name ≡ true)) (says t).needs (λ i n at. by_cases (is_in (t ∷ stack) n.name)
-    (λ b. is_in (t ∷ stack) n.name ≡ b → (b ≡ true) ⊎ (is_numbered f.last.jobs n.name ≡ true)) (λ _ _. inl refl) (λ _ away. inr (f.met i n at away)) refl))
+    let f = finish_kept says (λ _. Unit {0}) (λ _ _ _ p. p) (visit says left (t ∷ stack)) t stack (visit_kept says left (t ∷ stack)) (λ _ _ _ _ p _. p) (says t).needs w v tt e in (
+      f.last,
+      f.is,
+      each_place (λ (n : Need). (is_in (t ∷ stack) n.name ≡ true) ⊎ (is_numbered f.last.jobs n.name ≡ true)) (says t).needs (λ i n at. by_cases (is_in (t ∷ stack) n.name)
+          (λ b. is_in (t ∷ stack) n.name ≡ b → (b ≡ true) ⊎ (is_numbered f.last.jobs n.name ≡ true)) (λ _ _. inl refl) (λ _ away. inr (f.met i n at away)) refl),
+    )
 
 -- ---- without circles
 

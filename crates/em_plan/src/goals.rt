@@ -30,7 +30,8 @@ fn add_once(
     name: &[u8],
 ) -> Result<(), NoMemory>
     requires { (q : List ℕ) → is_some (finmap.get there.old q) ≡ is_in names.old q }
-    ensures there { OnOk result ((q : List ℕ) → is_some (finmap.get there.new q) ≡ is_in names.new q) }
+    ensures there { OnOk result
+        ((q : List ℕ) → is_some (finmap.get there.new q) ≡ is_in names.new q) }
     ensures names { OnOk result (names.new ≡ once_more names.old name.now) }
 {
     if there.get(name).is_some() {
@@ -64,7 +65,11 @@ fn add_number(all: &mut Seq<u32>, number: Option<u32>) -> Result<(), NoMemory>
 }
 
 /// The numbers of those names that have one.
-pub(crate) fn numbers(alloc: Global, marks: &Table<Mark>, names: &[Text]) -> Result<Seq<u32>, NoMemory>
+pub(crate) fn numbers(
+    alloc: Global,
+    marks: &Table<Mark>,
+    names: &[Text],
+) -> Result<Seq<u32>, NoMemory>
     ensures { IfOk result (λ ns. ns ≡ filter_map (number_in marks.now) names.now) }
 {
     let mut all = Seq::new(alloc);

@@ -30,10 +30,10 @@ struct Remaining {
 impl Remaining {
     /// Appends the prerequisite, if it has a number.
     fn add(&mut self, marks: &Table<Mark>, need: Need) -> Result<(), NoMemory>
-        ensures normal { OnOk result
-            (self.new.normal ≡ self.old.normal ++ pres (number_in marks.now) (normal_ones (need ∷ []))) }
-        ensures order { OnOk result
-            (self.new.order ≡ self.old.order ++ pres (number_in marks.now) (order_only_ones (need ∷ []))) }
+        ensures normal { OnOk result (self.new.normal
+            ≡ self.old.normal ++ pres (number_in marks.now) (normal_ones (need ∷ []))) }
+        ensures order { OnOk result (self.new.order
+            ≡ self.old.order ++ pres (number_in marks.now) (order_only_ones (need ∷ []))) }
         ensures jobs { OnOk result (self.new.jobs.items
             ≡ self.old.jobs.items ++ map (λ p. p.job) (pres (number_in marks.now) (need ∷ []))) }
     {
@@ -54,7 +54,8 @@ impl Remaining {
 /// The prerequisites that have a number.
 fn with_numbers(alloc: Global, marks: &Table<Mark>, needs: Seq<Need>) -> Result<Remaining, NoMemory>
     ensures normal { IfOk result (λ r. r.normal ≡ pres (number_in marks.now) (normal_ones needs)) }
-    ensures order { IfOk result (λ r. r.order ≡ pres (number_in marks.now) (order_only_ones needs)) }
+    ensures order { IfOk result
+        (λ r. r.order ≡ pres (number_in marks.now) (order_only_ones needs)) }
     ensures jobs { IfOk result
         (λ r. r.jobs.items ≡ map (λ p. p.job) (pres (number_in marks.now) needs)) }
 {

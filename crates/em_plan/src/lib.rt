@@ -15,3 +15,5 @@ pub use no::PlanNo;
 pub use planned::{Plan, PlanJob, Pre};
 pub use planning::plan;
 
+#[cfg(test)]
+mod tests;

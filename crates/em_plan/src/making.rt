@@ -8,8 +8,8 @@ ghost use Rattle.em_plan.specs.Makings.{made_by, need, needs_at, needs_in, own_m
 use em_base::{NoMemory, Seq, Text};
 use em_implicit::{Found, find, prerequisites_of};
 use em_path::Path;
-use em_tree::Tree;
 use em_rules::{Book, RecipeLine, Rule, Rules};
+use em_tree::Tree;
 use std::alloc::Global;
 
 /// A prerequisite, as it is written.
@@ -220,8 +220,8 @@ impl Makefile<'_> {
 
     /// How a name is made, where a pattern rule is looked for if it isn't phony and has no recipe.
     fn by_patterns(&self, alloc: Global, name: &[u8], own: Making) -> Result<Making, NoMemory>
-        ensures { let book = self.now.book.now in IfOk result
-            (λ m. m ≡ made_by book.rules book.patterns self.now.tree.now self.now.cwd.now name.now own) }
+        ensures { let book = self.now.book.now in IfOk result (λ m. m
+            ≡ made_by book.rules book.patterns self.now.tree.now self.now.cwd.now name.now own) }
     {
         if own.phony || own.recipe.is_some() {
             return Ok(own);

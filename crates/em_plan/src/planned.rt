@@ -1,7 +1,7 @@
 //! The plan as data.
 
-use em_rules::RecipeLine;
 use em_base::{Seq, Text};
+use em_rules::RecipeLine;
 
 /// A prerequisite, and the number of its job.
 #[derive(Debug, Drop)]

@@ -100,7 +100,8 @@ fn enter(alloc: Global, makefile: Makefile, walk: &mut Walk, name: Text) -> Resu
     ensures marked { OnOk result (IsMarked (names walk.new.begun) walk.new) }
     ensures end { let said = says makefile.entry in OnOk result
         (resume said walk.new.begun walk.new.walked
-        ≡ and_then (reach said (names walk.old.begun) walk.old.walked name) (resume said walk.old.begun)) }
+        ≡ and_then (reach said (names walk.old.begun) walk.old.walked name)
+        (resume said walk.old.begun)) }
     ensures less { OnOk result
         (weight walk.new.begun walk.new.walked.jobs ≤ weight walk.old.begun walk.old.walked.jobs) }
     ensures err { IfErr result
@@ -122,7 +123,8 @@ fn enter(alloc: Global, makefile: Makefile, walk: &mut Walk, name: Text) -> Resu
 /// The innermost name's next prerequisite is open: it is dropped, with a note.
 fn drop_circular(alloc: Global, walk: &mut Walk, frame: Frame, name: &[u8]) -> Result<(), PlanNo>
     requires marked { IsMarked (frame.target ∷ names walk.old.begun) walk.old }
-    requires next { option_map (λ x. x.name) (slice_get frame.making.needs frame.next) ≡ Some name.now }
+    requires next { option_map (λ x. x.name) (slice_get frame.making.needs frame.next)
+        ≡ Some name.now }
     requires circular { finmap.get walk.old.marks name.now ≡ Some Mark.Open }
     ensures ok { OnOk result
         ((said : List ℕ → Made) → Steps said (frame ∷ walk.old.begun) walk.old.walked walk.new) }
@@ -201,12 +203,7 @@ fn close(alloc: Global, walk: &mut Walk, frame: Frame) -> Result<(), PlanNo>
 }
 
 /// One step at the innermost name.
-fn step(
-    alloc: Global,
-    makefile: Makefile,
-    walk: &mut Walk,
-    frame: Frame,
-) -> Result<(), PlanNo>
+fn step(alloc: Global, makefile: Makefile, walk: &mut Walk, frame: Frame) -> Result<(), PlanNo>
     requires marked { IsMarked (frame.target ∷ names walk.old.begun) walk.old }
     ensures ok { OnOk result
         (Steps (says makefile.entry) (frame ∷ walk.old.begun) walk.old.walked walk.new) }

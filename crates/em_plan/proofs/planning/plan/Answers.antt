@@ -9,7 +9,7 @@ pub returns-clause-ok : goal.returns-clause-ok
 unfolding plan_of says
 returns-clause-ok c =
     let planned = plan_some (making_of c.args.book.now.rules c.args.book.now.patterns c.args.tree.now c.args.cwd.now) c.asked-goals.result.now _ c.in_ok-marks.field-0.marks c.in_ok-marks.field-0.walked _
-        (sym c.is_empty.ensures ∙ c.if-is_empty.false) c.in_ok-names.ensures (rw c.items.ensures at c.in_ok-marks.ensures.ok) c.in_ok-marks.ensures.marked (rw c.items-2.ensures at c.in_ok-goals.ensures) in
+    (sym c.is_empty.ensures ∙ c.if-is_empty.false) c.in_ok-names.ensures (rw c.items.ensures at c.in_ok-marks.ensures.ok) c.in_ok-marks.ensures.marked (rw c.items-2.ensures at c.in_ok-goals.ensures) in
     ap (plan_for (making_of c.args.book.now.rules c.args.book.now.patterns c.args.tree.now c.args.cwd.now)) (sym c.asked-goals.ensures) ∙ planned
 
 pub returns-then-is_empty-clause-err : goal.returns-then-is_empty-clause-err
