@@ -1,10 +1,10 @@
 //! What the makefiles say of a name.
 ghost use Rattle.std.specs.Prelude.{◌≡◌, ◌++◌, ◌<◌, ◌^◌, length, map, IfOk, OnOk, option_copied, slice_get, Some};
-ghost use Rattle.std.specs.List.{flat_map};
 ghost use Rattle.std.specs.Option.{option_and_then};
 ghost use Rattle.em_rules.specs.Rules.{recipe_rule};
-ghost use Rattle.em_plan.specs.Makings.{made_by, need, needs_at, needs_in, own_making, own_needs, recipe_by, recipe_first, says, stem_by, with_pattern, with_rule};
+ghost use Rattle.em_plan.specs.Makings.{made_by, need, needs_at, needs_in, own_making, own_needs, recipe_first, says, stem_by, with_pattern, with_rule};
 
+use crate::planned::copied;
 use em_base::{NoMemory, Seq, Text};
 use em_implicit::{Found, find, prerequisites_of};
 use em_path::Path;
@@ -143,10 +143,7 @@ fn recipe_of(alloc: Global, rule: Option<&Rule>) -> Result<Option<Seq<RecipeLine
 {
     match rule {
         None => Ok(None),
-        Some(rule) => match &rule.recipe {
-            None => Ok(None),
-            Some(lines) => Ok(Some(lines.copy(alloc)?)),
-        },
+        Some(rule) => copied(alloc, &rule.recipe),
     }
 }
 

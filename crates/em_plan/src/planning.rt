@@ -19,9 +19,9 @@ use std::alloc::Global;
 /// `NoTargets` comes exactly where no goal is given and the book has no default goal, also where memory is short. `TooManyJobs`
 /// comes exactly where more than 65,536 names are reached.
 ///
-/// A few searches by name for each name that is reached and for each of its prerequisites, and `find` for each name that isn't phony and
-/// has no recipe. The names that are open lie on a stack of its own, so the depth is bounded by nothing else. A name is copied
-/// twice for each prerequisite that is written, and up to four times for its job.
+/// A few searches by name for each name that is reached and for each of its prerequisites, and `find` for each name that isn't phony
+/// and has no recipe. The names that are open lie on a stack of their own, which the limit alone bounds. A prerequisite's name is
+/// copied once (four times where a pattern rule makes it), a job's name three times, its recipe once, and the name that needs it once.
 pub fn plan(
     alloc: Global,
     book: &Book,

@@ -1,5 +1,5 @@
 //! The walk over the prerequisites, with a stack of its own and a mark for each name.
-ghost use Rattle.std.specs.Prelude.{ℕ, List, Ok, ◌≡◌, ◌<◌, ◌≤◌, ◌∷◌, ◌++◌, [], ◌+◌, nat_lt, length, true, false, Some, None, slice_get, IfOk, IfErr, IsSomeAnd, OnOk, is_some};
+ghost use Rattle.std.specs.Prelude.{ℕ, List, Ok, ◌≡◌, ◌<◌, ◌≤◌, ◌∷◌, [], ◌+◌, nat_lt, length, true, Some, None, slice_get, IfOk, IfErr, IsSomeAnd, OnOk, is_some};
 ghost use Rattle.std.specs.Option.{option_map};
 ghost use Rattle.std.specs.FinMap as finmap;
 ghost use Rattle.em_plan.specs.declared.making.Making.{Making as Made};
