@@ -3,7 +3,7 @@
 --     plan_none, plan_some, plan_fails      what the plan is without goals, and where there are some, put together from what the code's calls give
 use Rattle.std.proofs.Common.{◌≡◌, ◌⊎◌, inl, inr, ℕ, suc, arith, Bool, true, false, cond, ◌||◌, List, [], ◌∷◌, ◌++◌, length, nat_eq, Option, Some, Ok, Err, refl, sym, ap, ◌∙◌}
 use Rattle.std.specs.Prelude.{is_some}
-use Rattle.std.specs.List.{list_any, filter_map}
+use Rattle.std.specs.List.{filter_map}
 use Rattle.std.specs.FinMap.{FinMap, get, insert, empty, get-empty}
 use Rattle.std.specs.Cmp.Lexicographic.{slice_cmp}
 use Rattle.std.specs.Ordering.{nat_cmp}
@@ -14,7 +14,7 @@ use Rattle.em_plan.specs.declared.making.Making.{Making}
 use Rattle.em_plan.specs.declared.walk.Walked.{Walked}
 use Rattle.em_plan.specs.declared.no.PlanNo.{PlanNo}
 use Rattle.em_plan.specs.declared.no.PlanNo.TheVariants as no
-use Rattle.em_plan.specs.Jobs.{same, number_of}
+use Rattle.em_plan.specs.Jobs.{same}
 use Rattle.em_plan.specs.Order.{is_in, visit_all, nothing_walked}
 use Rattle.em_plan.specs.Plans.{each_once, plan_for}
 use Rattle.em_plan.specs.Resuming.{Marks, AreMarked, number_in, Fails}

@@ -4,13 +4,13 @@
 --     visit_over, goals_over        a walk that ends for want of room knows more than 65,536 names
 --     visit_few, goals_few          what is numbered is at most so much
 --     reached_is, plan_few, too_many      together, for a plan
-use Rattle.std.proofs.Common.{◌≡◌, ◌⊎◌, inl, inr, ℕ, zero, suc, ◌+◌, ◌-◌, ◌<◌, ◌≤◌, Bool, true, false, cond, ◌||◌, nat_lt, List, [], ◌∷◌, ◌++◌, map, length, Option, Some, None, Result, Ok, Err, refl, sym, ap, subst, ◌∙◌, arith, append_assoc, length-append, slice_get, is_some}
+use Rattle.std.proofs.Common.{◌≡◌, ℕ, zero, suc, ◌+◌, ◌<◌, ◌≤◌, Bool, true, false, cond, ◌||◌, List, [], ◌∷◌, ◌++◌, map, length, Option, Some, None, Ok, Err, refl, sym, ap, subst, ◌∙◌, arith, append_assoc, length-append, slice_get, is_some}
 use Rattle.std.specs.Prelude.{◌↔◌}
-use Rattle.std.specs.List.{All, AllByRecursion, list_any, position_from}
+use Rattle.std.specs.List.{All, AllByRecursion, position_from}
 use Rattle.std.proofs.lemmas.List.Folds.{list_any-append}
 use Rattle.std.proofs.lemmas.List.{append-nil, map-append, length-map}
 use borrow.Author.Tests.{ltb-true, ltb-false}
-use Rattle.em_base.proofs.Lemmas.{all_push, by_cases, same_key, own_key, any_map}
+use Rattle.em_base.proofs.Lemmas.{all_push, by_cases, same_key, own_key}
 use Rattle.em_plan.specs.declared.making.Need.{Need}
 use Rattle.em_plan.specs.declared.making.Making.{Making}
 use Rattle.em_plan.specs.declared.planned.Plan.{Plan}
@@ -19,11 +19,11 @@ use Rattle.em_plan.specs.declared.walk.Walked.{Walked}
 use Rattle.em_plan.specs.declared.no.PlanNo.{PlanNo}
 use Rattle.em_plan.specs.declared.no.PlanNo.TheVariants.{TooManyJobs}
 use Rattle.em_plan.specs.Jobs.{same, number_of, is_numbered, job_of}
-use Rattle.em_plan.specs.Order.{limit, Walking, and_then, is_in, meet, finish, visit, visit_all, has_room, with_job, noted, nothing_walked}
+use Rattle.em_plan.specs.Order.{limit, Walking, and_then, is_in, finish, visit, visit_all, has_room, with_job, noted, nothing_walked}
 use Rattle.em_plan.specs.Resuming.{AreOnce}
 use Rattle.em_plan.specs.Plans.{each_once, plan_for}
 use Rattle.em_plan.specs.Reached.{IsClosed, Reached}
-use Rattle.em_plan.specs.Serial.{IsNext, IsSerial}
+use Rattle.em_plan.specs.Serial.{IsSerial}
 use Rattle.em_plan.proofs.Numbers.{number_kept, number_last}
 use Rattle.em_plan.proofs.Serial.{all_by_recursion, each_place, Finished, Keeps, Kept, finish_kept, kept_number, number_place, Visits, visit_kept, goals_kept, plan_walked, plan_failed}
 

@@ -3,8 +3,8 @@
 --     finish_met                    when a name gets its number, each of its prerequisites has one or is open
 --     no_notes                      where prerequisites have lower ranks than their targets, nothing is dropped
 --     job_at, pres_before, waits_below, once_only      what follows for each job of such a list
-use Rattle.std.proofs.Common.{◌≡◌, ◌⊎◌, inl, inr, ℕ, zero, suc, ◌+◌, ◌<◌, ◌≤◌, Bool, true, false, cond, ◌||◌, List, [], ◌∷◌, ◌++◌, map, length, take, Option, Some, None, Result, Ok, Err, refl, sym, ap, subst, ◌∙◌, arith, append_assoc, length-append, option_map, slice_get, is_some}
-use Rattle.std.specs.List.{All, AllByRecursion, Contains, cons_option, filter_map, list_any, position_from}
+use Rattle.std.proofs.Common.{◌≡◌, ◌⊎◌, inl, inr, ℕ, zero, suc, ◌+◌, ◌<◌, Bool, true, false, cond, ◌||◌, List, [], ◌∷◌, ◌++◌, map, length, Option, Some, None, Ok, Err, refl, sym, ap, subst, ◌∙◌, arith, append_assoc, length-append, option_map, slice_get, is_some}
+use Rattle.std.specs.List.{All, AllByRecursion, Contains, cons_option, position_from}
 use Rattle.std.specs.List.Sorted.{IsStrictlySortedBy}
 use Rattle.std.specs.Ordering.{nat_cmp}
 use Rattle.std.specs.FinMap.{nat_cmp-IsAntisymmetric}
@@ -17,9 +17,8 @@ use Rattle.em_plan.specs.declared.planned.Pre.{Pre}
 use Rattle.em_plan.specs.declared.planned.Plan.{Plan}
 use Rattle.em_plan.specs.declared.planned.PlanJob.{PlanJob}
 use Rattle.em_plan.specs.declared.walk.Walked.{Walked}
-use Rattle.em_plan.specs.declared.no.PlanNo.{PlanNo}
 use Rattle.em_plan.specs.declared.no.PlanNo.TheVariants.{NoTargets, TooManyJobs}
-use Rattle.em_plan.specs.Jobs.{same, number_of, is_numbered, pre, pres, job_of}
+use Rattle.em_plan.specs.Jobs.{same, number_of, is_numbered, pres, job_of}
 use Rattle.em_plan.specs.Order.{limit, Walking, and_then, is_in, meet, finish, visit, visit_all, has_room, with_job, noted, nothing_walked}
 use Rattle.em_plan.specs.Plans.{as_plan, each_once, plan_for}
 use Rattle.em_plan.specs.Serial.{IsNext, IsSerial, StandsBefore}

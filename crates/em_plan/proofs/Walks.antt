@@ -4,15 +4,14 @@
 --     resume_..      a step leaves the same end
 --     weight_..      and less to do
 --     steps_..       together, for each step of the code
-use Rattle.std.proofs.Common.{◌≡◌, ℕ, zero, suc, ◌+◌, ◌-◌, ◌*◌, ◌^◌, ◌<◌, ◌≤◌, Bool, true, false, cond, ◌||◌, nat_lt, List, [], ◌∷◌, ◌++◌, length, drop, Option, Some, None, Result, Ok, Err, refl, sym, ap, subst, ◌∙◌, arith, length-append, option_map, slice_get}
-use Rattle.std.specs.Prelude.{if◌then◌else◌, IsSomeAnd}
-use Rattle.std.specs.List.{list_any}
-use Rattle.std.specs.FinMap.{FinMap, get, insert, get-insert, empty, get-empty}
+use Rattle.std.proofs.Common.{◌≡◌, ℕ, zero, suc, ◌+◌, ◌-◌, ◌^◌, ◌<◌, ◌≤◌, Bool, true, false, cond, ◌||◌, nat_lt, List, [], ◌∷◌, ◌++◌, length, drop, Option, Some, None, Ok, Err, refl, sym, ap, subst, ◌∙◌, arith, length-append, option_map, slice_get}
+use Rattle.std.specs.Prelude.{IsSomeAnd}
+use Rattle.std.specs.FinMap.{get, insert, get-insert, empty, get-empty}
 use Rattle.std.specs.Cmp.Lexicographic.{slice_cmp, nat_list_cmp_total}
 use Rattle.std.specs.Ordering.{nat_cmp}
 use Rattle.std.specs.Option.{is_some}
 use Rattle.em_base.proofs.Lemmas.{by_cases, same_key, own_key}
-use borrow.Author.Tests.{ltb-true, ltb-false}
+use borrow.Author.Tests.{ltb-true}
 use Rattle.em_plan.specs.declared.making.Need.{Need}
 use Rattle.em_plan.specs.declared.making.Making.{Making}
 use Rattle.em_plan.specs.declared.planned.PlanJob.{PlanJob}
@@ -26,7 +25,7 @@ use Rattle.em_plan.specs.declared.no.PlanNo.TheVariants.{TooManyJobs}
 use Rattle.em_plan.specs.declared.no.PlanNo.TheVariants as no
 use Rattle.em_plan.specs.Jobs.{same, number_of, is_numbered, job_of}
 use Rattle.em_plan.specs.Order.{limit, Walking, and_then, is_in, finish, visit, has_room, with_job, noted}
-use Rattle.em_plan.specs.Resuming.{names, reach, resume, mark_of, numbered, number_in, AreOnce, Marks, AreMarked, room, weight, Steps, Fails}
+use Rattle.em_plan.specs.Resuming.{names, reach, resume, mark_of, numbered, number_in, Marks, AreMarked, weight, Steps, Fails}
 use Rattle.em_plan.proofs.Numbers.{number_last, number_other}
 
 pub assoc : (m : Walking) (k h : Walked → Walking) → and_then (and_then m k) h ≡ and_then m (λ w. and_then (k w) h)

@@ -3,7 +3,7 @@
 --     pres number needs               those prerequisites whose names have a number, with it
 --     waits_for ps                    their jobs in rising order, once each
 --     job_of number name from making  the job for a name, where the walk came to it from a name or as a goal
-use Rattle.std.specs.Prelude.{ℕ, Bool, not, List, map, Option, Some, is_some}
+use Rattle.std.specs.Prelude.{ℕ, Bool, not, List, map, Option, is_some}
 use Rattle.std.specs.List.{filter, filter_map, position_from}
 use Rattle.std.specs.Option.{option_map}
 use Rattle.std.specs.Ordering.{nat_cmp, eq_by_cmp}

@@ -3,7 +3,7 @@
 --     visit says left stack w name     what was walked so far, with a name that the walk comes to, and before it all that it needs
 --     visit_all says goals w           the same for each goal
 -- `says` tells how a name is made; the stack has the names that are open, the innermost first; `left` is how many more may be open.
-use Rattle.std.specs.Prelude.{ℕ, zero, suc, ◌+◌, ◌-◌, nat_lt, Bool, List, [], ◌∷◌, ◌++◌, length, codes, slice_get, Result, Ok, Err, if◌then◌else◌}
+use Rattle.std.specs.Prelude.{ℕ, zero, suc, ◌+◌, nat_lt, Bool, List, [], ◌∷◌, ◌++◌, length, codes, slice_get, Result, Ok, Err, if◌then◌else◌}
 use Rattle.std.specs.List.{list_any}
 use Rattle.em_plan.specs.declared.making.Need.{Need}
 use Rattle.em_plan.specs.declared.making.Making.{Making}

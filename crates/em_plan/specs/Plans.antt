@@ -10,7 +10,6 @@ use Rattle.em_rules.specs.declared.book.Book.{Book}
 use Rattle.em_rules.specs.Dots.{undotted}
 use Rattle.em_plan.specs.declared.making.Making.{Making}
 use Rattle.em_plan.specs.declared.planned.Plan.{Plan}
-use Rattle.em_plan.specs.declared.walk.Walked.{Walked}
 use Rattle.em_plan.specs.declared.no.PlanNo.{PlanNo}
 use Rattle.em_plan.specs.declared.no.PlanNo.TheVariants.{NoTargets}
 use Rattle.em_plan.specs.Jobs.{number_of}

@@ -1,7 +1,7 @@
 -- What a plan's jobs are, said of the list alone.
 --     IsSerial says before jobs     behind the jobs before, each job is that of a name that had none, made from those in front of it
 --     StandsBefore jobs k p         a prerequisite's job is that of its name, and stands before job k
-use Rattle.std.specs.Prelude.{◌≡◌, ℕ, ◌<◌, List, [], ◌∷◌, ◌++◌, Option, None, slice_get, IsSomeAnd}
+use Rattle.std.specs.Prelude.{◌≡◌, ℕ, ◌<◌, List, [], ◌∷◌, ◌++◌, None, slice_get, IsSomeAnd}
 use Rattle.em_plan.specs.declared.making.Making.{Making}
 use Rattle.em_plan.specs.declared.planned.Pre.{Pre}
 use Rattle.em_plan.specs.declared.planned.PlanJob.{PlanJob}

@@ -1,7 +1,4 @@
-use Rattle.std.proofs.Common.{◌≡◌, rules, [], ◌∷◌, sym, ap, ◌∙◌}
-use Rattle.std.proofs.lemmas.Iterator.Consumers.{YieldsList-end}
-use Rattle.std.proofs.lemmas.Iterator.Adapters.{YieldsList-from_vec}
-use Rattle.em_plan.specs.declared.making.Need.{Need}
+use Rattle.std.proofs.Common.{[], ◌∷◌, sym, ◌∙◌}
 use Rattle.em_plan.specs.Resuming.{number_in}
 use Rattle.em_plan.proofs.Numbers.{normal_more, order_more, jobs_more}
 use Rattle.em_plan.proofs.job.with_numbers.Goals as goal

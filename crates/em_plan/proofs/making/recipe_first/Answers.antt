@@ -1,4 +1,4 @@
-use Rattle.std.proofs.Common.{◌≡◌, ◌∙◌, ap, refl, rules, tests, ℕ, List, ◌∷◌, ◌==◌, not}
+use Rattle.std.proofs.Common.{◌≡◌, ◌∙◌, ap, rules, tests, ℕ, List, ◌∷◌, ◌==◌, not}
 use Rattle.std.specs.List.{filter}
 use Rattle.std.proofs.lemmas.Fn.{filter_same}
 use Rattle.em_plan.proofs.making.recipe_first.Goals as goal

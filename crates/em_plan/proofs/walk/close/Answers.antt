@@ -1,5 +1,4 @@
 use Rattle.std.proofs.Common.{refl}
-use Rattle.em_plan.specs.Resuming.{names}
 use Rattle.em_plan.proofs.Walks.{steps_close, numbers_all}
 use Rattle.em_plan.proofs.walk.close.Goals as goal
 

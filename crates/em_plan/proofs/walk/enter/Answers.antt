@@ -1,7 +1,6 @@
-use Rattle.std.proofs.Common.{◌≡◌, ap, ◌∙◌, refl, true, false, length, is_some, None}
+use Rattle.std.proofs.Common.{◌≡◌, ◌∙◌, refl, true}
 use Rattle.em_plan.specs.Makings.{says}
-use Rattle.em_plan.specs.Jobs.{number_of, is_numbered}
-use Rattle.em_plan.specs.Order.{is_in, has_room}
+use Rattle.em_plan.specs.Order.{has_room}
 use Rattle.em_plan.specs.Resuming.{names}
 use Rattle.em_plan.proofs.Walks.{new_is, reach_full, room_is, has_room_lt, length_names, marked_open, resume_open, weight_open}
 use Rattle.em_plan.proofs.walk.enter.Goals as goal

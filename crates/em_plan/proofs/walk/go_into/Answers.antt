@@ -1,4 +1,3 @@
-use Rattle.std.proofs.Common.{refl}
 use Rattle.std.proofs.lemmas.Result.{err_from_is_err_and}
 use Rattle.em_plan.specs.Makings.{says}
 use Rattle.em_plan.proofs.Walks.{away_is, steps_into, fails_into}

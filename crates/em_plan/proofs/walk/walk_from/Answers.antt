@@ -1,4 +1,4 @@
-use Rattle.std.proofs.Common.{◌≡◌, ◌∙◌, ap, sym, refl, rules, [], true, is_some}
+use Rattle.std.proofs.Common.{◌≡◌, ◌∙◌, ap, sym, true, is_some}
 use Rattle.std.proofs.lemmas.Result.{err_from_is_err_and}
 use Rattle.std.specs.FinMap.{get}
 use Rattle.em_plan.specs.Makings.{says}
