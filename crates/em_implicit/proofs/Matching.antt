@@ -1,6 +1,6 @@
 -- The first pattern that matches.
 use Rattle.std.proofs.Common.{◌≡◌, ◌∙◌, refl, sym, ap, ℕ, true, false, List, ◌∷◌, Option, Some, None}
-use Rattle.std.specs.Prelude.{is_some, option_map}
+use Rattle.std.specs.Prelude.{is_some, option_map, IfSome}
 use Rattle.std.specs.Option.{option_or}
 use Rattle.em_implicit.specs.Matches.{match_of, first_match}
 
@@ -26,3 +26,7 @@ module _ {X : Type 0} (f : X → List ℕ × List ℕ) (target : List ℕ) where
       → first_match left target ≡ whole → is_some r ≡ false → first_match rest target ≡ whole
   match_later left rest p r whole is says so_far isnt = sym (none_first (match_of p target) (first_match rest target) (ap is_some (sym says) ∙ sym (mapped f r) ∙ isnt))
       ∙ ap (λ ps. first_match ps target) (sym is) ∙ so_far
+
+pub holds_in : {X : Type 0} (o : Option X) (P Q : X → Type 0) → ((x : X) → P x → Q x) → IfSome o P → IfSome o Q
+holds_in None P Q f h = tt
+holds_in (Some x) P Q f h = f x h

@@ -4,7 +4,8 @@
 --     candidates rules patterns tree cwd target      the pattern rules that match and apply, in order, with their stems
 --     shortest fs                           the one with the shortest stem, the first of equal ones
 --     found rules patterns tree cwd target  the one that is chosen
-use Rattle.std.specs.Prelude.{ℕ, ◌+◌, ◌&&◌, ◌||◌, nat_lt, Bool, true, false, List, [], ◌∷◌, ◌++◌, length, fold, Option, Some, None, is_some, if◌then◌else◌}
+--     offered rules patterns tree cwd target j       the stem with which the pattern rule of number j matches and applies
+use Rattle.std.specs.Prelude.{ℕ, ◌+◌, ◌&&◌, ◌||◌, nat_lt, Bool, true, false, List, [], ◌∷◌, ◌++◌, length, fold, slice_get, Option, Some, None, is_some, option_map, if◌then◌else◌}
 use Rattle.std.specs.List.{list_all}
 use Rattle.std.specs.FinMap.{get}
 use Rattle.em_path.specs.declared.path.PathNo.{PathNo}
@@ -58,3 +59,16 @@ shortest fs = fold shorter None fs
 
 abbrev pub found : List Rule → List Rule → Table → List ℕ → List ℕ → Option Found
 found rules patterns tree cwd target = shortest (candidates rules patterns tree cwd target)
+
+-- ---- in the rule's words, for laws
+
+abbrev pub whole_stem : List ℕ × List ℕ → List ℕ
+whole_stem m = m.0 ++ m.1
+
+abbrev pub offered_by : List Rule → Table → List ℕ → List ℕ → Option Rule → Option (List ℕ)
+offered_by rules tree cwd target None = None
+offered_by rules tree cwd target (Some r) = if applies rules tree cwd r target then option_map whole_stem (rule_match r target) else None
+
+-- the stem with which the pattern rule of number j matches and applies
+abbrev pub offered : List Rule → List Rule → Table → List ℕ → List ℕ → ℕ → Option (List ℕ)
+offered rules patterns tree cwd target j = offered_by rules tree cwd target (slice_get patterns j)

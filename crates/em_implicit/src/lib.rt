@@ -1,6 +1,7 @@
 //! Implicit rules: the pattern rule by which a target is remade that has no recipe of its own.
 #![tactic(auto)]
 
+pub mod laws;
 mod made;
 mod pattern;
 mod seek;
@@ -9,3 +10,6 @@ mod there;
 pub use made::{Prerequisites, prerequisites_of};
 pub use pattern::{Match, rule_match};
 pub use seek::{Found, find};
+
+#[cfg(test)]
+mod tests;

@@ -29,7 +29,8 @@ pub(crate) fn made(alloc: Global, found: Match<'_>, pattern: &[u8]) -> Result<Te
 
 /// The names that the prerequisite patterns are.
 fn made_all(alloc: Global, found: Match<'_>, patterns: &[Text]) -> Result<Seq<Text>, NoMemory>
-    ensures { IfOk result (λ s. s ≡ map (made found.entry.dir.now found.entry.stem.now) patterns.now) }
+    ensures { IfOk result (λ s. s
+        ≡ map (made found.entry.dir.now found.entry.stem.now) patterns.now) }
 {
     let mut names = Seq::new(alloc);
     for pattern in patterns {
@@ -45,7 +46,8 @@ pub fn prerequisites_of(
     rule: &Rule,
     target: &[u8],
 ) -> Result<Prerequisites, NoMemory>
-    ensures { IfOk result (λ p. (p.normal ≡ normal_of rule.now target.now) × (p.order ≡ order_of rule.now target.now)) }
+    ensures { IfOk result (λ p. (p.normal ≡ normal_of rule.now target.now)
+        × (p.order ≡ order_of rule.now target.now)) }
 {
     let Some(found) = rule_match(rule, target) else {
         return Ok(Prerequisites {

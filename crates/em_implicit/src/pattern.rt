@@ -1,8 +1,10 @@
 //! Whether a target matches a target pattern.
-ghost use Rattle.std.specs.Prelude.{◌≡◌, ◌≤◌, length, option_copied, option_map};
+ghost use Rattle.std.specs.Prelude.{◌≡◌, ◌++◌, ◌<◌, ◌≤◌, length, option_copied, option_map, Any, IfSome};
+ghost use Rattle.em_wordlist.specs.Stems.{filled};
 ghost use Rattle.em_implicit.specs.Matches.{behind, filled_stem, match_of, rule_match};
 
 use em_rules::Rule;
+use em_wordlist::laws::law_filled_matches;
 use em_wordlist::stem;
 
 /// How a target matches a target pattern.
@@ -24,8 +26,11 @@ fn behind(name: &[u8]) -> usize
 
 /// What the pattern's `%` stands for in a word: at least one byte.
 fn filled_stem<'a>(pattern: &[u8], word: &'a [u8]) -> Option<&'a [u8]>
-    ensures { option_copied result ≡ filled_stem pattern.now word.now }
+    ensures stem { option_copied result ≡ filled_stem pattern.now word.now }
+    ensures spelled { IfSome result (λ s. (0 < length s.now)
+        × (word.now ≡ filled pattern.now s.now)) }
 {
+    law_filled_matches();
     let found = stem(pattern, word)?.of(word);
     if found.is_empty() { None } else { Some(found) }
 }
@@ -33,7 +38,10 @@ fn filled_stem<'a>(pattern: &[u8], word: &'a [u8]) -> Option<&'a [u8]>
 /// How a target matches a target pattern; `None` exactly where it doesn't. A pattern without a slash is matched against what
 /// stands behind the target's last slash, and its `%` stands for at least one byte.
 fn matched<'a>(pattern: &[u8], target: &'a [u8]) -> Option<Match<'a>>
-    ensures { option_map (λ m. (m.dir.now, m.stem.now)) result ≡ match_of pattern.now target.now }
+    ensures parts { option_map (λ m. (m.dir.now, m.stem.now)) result
+        ≡ match_of pattern.now target.now }
+    ensures spelled { IfSome result (λ m. (0 < length m.stem.now)
+        × (target.now ≡ m.dir.now ++ filled pattern.now m.stem.now)) }
 {
     let at = if pattern.contains(&b'/') {
         0
@@ -47,7 +55,10 @@ fn matched<'a>(pattern: &[u8], target: &'a [u8]) -> Option<Match<'a>>
 
 /// How a target matches the first target pattern of a rule that it matches; `None` exactly where it matches none.
 pub fn rule_match<'a>(rule: &Rule, target: &'a [u8]) -> Option<Match<'a>>
-    ensures { option_map (λ m. (m.dir.now, m.stem.now)) result ≡ rule_match rule.now target.now }
+    ensures first { option_map (λ m. (m.dir.now, m.stem.now)) result
+        ≡ rule_match rule.now target.now }
+    ensures spelled { IfSome result (λ m. (0 < length m.stem.now)
+        × Any (λ p. target.now ≡ m.dir.now ++ filled p m.stem.now) rule.now.targets) }
 {
     for pattern in rule.targets.items() {
         let found = matched(pattern.bytes(), target);

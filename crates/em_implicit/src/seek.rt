@@ -80,8 +80,10 @@ pub fn find(
     tree: &Tree,
     cwd: &Path,
 ) -> Result<Option<Found>, NoMemory>
-    ensures found { IfOk result (λ r. r ≡ found book.now.rules book.now.patterns tree.now cwd.now target.now) }
-    ensures none { list_any (λ r. is_some (rule_match r target.now)) book.now.patterns ≡ false → result ≡ Ok None }
+    ensures found { IfOk result (λ r. r
+        ≡ found book.now.rules book.now.patterns tree.now cwd.now target.now) }
+    ensures none { list_any (λ r. is_some (rule_match r target.now)) book.now.patterns ≡ false
+        → result ≡ Ok None }
 {
     let known = Known {
         rules: &book.rules,

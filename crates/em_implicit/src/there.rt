@@ -1,5 +1,5 @@
 //! Whether what a pattern rule makes for a target is there.
-ghost use Rattle.std.specs.Prelude.{◌≡◌, ◌∷◌, IfOk};
+ghost use Rattle.std.specs.Prelude.{◌≡◌, IfOk};
 ghost use Rattle.std.specs.List.{list_all};
 ghost use Rattle.em_implicit.specs.Implicit.{exists, is_there, applies};
 
@@ -32,7 +32,8 @@ fn exists(alloc: Global, tree: &Tree, cwd: &Path, name: &[u8]) -> Result<bool, N
 impl Known<'_> {
     /// Whether the name is mentioned as a target or an explicit prerequisite, or exists.
     fn is_there(&self, alloc: Global, name: &[u8]) -> Result<bool, NoMemory>
-        ensures { IfOk result (λ b. b ≡ is_there self.now.rules.now self.now.tree.now self.now.cwd.now name.now) }
+        ensures { IfOk result (λ b. b
+            ≡ is_there self.now.rules.now self.now.tree.now self.now.cwd.now name.now) }
     {
         if self.rules.is_mentioned(name) {
             return Ok(true);
@@ -42,7 +43,8 @@ impl Known<'_> {
 
     /// Whether each of the names is there.
     fn are_there(&self, alloc: Global, names: &[Text]) -> Result<bool, NoMemory>
-        ensures { IfOk result (λ b. b ≡ list_all (is_there self.now.rules.now self.now.tree.now self.now.cwd.now) names.now) }
+        ensures { IfOk result (λ b. b
+            ≡ list_all (is_there self.now.rules.now self.now.tree.now self.now.cwd.now) names.now) }
     {
         for name in names {
             if !self.is_there(alloc, name.bytes())? {
@@ -59,7 +61,8 @@ impl Known<'_> {
         rule: &Rule,
         target: &[u8],
     ) -> Result<bool, NoMemory>
-        ensures { IfOk result (λ b. b ≡ applies self.now.rules.now self.now.tree.now self.now.cwd.now rule.now target.now) }
+        ensures { IfOk result (λ b. b
+            ≡ applies self.now.rules.now self.now.tree.now self.now.cwd.now rule.now target.now) }
     {
         let needed = prerequisites_of(alloc, rule, target)?;
         if !self.are_there(alloc, needed.normal.items())? {

@@ -3,6 +3,7 @@
 
 mod book;
 mod dots;
+pub mod laws;
 mod made;
 mod rule;
 mod rules;
@@ -15,3 +16,6 @@ pub use dots::undotted;
 pub use rule::{RecipeLine, Rule};
 pub use rules::Rules;
 pub use special::{Names, Special};
+
+#[cfg(test)]
+mod tests;
