@@ -1,0 +1,5 @@
+pub mod Numbers
+pub mod Walks
+pub mod Asked
+pub mod Serial
+pub mod Reaching

@@ -1,0 +1,92 @@
+//! The plan as data.
+ghost use Rattle.std.specs.Prelude.{◌≡◌, IfOk};
+
+use em_base::{NoMemory, Seq, Text, TryClone};
+use em_rules::RecipeLine;
+use std::alloc::Global;
+
+/// A prerequisite, and the number of its job.
+#[derive(Debug, Drop, PartialEq, Eq)]
+pub struct Pre {
+    pub name: Text,
+    pub job: u32,
+}
+
+impl Pre {
+    /// An equal prerequisite.
+    pub fn copy(&self, alloc: Global) -> Result<Pre, NoMemory>
+        ensures { IfOk result (λ p. p ≡ self.now) }
+    {
+        Ok(Pre {
+            name: self.name.copy(alloc)?,
+            job: self.job,
+        })
+    }
+}
+
+impl TryClone for Pre {
+    fn try_clone(&self, alloc: Global) -> Result<Pre, NoMemory> {
+        self.copy(alloc)
+    }
+}
+
+/// What is to be done for one name.
+#[derive(Debug, Drop, PartialEq, Eq)]
+pub struct PlanJob {
+    pub target: Text,
+    /// The normal prerequisites in order, without those that were dropped; a name that is written twice stands twice.
+    pub normal: Seq<Pre>,
+    /// The order-only ones, likewise.
+    pub order: Seq<Pre>,
+    /// What `%` stands for, where the recipe is that of a pattern rule or of a static pattern rule; else empty.
+    pub stem: Text,
+    pub recipe: Option<Seq<RecipeLine>>,
+    /// Whether the name has a rule, or a pattern rule applies to it.
+    pub ruled: bool,
+    pub phony: bool,
+    /// The name from which the walk first came to this one; `None` where it came to it as a goal.
+    pub needed_by: Option<Text>,
+    /// The jobs of all these prerequisites in rising order, once each.
+    pub waits: Seq<u32>,
+}
+
+/// An equal value, if there is one.
+pub(crate) fn copied<T: TryClone + Drop>(
+    alloc: Global,
+    value: &Option<T>,
+) -> Result<Option<T>, NoMemory>
+    ensures { IfOk result (λ v. v ≡ value.now) }
+{
+    match value {
+        None => Ok(None),
+        Some(value) => Ok(Some(value.try_clone(alloc)?)),
+    }
+}
+
+impl PlanJob {
+    /// An equal job.
+    pub fn copy(&self, alloc: Global) -> Result<PlanJob, NoMemory>
+        ensures { IfOk result (λ j. j ≡ self.now) }
+    {
+        Ok(PlanJob {
+            target: self.target.copy(alloc)?,
+            normal: self.normal.copy(alloc)?,
+            order: self.order.copy(alloc)?,
+            stem: self.stem.copy(alloc)?,
+            recipe: copied(alloc, &self.recipe)?,
+            ruled: self.ruled,
+            phony: self.phony,
+            needed_by: copied(alloc, &self.needed_by)?,
+            waits: Seq::from_vec(Vec::from_slice(alloc, self.waits.items())?),
+        })
+    }
+}
+
+/// The jobs in serial order, each with the place at which it stands as its number, the jobs of the goals, and what is said of
+/// prerequisites that were dropped.
+#[derive(Debug, Drop, PartialEq, Eq)]
+pub struct Plan {
+    pub jobs: Seq<PlanJob>,
+    pub goals: Seq<u32>,
+    pub notes: Text,
+}
