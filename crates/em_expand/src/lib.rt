@@ -1,0 +1,14 @@
+//! The expansion of texts of make: references, variables and functions.
+#![tactic(auto)]
+
+mod calls;
+mod no;
+mod scope;
+mod spoken;
+mod table;
+mod text;
+mod values;
+
+pub use no::ExpandNo;
+pub use spoken::Spoken;
+pub use text::expand;
