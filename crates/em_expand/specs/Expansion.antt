@@ -112,8 +112,8 @@ abbrev pub picked : List ℕ → List (List ℕ) → List ℕ
 picked [] args = nth 2 args
 picked (c ∷ cs) args = nth 1 args
 
-unfoldable pub branch : Deeper → List Frame → List (List ℕ) → List ℕ → Says (List ℕ)
-branch deeper frames args out = do
+unfoldable pub choose : Deeper → List Frame → List (List ℕ) → List ℕ → Says (List ℕ)
+choose deeper frames args out = do
   condition ← deeper frames (trimmed (nth 0 args)) []
   deeper frames (picked condition args) out
 
@@ -156,7 +156,7 @@ call deeper vars frames args out = put_called deeper frames args (meaning_of var
 
 abbrev pub put_call : Deeper → Setting → List Frame → Row → Function → List (List ℕ) → List ℕ → Says (List ℕ)
 put_call deeper set frames row Refused args out = refuse (no.Refused row.name)
-put_call deeper set frames row If args out = enough row args (branch deeper frames args out)
+put_call deeper set frames row If args out = enough row args (choose deeper frames args out)
 put_call deeper set frames row Or args out = until deeper frames true args [] out
 put_call deeper set frames row And args out = until deeper frames false args [] out
 put_call deeper set frames row Foreach args out = enough row args (foreach deeper frames args out)

@@ -11,7 +11,7 @@ use Rattle.em_vars.specs.declared.var.Origin.{Origin}
 use Rattle.em_vars.specs.declared.var.Origin.TheVariants as origin
 use Rattle.em_vars.specs.Entries.{Entries, value_of}
 use Rattle.em_expand.specs.declared.values.Meaning.{Meaning}
-use Rattle.em_expand.specs.declared.values.Meaning.TheVariants.{Simple, Recursive}
+use Rattle.em_expand.specs.declared.values.Meaning.TheVariants.{Bound, Simple, Recursive}
 use Rattle.em_expand.specs.Scopes.{Frame, bound}
 
 pub data Stands : Type 0 where
@@ -73,5 +73,6 @@ warned place t = place.file ++ 58 ∷ decimal place.line ++ codes ": " ++ t ++ 1
 
 -- what the code tells of a name
 abbrev pub stands : Meaning → Stands
+stands (Bound t) = plain t.now
 stands (Simple t) = plain t.now
 stands (Recursive t) = recursive t.now

@@ -3,6 +3,8 @@
 
 mod calls;
 mod no;
+mod pick;
+mod put;
 mod scope;
 mod spoken;
 mod table;

@@ -6,7 +6,7 @@ use em_base::{Text, number, trim};
 
 /// The names that are bound and the variables that are being expanded around a text. Each scope stands in an outer one and lies on
 /// the stack of the call that made it, so that nothing is to be restored.
-#[derive(Drop)]
+#[derive(Clone, Copy)]
 pub(crate) enum Scope<'a> {
     /// Nothing is bound.
     Top,

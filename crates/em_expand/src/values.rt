@@ -8,20 +8,26 @@ use em_vars::{Flavour, Origin, Vars};
 
 /// What a name stands for.
 #[derive(Drop)]
-pub(crate) enum Meaning<'a> {
-    /// A text as it is.
-    Simple(&'a [u8]),
-    /// A text that is expanded.
-    Recursive(&'a [u8]),
+pub(crate) enum Meaning<'b, 'v> {
+    /// The text that it is bound to.
+    Bound(&'b [u8]),
+    /// A variable's text as it is.
+    Simple(&'v [u8]),
+    /// A variable's text, which is expanded.
+    Recursive(&'v [u8]),
 }
 
 /// What the name stands for: what it is bound to, else its variable's text; an undefined name is empty. One search, and steps for
 /// each scope.
-pub(crate) fn meaning_of<'a>(vars: &'a Vars, scope: &Scope<'a>, name: &[u8]) -> Meaning<'a>
+pub(crate) fn meaning_of<'b, 'v>(
+    vars: &'v Vars,
+    scope: &Scope<'b>,
+    name: &[u8],
+) -> Meaning<'b, 'v>
     ensures { stands result ≡ meaning_of vars.now (frames_of scope.now) name.now }
 {
     if let Some(text) = bound(scope, name) {
-        return Meaning::Simple(text);
+        return Meaning::Bound(text);
     }
     match vars.get(name) {
         None => Meaning::Simple(b""),
@@ -37,6 +43,7 @@ pub(crate) fn text_of<'a>(vars: &'a Vars, scope: &Scope<'a>, name: &[u8]) -> &'a
     ensures { result.now ≡ text_of vars.now (frames_of scope.now) name.now }
 {
     match meaning_of(vars, scope, name) {
+        Meaning::Bound(text) => text,
         Meaning::Simple(text) => text,
         Meaning::Recursive(text) => text,
     }
