@@ -14,3 +14,6 @@ mod values;
 pub use no::ExpandNo;
 pub use spoken::Spoken;
 pub use text::expand;
+
+#[cfg(test)]
+mod tests;

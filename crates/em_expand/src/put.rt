@@ -44,12 +44,7 @@ pub(crate) fn put(out: Text, bytes: &[u8]) -> Result<Text, ExpandNo>
 }
 
 /// A function on texts and words.
-fn text_value(
-    alloc: Global,
-    name: &[u8],
-    args: &[Text],
-    out: Text,
-) -> Result<Text, ExpandNo>
+fn text_value(alloc: Global, name: &[u8], args: &[Text], out: Text) -> Result<Text, ExpandNo>
     ensures { free_in is_free result ≡ false → result ≡ text_value name.now (text_function name.now args.now) out }
 {
     match text_function(alloc, name, args) {
@@ -77,12 +72,7 @@ pub(crate) fn substituted(
 }
 
 /// A function on file names.
-fn name_value(
-    alloc: Global,
-    name: &[u8],
-    args: &[Text],
-    out: Text,
-) -> Result<Text, ExpandNo>
+fn name_value(alloc: Global, name: &[u8], args: &[Text], out: Text) -> Result<Text, ExpandNo>
     ensures { free_in is_free result ≡ false → result ≡ Ok (out ++ unwrap_or (name_function name.now args.now) []) }
 {
     match name_function(alloc, name, args)? {
@@ -196,5 +186,7 @@ pub(crate) fn put_value<V: View>(
     if args.len() < row.least {
         return Err(bad_argument(alloc, row.name));
     }
-    put_plain(alloc, setting, scope, desk, spoken, row.name, function, args, out)
+    put_plain(
+        alloc, setting, scope, desk, spoken, row.name, function, args, out,
+    )
 }

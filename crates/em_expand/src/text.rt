@@ -82,7 +82,17 @@ fn put_part<V: View>(
             let before = length_of(&out);
             let bracket = Bracket::before(text, span);
             let inner = span.of(text);
-            let all = evaluate(alloc, left - 1, setting, scope, desk, spoken, bracket, inner, out)?;
+            let all = evaluate(
+                alloc,
+                left - 1,
+                setting,
+                scope,
+                desk,
+                spoken,
+                bracket,
+                inner,
+                out,
+            )?;
             pay(desk, cost(&all, before))?;
             Ok(all)
         }
@@ -106,7 +116,9 @@ fn evaluate<V: View>(
 {
     match call_of(alloc, bracket, inner)? {
         None => named(alloc, left, setting, scope, desk, spoken, inner, out),
-        Some(call) => put_call(alloc, left, setting, scope, desk, spoken, call.row, &call.args, out),
+        Some(call) => put_call(
+            alloc, left, setting, scope, desk, spoken, call.row, &call.args, out,
+        ),
     }
 }
 
@@ -133,11 +145,30 @@ fn put_call<V: View>(
         Function::Foreach => foreach(alloc, left, setting, scope, desk, spoken, row, args, out),
         Function::Call => {
             let values = arguments(alloc, left, setting, scope, desk, spoken, args)?;
-            call(alloc, left, setting, scope, desk, spoken, values.items(), out)
+            call(
+                alloc,
+                left,
+                setting,
+                scope,
+                desk,
+                spoken,
+                values.items(),
+                out,
+            )
         }
         Function::Plain(function) => {
             let values = arguments(alloc, left, setting, scope, desk, spoken, args)?;
-            put_value(alloc, setting, scope, desk, spoken, row, function, values.items(), out)
+            put_value(
+                alloc,
+                setting,
+                scope,
+                desk,
+                spoken,
+                row,
+                function,
+                values.items(),
+                out,
+            )
         }
     }
 }
@@ -275,7 +306,9 @@ fn foreach<V: View>(
     let words = texts(alloc, list.bytes())?;
     let each = trim(name.bytes());
     let body = nth(2, args);
-    turns(alloc, left, setting, scope, desk, spoken, each, body, &words, out)
+    turns(
+        alloc, left, setting, scope, desk, spoken, each, body, &words, out,
+    )
 }
 
 /// The turns of `foreach`, each of which costs a unit.

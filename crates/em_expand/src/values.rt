@@ -19,11 +19,7 @@ pub(crate) enum Meaning<'b, 'v> {
 
 /// What the name stands for: what it is bound to, else its variable's text; an undefined name is empty. One search, and steps for
 /// each scope.
-pub(crate) fn meaning_of<'b, 'v>(
-    vars: &'v Vars,
-    scope: &Scope<'b>,
-    name: &[u8],
-) -> Meaning<'b, 'v>
+pub(crate) fn meaning_of<'b, 'v>(vars: &'v Vars, scope: &Scope<'b>, name: &[u8]) -> Meaning<'b, 'v>
     ensures { stands result ≡ meaning_of vars.now (frames_of scope.now) name.now }
 {
     if let Some(text) = bound(scope, name) {
