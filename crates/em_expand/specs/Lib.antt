@@ -11,4 +11,5 @@ pub mod Scopes
 pub mod Table
 pub mod Calls
 pub mod Values
+pub mod Doubled
 pub mod Expansion

@@ -2,6 +2,7 @@
 #![tactic(auto)]
 
 mod calls;
+pub mod laws;
 mod no;
 mod pick;
 mod put;
