@@ -56,23 +56,23 @@ put_doubled [] refer text from at out le e =
 put_doubled (b ∷ t) refer text from at out le e = by_cases (eqb b 36)
     (λ c. eqb b 36 ≡ c → put_parts refer text (parts_from (refs.plain from) at (doubled (b ∷ t))).unclosed (parts_from (refs.plain from) at (doubled (b ∷ t))).parts out ≡ done ((out ++ cut text (span from at)) ++ b ∷ t))
     (λ is _.
-        let dollar : b ≡ 36 = eqb-true b 36 is in
-        let here : drop at text ≡ 36 ∷ 36 ∷ doubled t = rw is at e in
-        let two : at + 2 ≡ at + 1 + 1 = omega arith in
-        let rest : drop (at + 1 + 1) text ≡ doubled t = ap (λ k. drop k text) (sym two) ∙ sym (drop-drop 2 at text) ∙ ap (λ (xs : List ℕ). drop 2 xs) here in
-        let p = parts_from (refs.plain (at + 1 + 1)) (at + 1 + 1) (doubled t) in
-        let front = out ++ cut text (span from at) in
-        let same : ((front ++ 36 ∷ []) ++ cut text (span (at + 1 + 1) (at + 1 + 1))) ++ t ≡ front ++ b ∷ t = rw (cut_none text (at + 1 + 1), dollar) (simp (append-nil, append_assoc)) in
-        rw is (put_literal refer text p.unclosed from at (Dollar ∷ p.parts) out
-            ∙ next_done (front ++ 36 ∷ []) (λ all. put_parts refer text p.unclosed p.parts all)
-            ∙ put_doubled t refer text (at + 1 + 1) (at + 1 + 1) (front ++ 36 ∷ []) (omega arith) rest
-            ∙ ap (λ (x : List ℕ). done x) same))
+    let dollar : b ≡ 36 = eqb-true b 36 is in
+    let here : drop at text ≡ 36 ∷ 36 ∷ doubled t = rw is at e in
+    let two : at + 2 ≡ at + 1 + 1 = omega arith in
+    let rest : drop (at + 1 + 1) text ≡ doubled t = ap (λ k. drop k text) (sym two) ∙ sym (drop-drop 2 at text) ∙ ap (λ (xs : List ℕ). drop 2 xs) here in
+    let p = parts_from (refs.plain (at + 1 + 1)) (at + 1 + 1) (doubled t) in
+    let front = out ++ cut text (span from at) in
+    let same : ((front ++ 36 ∷ []) ++ cut text (span (at + 1 + 1) (at + 1 + 1))) ++ t ≡ front ++ b ∷ t = rw (cut_none text (at + 1 + 1), dollar) (simp (append-nil, append_assoc)) in
+    rw is (put_literal refer text p.unclosed from at (Dollar ∷ p.parts) out
+    ∙ next_done (front ++ 36 ∷ []) (λ all. put_parts refer text p.unclosed p.parts all)
+    ∙ put_doubled t refer text (at + 1 + 1) (at + 1 + 1) (front ++ 36 ∷ []) (omega arith) rest
+    ∙ ap (λ (x : List ℕ). done x) same))
     (λ is _.
-        let here : drop at text ≡ b ∷ doubled t = rw is at e in
-        let more : cut text (span from (at + 1)) ≡ cut text (span from at) ++ b ∷ [] = cut_more text (doubled t) from at b le here in
-        let rest : drop (at + 1) text ≡ doubled t = sym (drop-drop 1 at text) ∙ ap (λ (xs : List ℕ). drop 1 xs) here in
-        let same : (out ++ cut text (span from (at + 1))) ++ t ≡ (out ++ cut text (span from at)) ++ b ∷ t = rw more (simp append_assoc) in
-        rw (is, is) (put_doubled t refer text from (at + 1) out (omega arith) rest ∙ ap (λ (x : List ℕ). done x) same))
+    let here : drop at text ≡ b ∷ doubled t = rw is at e in
+    let more : cut text (span from (at + 1)) ≡ cut text (span from at) ++ b ∷ [] = cut_more text (doubled t) from at b le here in
+    let rest : drop (at + 1) text ≡ doubled t = sym (drop-drop 1 at text) ∙ ap (λ (xs : List ℕ). drop 1 xs) here in
+    let same : (out ++ cut text (span from (at + 1))) ++ t ≡ (out ++ cut text (span from at)) ++ b ∷ t = rw more (simp append_assoc) in
+    rw (is, is) (put_doubled t refer text from (at + 1) out (omega arith) rest ∙ ap (λ (x : List ℕ). done x) same))
     refl
 
 pub doubled_law : (vars : Entries) (cwd : List ℕ) (place : Place) (text : List ℕ) → expansion vars cwd place (doubled text) ≡ done text

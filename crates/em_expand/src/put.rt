@@ -45,7 +45,8 @@ pub(crate) fn put(out: Text, bytes: &[u8]) -> Result<Text, ExpandNo>
 
 /// A function on texts and words.
 fn text_value(alloc: Global, name: &[u8], args: &[Text], out: Text) -> Result<Text, ExpandNo>
-    ensures { free_in is_free result ≡ false → result ≡ text_value name.now (text_function name.now args.now) out }
+    ensures { free_in is_free result ≡ false →
+        result ≡ text_value name.now (text_function name.now args.now) out }
 {
     match text_function(alloc, name, args) {
         Ok(Some(value)) => put(out, value.bytes()),
@@ -62,7 +63,8 @@ pub(crate) fn substituted(
     value: Text,
     out: Text,
 ) -> Result<Text, ExpandNo>
-    ensures { free_in is_free result ≡ false → result ≡ substituted (substitution_seen parts.now) value out }
+    ensures { free_in is_free result ≡ false →
+        result ≡ substituted (substitution_seen parts.now) value out }
 {
     let mut args = Vec::new(alloc);
     args.push(with_percent(alloc, parts.from, parts.from)?)?;
@@ -73,7 +75,8 @@ pub(crate) fn substituted(
 
 /// A function on file names.
 fn name_value(alloc: Global, name: &[u8], args: &[Text], out: Text) -> Result<Text, ExpandNo>
-    ensures { free_in is_free result ≡ false → result ≡ Ok (out ++ unwrap_or (name_function name.now args.now) []) }
+    ensures { free_in is_free result ≡ false →
+        result ≡ Ok (out ++ unwrap_or (name_function name.now args.now) []) }
 {
     match name_function(alloc, name, args)? {
         Some(value) => put(out, value.bytes()),
@@ -88,7 +91,8 @@ fn put_wildcard<V: View>(
     desk: &mut Desk<V>,
     out: Text,
 ) -> Result<Text, ExpandNo>
-    ensures { (s : Spoken) → Does is_free V.tells desk.old desk.new s s result (put_wildcard cwd.now patterns.now out) }
+    ensures { (s : Spoken) → Does is_free V.tells desk.old desk.new s s result
+        (put_wildcard cwd.now patterns.now out) }
 {
     let names = wildcard(alloc, patterns, cwd, desk)?;
     put(out, names.bytes())
@@ -152,7 +156,8 @@ fn put_plain<V: View>(
     args: &[Text],
     out: Text,
 ) -> Result<Text, ExpandNo>
-    ensures { Does is_free V.tells desk.old desk.new spoken.old spoken.new result (put_plain (setting_of setting.now) (frames_of scope.now) name.now function args.now out) }
+    ensures { Does is_free V.tells desk.old desk.new spoken.old spoken.new result
+        (put_plain (setting_of setting.now) (frames_of scope.now) name.now function args.now out) }
 {
     let first = nth(0, args);
     match function {
@@ -181,7 +186,9 @@ pub(crate) fn put_value<V: View>(
     args: &[Text],
     out: Text,
 ) -> Result<Text, ExpandNo>
-    ensures { Does is_free V.tells desk.old desk.new spoken.old spoken.new result (enough (row_of row.now) args.now (put_plain (setting_of setting.now) (frames_of scope.now) row.now.name.now function args.now out)) }
+    ensures { Does is_free V.tells desk.old desk.new spoken.old spoken.new result
+        (enough (row_of row.now) args.now (put_plain (setting_of setting.now)
+        (frames_of scope.now) row.now.name.now function args.now out)) }
 {
     if args.len() < row.least {
         return Err(bad_argument(alloc, row.name));

@@ -43,7 +43,8 @@ fn expand_text<V: View>(
     text: &[u8],
     out: Text,
 ) -> Result<Text, ExpandNo>
-    ensures { Does is_free V.tells desk.old desk.new spoken.old spoken.new result (expand_text left (setting_of setting.now) (frames_of scope.now) text.now out) }
+    ensures { Does is_free V.tells desk.old desk.new spoken.old spoken.new result
+        (expand_text left (setting_of setting.now) (frames_of scope.now) text.now out) }
 {
     let Parted { parts, unclosed } = parts_before(alloc, text)?;
     let mut out = out;
@@ -69,7 +70,9 @@ fn put_part<V: View>(
     part: Part,
     out: Text,
 ) -> Result<Text, ExpandNo>
-    ensures { Does is_free V.tells desk.old desk.new spoken.old spoken.new result (put_part (reference left (setting_of setting.now) (frames_of scope.now)) text.now part out) }
+    ensures { Does is_free V.tells desk.old desk.new spoken.old spoken.new result
+        (put_part (reference left (setting_of setting.now)
+        (frames_of scope.now)) text.now part out) }
 {
     match part {
         Part::Literal(span) => put(out, span.of(text)),
@@ -112,7 +115,9 @@ fn evaluate<V: View>(
     inner: &[u8],
     out: Text,
 ) -> Result<Text, ExpandNo>
-    ensures { Does is_free V.tells desk.old desk.new spoken.old spoken.new result (evaluate (expand_text left (setting_of setting.now)) (setting_of setting.now) (frames_of scope.now) bracket inner.now out) }
+    ensures { Does is_free V.tells desk.old desk.new spoken.old spoken.new result
+        (evaluate (expand_text left (setting_of setting.now)) (setting_of setting.now)
+        (frames_of scope.now) bracket inner.now out) }
 {
     match call_of(alloc, bracket, inner)? {
         None => named(alloc, left, setting, scope, desk, spoken, inner, out),
@@ -135,7 +140,10 @@ fn put_call<V: View>(
     args: &[&[u8]],
     out: Text,
 ) -> Result<Text, ExpandNo>
-    ensures { Does is_free V.tells desk.old desk.new spoken.old spoken.new result (put_call (expand_text left (setting_of setting.now)) (setting_of setting.now) (frames_of scope.now) (row_of row.now) row.now.function (map (λ a. a.now) args.now) out) }
+    ensures { Does is_free V.tells desk.old desk.new spoken.old spoken.new result
+        (put_call (expand_text left (setting_of setting.now)) (setting_of setting.now)
+        (frames_of scope.now) (row_of row.now) row.now.function (map
+        (λ a. a.now) args.now) out) }
 {
     match row.function {
         Function::Refused => Err(refused(alloc, row.name)),
@@ -185,7 +193,9 @@ fn named<V: View>(
     inner: &[u8],
     out: Text,
 ) -> Result<Text, ExpandNo>
-    ensures { Does is_free V.tells desk.old desk.new spoken.old spoken.new result (named (expand_text left (setting_of setting.now)) (setting_of setting.now) (frames_of scope.now) inner.now out) }
+    ensures { Does is_free V.tells desk.old desk.new spoken.old spoken.new result
+        (named (expand_text left (setting_of setting.now)) (setting_of setting.now)
+        (frames_of scope.now) inner.now out) }
 {
     let empty = Text::new(alloc);
     let name = expand_text(alloc, left, setting, scope, desk, spoken, inner, empty)?;
@@ -211,7 +221,9 @@ fn variable<V: View>(
     name: &[u8],
     out: Text,
 ) -> Result<Text, ExpandNo>
-    ensures { Does is_free V.tells desk.old desk.new spoken.old spoken.new result (variable (expand_text left (setting_of setting.now)) setting.now.vars.now (frames_of scope.now) name.now out) }
+    ensures { Does is_free V.tells desk.old desk.new spoken.old spoken.new result
+        (variable (expand_text left (setting_of setting.now)) setting.now.vars.now
+        (frames_of scope.now) name.now out) }
 {
     match meaning_of(setting.vars, scope, name) {
         Meaning::Bound(text) => put(out, text),
@@ -239,7 +251,9 @@ fn choose<V: View>(
     args: &[&[u8]],
     out: Text,
 ) -> Result<Text, ExpandNo>
-    ensures { Does is_free V.tells desk.old desk.new spoken.old spoken.new result (enough (row_of row.now) (map (λ a. a.now) args.now) (choose (expand_text left (setting_of setting.now)) (frames_of scope.now) (map (λ a. a.now) args.now) out)) }
+    ensures { Does is_free V.tells desk.old desk.new spoken.old spoken.new result
+        (enough (row_of row.now) (map (λ a. a.now) args.now) (choose (expand_text left
+        (setting_of setting.now)) (frames_of scope.now) (map (λ a. a.now) args.now) out)) }
 {
     if args.len() < row.least {
         return Err(bad_argument(alloc, row.name));
@@ -265,7 +279,9 @@ fn until<V: View>(
     args: &[&[u8]],
     out: Text,
 ) -> Result<Text, ExpandNo>
-    ensures { Does is_free V.tells desk.old desk.new spoken.old spoken.new result (until (expand_text left (setting_of setting.now)) (frames_of scope.now) filled (map (λ a. a.now) args.now) [] out) }
+    ensures { Does is_free V.tells desk.old desk.new spoken.old spoken.new result
+        (until (expand_text left (setting_of setting.now)) (frames_of scope.now) filled (map
+        (λ a. a.now) args.now) [] out) }
 {
     let mut last = Text::new(alloc);
     for arg in args {
@@ -292,7 +308,9 @@ fn foreach<V: View>(
     args: &[&[u8]],
     out: Text,
 ) -> Result<Text, ExpandNo>
-    ensures { Does is_free V.tells desk.old desk.new spoken.old spoken.new result (enough (row_of row.now) (map (λ a. a.now) args.now) (foreach (expand_text left (setting_of setting.now)) (frames_of scope.now) (map (λ a. a.now) args.now) out)) }
+    ensures { Does is_free V.tells desk.old desk.new spoken.old spoken.new result
+        (enough (row_of row.now) (map (λ a. a.now) args.now) (foreach (expand_text left
+        (setting_of setting.now)) (frames_of scope.now) (map (λ a. a.now) args.now) out)) }
 {
     if args.len() < row.least {
         return Err(bad_argument(alloc, row.name));
@@ -325,7 +343,9 @@ fn turns<V: View>(
     words: &[&[u8]],
     out: Text,
 ) -> Result<Text, ExpandNo>
-    ensures { Does is_free V.tells desk.old desk.new spoken.old spoken.new result (turns (expand_text left (setting_of setting.now)) (frames_of scope.now) name.now text.now (map (λ w. w.now) words.now) [] out) }
+    ensures { Does is_free V.tells desk.old desk.new spoken.old spoken.new result
+        (turns (expand_text left (setting_of setting.now)) (frames_of scope.now) name.now text.now
+        (map (λ w. w.now) words.now) [] out) }
 {
     let mut out = out;
     let mut gap: &[u8] = b"";
@@ -350,7 +370,9 @@ fn arguments<V: View>(
     spoken: &mut Spoken,
     args: &[&[u8]],
 ) -> Result<Seq<Text>, ExpandNo>
-    ensures { Does is_free V.tells desk.old desk.new spoken.old spoken.new result (arguments (expand_text left (setting_of setting.now)) (frames_of scope.now) (map (λ a. a.now) args.now) []) }
+    ensures { Does is_free V.tells desk.old desk.new spoken.old spoken.new result
+        (arguments (expand_text left (setting_of setting.now)) (frames_of scope.now) (map
+        (λ a. a.now) args.now) []) }
 {
     let mut values = Seq::new(alloc);
     for arg in args {
@@ -373,7 +395,9 @@ fn call<V: View>(
     args: &[Text],
     out: Text,
 ) -> Result<Text, ExpandNo>
-    ensures { Does is_free V.tells desk.old desk.new spoken.old spoken.new result (steps.call (expand_text left (setting_of setting.now)) setting.now.vars.now (frames_of scope.now) args.now out) }
+    ensures { Does is_free V.tells desk.old desk.new spoken.old spoken.new result
+        (steps.call (expand_text left (setting_of setting.now)) setting.now.vars.now
+        (frames_of scope.now) args.now out) }
 {
     let name = argument(args, 0);
     match meaning_of(setting.vars, scope, name) {
@@ -386,7 +410,19 @@ fn call<V: View>(
     }
 }
 
-/// The expansion of a text.
+/// The expansion of a text: `$$` is `$`, `$x`, `$(x)` and `${x}` are the value of a variable, `$(x:a=b)` is that of a substitution,
+/// and `$(function arguments)` what the function gives. Names are read against `cwd`, and `warning` says `place`.
+///
+/// What `info` and `warning` say and the texts for `eval` are appended to `spoken`; after an error it holds what came before. The
+/// error is the first in the text, from the left: `SelfReference` where a recursive variable that is being expanded is referred to
+/// again; `UserError` by `error`; `BadArgument` for too few arguments, or bad ones of `word` and `wordlist`; `Unclosed` at a reference
+/// that isn't closed; `Refused` for a function that isn't supported; `TooDeep` where more than 200 references and calls stand in one
+/// another; `Spent` where fuel doesn't suffice. Each reference and call costs a unit before and the blocks of its result behind it,
+/// each turn of `foreach` a unit, and `wildcard` what it asks.
+///
+/// The time is linear in what is expanded and made, with a step for each scope at each name. A byte of plain text is copied once,
+/// to the result, at whatever depth it stands; no variable is copied. A value that is needed apart, as a name, an argument or a list,
+/// is a text of its own, so that a byte that passes through a function is copied at most three times for it.
 pub fn expand<V: View>(
     alloc: Global,
     text: &[u8],
@@ -396,7 +432,8 @@ pub fn expand<V: View>(
     desk: &mut Desk<V>,
     spoken: &mut Spoken,
 ) -> Result<Text, ExpandNo>
-    ensures { Does is_free V.tells desk.old desk.new spoken.old spoken.new result (expansion vars.now cwd.now place.now text.now) }
+    ensures { Does is_free V.tells desk.old desk.new spoken.old spoken.new result
+        (expansion vars.now cwd.now place.now text.now) }
 {
     let setting = Setting { vars, cwd, place };
     let out = Text::new(alloc);
