@@ -1,6 +1,6 @@
 -- What texts without references come to.
-use Rattle.std.proofs.Common.{◌≡◌, ◌≢◌, ◌≤◌, ◌+◌, ◌-◌, ℕ, zero, suc, Bool, true, false, eqb, List, [], ◌∷◌, ◌++◌, take, drop, Option, None, Some, refl, sym, ap, ◌∙◌, append-nil, append_assoc, add-one, arith}
-use Rattle.std.specs.Prelude.{All, ◌==◌}
+use Rattle.std.proofs.Common.{◌≡◌, ◌≢◌, ◌≤◌, ◌+◌, ◌-◌, ℕ, zero, suc, false, eqb, List, [], ◌∷◌, ◌++◌, take, drop, Option, None, refl, sym, ap, ◌∙◌, append-nil, append_assoc, arith}
+use Rattle.std.specs.Prelude.{All}
 use Rattle.std.specs.List.{AllByRecursion}
 use Rattle.std.proofs.lemmas.Bool.{eqb-true, ne_eqb}
 use Rattle.std.proofs.lemmas.List.{drop-drop}
@@ -9,15 +9,12 @@ use Rattle.em_base.proofs.Lemmas.{by_cases}
 use Rattle.em_base.specs.Spans.{cut}
 use Rattle.em_base.specs.declared.place.Place.{Place}
 use Rattle.em_refs.specs.declared.part.Part.{Part}
-use Rattle.em_refs.specs.declared.part.Part.TheVariants.{Literal, Dollar}
-use Rattle.em_refs.specs.declared.part.Parted.{Parted}
+use Rattle.em_refs.specs.declared.part.Part.TheVariants.{Dollar}
 use Rattle.em_refs.specs.Parts as refs
 use Rattle.em_refs.specs.Parts.{span, literal, parts_from, parted}
 use Rattle.em_vars.specs.Entries.{Entries}
 use Rattle.em_view.specs.Actions.{◌>>=◌}
-use Rattle.em_view.specs.Steps.{Steps, and_then, done}
-use Rattle.em_expand.specs.declared.no.ExpandNo.{ExpandNo}
-use Rattle.em_expand.specs.declared.spoken.Spoken.{Spoken}
+use Rattle.em_view.specs.Steps.{and_then, done}
 use Rattle.em_expand.specs.Desks.{Says}
 use Rattle.em_expand.specs.Doubled.{doubled}
 use Rattle.em_expand.specs.Expansion.{Refers, put_parts, expansion, reference, levels}

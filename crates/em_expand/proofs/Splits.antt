@@ -1,5 +1,5 @@
 -- How a text is parted at commas, one comma after another.
-use Rattle.std.proofs.Common.{◌≡◌, ◌∙◌, ℕ, zero, suc, ◌+◌, ◌-◌, ◌<◌, List, [], ◌∷◌, ◌++◌, take, drop, map, Option, None, Some, Bor, refl, sym, ap, append_assoc, arith}
+use Rattle.std.proofs.Common.{◌≡◌, ◌∙◌, ℕ, zero, suc, ◌+◌, List, [], ◌∷◌, ◌++◌, take, drop, map, None, Some, Bor, refl, sym, ap, append_assoc}
 use Rattle.std.proofs.lemmas.List.{map-append}
 use Rattle.em_refs.specs.declared.part.Bracket.{Bracket}
 use Rattle.em_expand.specs.Calls.{comma, split, parted_at}

@@ -1,5 +1,5 @@
 -- What an expansion makes of a desk's answers, and what it pays.
-use Rattle.std.specs.Prelude.{ℕ, Bool, true, false, List, Result}
+use Rattle.std.specs.Prelude.{ℕ, Bool, true, false}
 use Rattle.em_view.specs.declared.no.DeskNo.{DeskNo}
 use Rattle.em_view.specs.declared.no.DeskNo.TheVariants as desk
 use Rattle.em_view.specs.Actions.{spend}

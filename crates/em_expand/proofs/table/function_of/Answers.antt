@@ -5,7 +5,7 @@ use Rattle.std.proofs.lemmas.Iterator.{YieldsList-from_slice}
 use Rattle.std.proofs.lemmas.Iterator.Search.{find_from_yields_List}
 use Rattle.em_base.proofs.Lemmas.{find_map}
 use Rattle.em_expand.specs.declared.table.Entry.{Entry}
-use Rattle.em_expand.specs.Table.{Row, row_of, is_named, table, function_of}
+use Rattle.em_expand.specs.Table.{Row, row_of, is_named, function_of}
 use Rattle.em_expand.proofs.table.function_of.Goals as goal
 
 both : (o : Option (Bor Entry)) → option_map (λ e. row_of e.now) o ≡ option_map row_of (option_map (λ e. e.now) o)

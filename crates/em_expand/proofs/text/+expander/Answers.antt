@@ -1,4 +1,4 @@
-use Rattle.std.proofs.Common.{◌≡◌, ◌∙◌, refl, ap, sym, Option, None, Some}
+use Rattle.std.proofs.Common.{◌∙◌, refl, ap, sym, None, Some}
 use Rattle.std.specs.Prelude.{option_map}
 use Rattle.em_view.proofs.Doing.{then_s, leave_s, finish_s, refused_s, gave_s, out_s}
 use Rattle.em_expand.specs.declared.no.ExpandNo.TheVariants as no

@@ -1,8 +1,8 @@
-use Rattle.std.proofs.Common.{◌≡◌, ◌+◌, ◌*◌, [], drop, map, List, ℕ, Bor}
+use Rattle.std.proofs.Common.{◌+◌, ◌*◌, [], drop, map, List, ℕ, Bor}
 use Rattle.em_view.proofs.Doing.{Goes}
 use Rattle.em_expand.specs.Desks.{is_free}
 use Rattle.em_expand.specs.Scopes.{frames_of}
-use Rattle.em_expand.specs.Expansion.{setting_of, expand_text, reference, put_text, put_parts, until, turns, arguments}
+use Rattle.em_expand.specs.Expansion.{setting_of, expand_text, reference, put_parts, until, turns, arguments}
 use Rattle.em_expand.proofs.text.+expander.Given as goal
 
 abbrev pub decreases-expand_text : goal.decreases-expand_text
