@@ -1,0 +1,4 @@
+mod Dollars
+mod Making
+mod Splits
+mod Undefined

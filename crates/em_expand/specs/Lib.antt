@@ -1,0 +1,15 @@
+pub use Rattle.em_base.specs.Blanks
+pub use Rattle.em_base.specs.Spans
+pub use Rattle.em_view.specs.Actions
+pub use Rattle.em_view.specs.Performs
+pub use Rattle.em_view.specs.Rows
+pub use Rattle.em_view.specs.Steps
+pub use Rattle.em_view.specs.Do
+pub use Rattle.em_vars.specs.Entries
+pub mod Desks
+pub mod Scopes
+pub mod Table
+pub mod Calls
+pub mod Values
+pub mod Doubled
+pub mod Expansion

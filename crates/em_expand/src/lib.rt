@@ -1,0 +1,20 @@
+//! The expansion of texts of make: references, variables and functions.
+#![tactic(auto)]
+
+mod calls;
+pub mod laws;
+mod no;
+mod pick;
+mod put;
+mod scope;
+mod spoken;
+mod table;
+mod text;
+mod values;
+
+pub use no::ExpandNo;
+pub use spoken::Spoken;
+pub use text::expand;
+
+#[cfg(test)]
+mod tests;
