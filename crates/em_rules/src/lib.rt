@@ -13,6 +13,7 @@ mod walk;
 
 pub use book::{Book, BookNo};
 pub use dots::undotted;
+pub use made::{undotted_rule, unmatched};
 pub use rule::{RecipeLine, Rule};
 pub use rules::Rules;
 pub use special::{Names, Special};

@@ -32,8 +32,8 @@ fn undotted_form(form: Option<Text>) -> Option<Text>
     }
 }
 
-/// The rule with its names as they are known.
-pub(crate) fn undotted_rule(alloc: Global, r: Rule) -> Result<Rule, NoMemory>
+/// The rule with its names as they are known: without the `./` that they begin with. A copy of each name.
+pub fn undotted_rule(alloc: Global, r: Rule) -> Result<Rule, NoMemory>
     ensures { IfOk result (λ k. k ≡ static.undotted_rule r) }
 {
     let Rule {
@@ -78,7 +78,7 @@ fn unmatched_in(form: &[u8], targets: &[Text]) -> Option<usize>
 }
 
 /// The place of the first target of a static pattern rule that its target pattern doesn't match. No memory.
-pub(crate) fn unmatched(r: &Rule) -> Option<usize>
+pub fn unmatched(r: &Rule) -> Option<usize>
     ensures { MatchOption result
         (static.unmatched (static.undotted_rule r.now) ≡ None)
         (λ i. (i < length r.now.targets) × (static.unmatched (static.undotted_rule r.now) ≡ slice_get (map undotted r.now.targets) i)) }

@@ -74,8 +74,8 @@ pub(crate) fn colon_of(targets: &[u8], rest: &[u8]) -> Colon
     }
 }
 
-/// The words of a text.
-fn words(alloc: Global, text: &[u8]) -> Result<Seq<Text>, NoMemory>
+/// The words of a text, in order. Steps for each byte, and one copy of each word.
+pub fn words(alloc: Global, text: &[u8]) -> Result<Seq<Text>, NoMemory>
     ensures { IfOk result (λ ws. ws ≡ words_of text.now) }
 {
     let mut words = Seq::new(alloc);

@@ -15,7 +15,7 @@ mod statement;
 
 pub use assignment::{Assignment, Modifiers, Operator};
 pub use condition::{Condition, Sides};
-pub use head::{Head, read_head};
+pub use head::{Head, read_head, words};
 pub use line::read_statement;
 pub use refusal::refused_in_head;
 pub use split::{first_word, is_empty};
