@@ -10,7 +10,7 @@ use em_base::{NoMemory, Place, Seq, Text};
 use em_path::Path;
 use em_rules::{Book, RecipeLine, Rule};
 use em_tree::{Body, Kind, Node, Tree};
-use em_wordlist::{join_texts, texts};
+use em_wordlist::{join, join_texts, texts};
 use std::alloc::Global;
 use std::process::Abort;
 use std::test::Fail;
@@ -94,20 +94,33 @@ fn tree(alloc: Global, nodes: &[u8]) -> Result<Tree, Fail> {
     Ok(tree)
 }
 
-/// The stem and the prerequisites that the rule makes, as `x: normal | order`; empty where there is no rule.
+/// The stem and the prerequisites that the rule makes, as `x normal | order`.
+fn made(alloc: Global, rule: &Rule, target: &[u8], stem: &[u8]) -> Result<Text, Fail> {
+    let needed = prerequisites_of(alloc, rule, target)?;
+    let normal = join_texts(alloc, needed.normal.items())?;
+    let order = join_texts(alloc, needed.order.items())?;
+    Ok(join(alloc, &[stem, normal.bytes(), b"|", order.bytes()])?)
+}
+
+/// The same of the rule that was found; empty where there is none.
 fn shown(alloc: Global, book: &Book, target: &[u8], found: &Option<Found>) -> Result<Text, Fail> {
-    let mut text = Text::new(alloc);
     let Some(found) = found else {
-        return Ok(text);
+        return Ok(Text::new(alloc));
     };
     let rule = book.patterns.get(found.rule).ok_or("no rule")?;
-    let needed = prerequisites_of(alloc, rule, target)?;
-    text.add(found.stem.bytes())?;
-    text.add(b": ")?;
-    text.add(join_texts(alloc, needed.normal.items())?.bytes())?;
-    text.add(b" | ")?;
-    text.add(join_texts(alloc, needed.order.items())?.bytes())?;
-    Ok(text)
+    made(alloc, rule, target, found.stem.bytes())
+}
+
+fn found_in(
+    alloc: Global,
+    book: &Book,
+    nodes: &[u8],
+    cwd: &[u8],
+    target: &[u8],
+) -> Result<Option<Found>, Fail> {
+    let tree = tree(alloc, nodes)?;
+    let cwd = Path::from_text(alloc, cwd)?.ok_or("no path")?;
+    Ok(find(alloc, book, target, &tree, &cwd)?)
 }
 
 /// Nodes, working directory, target; the rule that is found, and its stem and prerequisites.
@@ -123,9 +136,7 @@ type Case = (
 fn are_found(rt: &impl Abort, alloc: Global, rows: &[Row], cases: &[Case]) -> Result<(), Fail> {
     let book = book(alloc, rows)?;
     for (nodes, cwd, target, rule, want) in cases {
-        let tree = tree(alloc, nodes)?;
-        let cwd = Path::from_text(alloc, cwd)?.ok_or("no path")?;
-        let found = find(alloc, &book, target, &tree, &cwd)?;
+        let found = found_in(alloc, &book, nodes, cwd, target)?;
         assert_eq!(rt; found.as_ref().map(|f| f.rule), *rule);
         assert_eq!(rt; shown(alloc, &book, target, &found)?.bytes(), *want);
     }
@@ -143,9 +154,9 @@ fn the_shorter_stem_wins(rt: HostRuntime) -> Result<(), Fail> {
             [b"%.q", b"./", b""],
         ],
         &[
-            (b"f/dx.c", b"/", b"dx.o", Some(1), b"x: dx.c | "),
+            (b"f/dx.c", b"/", b"dx.o", Some(1), b"x dx.c | "),
             (b"", b"/", b"dx.o", None, b""),
-            (b"d/d f/d/x.c", b"/", b"d/x.o", Some(0), b"d/x: d/x.c | "),
+            (b"d/d f/d/x.c", b"/", b"d/x.o", Some(0), b"d/x d/x.c | "),
             (b"", b"/", b"x.q", None, b""),
         ],
     )
@@ -168,7 +179,7 @@ fn a_pattern_without_a_slash_is_matched_against_the_file(rt: HostRuntime) -> Res
                 b"/",
                 b"d/x.o",
                 Some(0),
-                b"d/x: d/x.c h.h | ",
+                b"d/x d/x.c h.h | ",
             ),
             (b"d/d f/d/x.c f/d/h.h", b"/", b"d/x.o", None, b""),
             (
@@ -176,17 +187,17 @@ fn a_pattern_without_a_slash_is_matched_against_the_file(rt: HostRuntime) -> Res
                 b"/",
                 b"d/y.o",
                 Some(1),
-                b"y: d/y.s | ",
+                b"y d/y.s | ",
             ),
             (
                 b"d/src f/src/car",
                 b"/",
                 b"src/eat",
                 Some(2),
-                b"src/a: src/car | ",
+                b"src/a src/car | ",
             ),
             (b"d/src f/car", b"/", b"src/eat", None, b""),
-            (b"f/a.y f/a%", b"/", b"a.x", Some(3), b"a: a.y | a%"),
+            (b"f/a.y f/a%", b"/", b"a.x", Some(3), b"a a.y | a%"),
         ],
     )
 }
@@ -203,13 +214,13 @@ fn what_is_mentioned_need_not_exist(rt: HostRuntime) -> Result<(), Fail> {
             [b"m", b"n.c", b"p.x"],
         ],
         &[
-            (b"f/a.s", b"/", b"a.o", Some(1), b"a: a.s | "),
-            (b"f/b.c f/b.s f/b.x", b"/", b"b.o", Some(0), b"b: b.c | "),
-            (b"d/d f/d/a.c", b"/d", b"a.o", Some(0), b"a: a.c | "),
+            (b"f/a.s", b"/", b"a.o", Some(1), b"a a.s | "),
+            (b"f/b.c f/b.s f/b.x", b"/", b"b.o", Some(0), b"b b.c | "),
+            (b"d/d f/d/a.c", b"/d", b"a.o", Some(0), b"a a.c | "),
             (b"d/d f/a.c", b"/d", b"a.o", None, b""),
-            (b"d/e.c", b"/", b"e.o", Some(0), b"e: e.c | "),
-            (b"", b"/", b"n.o", Some(0), b"n: n.c | "),
-            (b"", b"/", b"p.o", Some(2), b"p:  | p.x"),
+            (b"d/e.c", b"/", b"e.o", Some(0), b"e e.c | "),
+            (b"", b"/", b"n.o", Some(0), b"n n.c | "),
+            (b"", b"/", b"p.o", Some(2), b"p  | p.x"),
             (b"f/.c", b"/", b".o", None, b""),
             (b"", b"/", b"m", None, b""),
         ],
