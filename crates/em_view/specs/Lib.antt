@@ -4,6 +4,7 @@ pub mod Performs
 pub mod Codes
 pub mod Names
 pub mod Rows
+pub mod Ends
 pub mod Held
 pub mod Asking
 pub mod Steps

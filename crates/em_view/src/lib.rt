@@ -4,6 +4,7 @@
 mod ask;
 mod cost;
 mod desk;
+mod done;
 mod edit;
 mod effect;
 mod names;
@@ -15,6 +16,7 @@ mod write;
 
 pub use cost::blocks;
 pub use desk::Desk;
+pub use done::{Done, ExecNo, Piece};
 pub use effect::Effect;
 pub use no::{DeskNo, FileNo};
 pub use view::{PlainView, ScriptView, View};
