@@ -11,8 +11,8 @@ ghost use Rattle.em_expand.specs.Expansion.{expansion};
 
 /// A text without `$` is its own expansion: nothing is said, asked or paid.
 pub fn law_plain()
-    ensures { (vars : Entries) (cwd : List ℕ) (place : Place) (text : List ℕ) → All (λ b. b ≢ 36) text
-        → expansion vars cwd place text ≡ done text }
+    ensures { (vars : Entries) (cwd : List ℕ) (place : Place) (text : List ℕ)
+        → All (λ b. b ≢ 36) text → expansion vars cwd place text ≡ done text }
 {}
 
 /// A text with each `$` doubled expands to the text: nothing is said, asked or paid.
@@ -21,9 +21,11 @@ pub fn law_doubled()
         → expansion vars cwd place (doubled text) ≡ done text }
 {}
 
-/// A reference to an undefined variable is empty and costs one unit.
+/// A reference without brackets to an undefined variable, whose name is the one byte, is empty and costs one unit.
 pub fn law_undefined()
-    ensures { (vars : Entries) (cwd : List ℕ) (place : Place) (b : ℕ) (s : Spoken) (o : Oracle) (w : Workspace)
+    ensures { (vars : Entries) (cwd : List ℕ) (place : Place) (b : ℕ)
+        → (s : Spoken) (o : Oracle) (w : Workspace)
         → b ≢ 36 → bracket_of b ≡ None → value_of vars (b ∷ []) ≡ None → 1 ≤ w.fuel
-        → expansion vars cwd place (36 ∷ b ∷ []) s o w ≡ (Ok ([], s), record w { fuel = w.fuel - 1 }) }
+        → expansion vars cwd place (36 ∷ b ∷ []) s o w
+            ≡ (Ok ([], s), record w { fuel = w.fuel - 1 }) }
 {}

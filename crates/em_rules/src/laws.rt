@@ -21,7 +21,8 @@ pub fn law_rules_of()
 /// A name's recipe is that of the last of its rules with one.
 pub fn law_recipe_rule()
     ensures { (rules : List RuleData) (name : List ℕ) →
-        let numbers = map (λ e. e.0) (filter (λ e. has_target e.1 name && is_some e.1.recipe) (enumerate_from 0 rules))
+        let numbers = map (λ e. e.0)
+        (filter (λ e. has_target e.1 name && is_some e.1.recipe) (enumerate_from 0 rules))
         in recipe_rule rules name ≡ slice_get numbers (length numbers - 1) }
 {}
 

@@ -32,7 +32,7 @@ fn undotted_form(form: Option<Text>) -> Option<Text>
     }
 }
 
-/// The rule with its names as they are known: without the `./` that they begin with. A copy of each name.
+/// The rule with its names as they are known: without the `./` that they begin with. Each name is changed where it stands.
 pub fn undotted_rule(alloc: Global, r: Rule) -> Result<Rule, NoMemory>
     ensures { IfOk result (λ k. k ≡ static.undotted_rule r) }
 {
@@ -67,7 +67,9 @@ fn is_unmatched(form: &[u8], target: &Text) -> bool
 fn unmatched_in(form: &[u8], targets: &[Text]) -> Option<usize>
     ensures { MatchOption result
         (static.unmatched_by (Some form.now) (map undotted targets.now) ≡ None)
-        (λ i. (i < length targets.now) × (static.unmatched_by (Some form.now) (map undotted targets.now) ≡ slice_get (map undotted targets.now) i)) }
+        (λ i. (i < length targets.now)
+        × (static.unmatched_by (Some form.now) (map undotted targets.now)
+        ≡ slice_get (map undotted targets.now) i)) }
 {
     for (i, target) in targets.iter().enumerate() {
         if is_unmatched(form, target) {
@@ -81,7 +83,9 @@ fn unmatched_in(form: &[u8], targets: &[Text]) -> Option<usize>
 pub fn unmatched(r: &Rule) -> Option<usize>
     ensures { MatchOption result
         (static.unmatched (static.undotted_rule r.now) ≡ None)
-        (λ i. (i < length r.now.targets) × (static.unmatched (static.undotted_rule r.now) ≡ slice_get (map undotted r.now.targets) i)) }
+        (λ i. (i < length r.now.targets)
+        × (static.unmatched (static.undotted_rule r.now)
+        ≡ slice_get (map undotted r.now.targets) i)) }
 {
     match &r.form {
         Some(form) => unmatched_in(undotted(form.bytes()), r.targets.items()),

@@ -102,7 +102,8 @@ fn uses_before(alloc: Global, index: &mut Table<Uses>, name: &[u8]) -> Uses
 
 /// Notes a use of a name.
 fn note(alloc: Global, index: &mut Table<Uses>, name: &Text, new: Use) -> Result<(), NoMemory>
-    ensures { OnOk result ((q : List ℕ) → table.get index.new q ≡ used (bytes_eq name.now q) new (table.get index.old q)) }
+    ensures { OnOk result ((q : List ℕ)
+        → table.get index.new q ≡ used (bytes_eq name.now q) new (table.get index.old q)) }
 {
     let uses = uses_before(alloc, index, name.bytes()).with(new)?;
     index.insert(name.copy(alloc)?, uses)?;
@@ -116,7 +117,8 @@ fn note_names(
     names: &[Text],
     new: Use,
 ) -> Result<(), NoMemory>
-    ensures { OnOk result ((q : List ℕ) → table.get index.new q ≡ used (is_in names.now q) new (table.get index.old q)) }
+    ensures { OnOk result ((q : List ℕ)
+        → table.get index.new q ≡ used (is_in names.now q) new (table.get index.old q)) }
 {
     for name in names {
         note(alloc, index, name, new)?;
@@ -131,7 +133,8 @@ fn note_rule(
     number: usize,
     rule: &Rule,
 ) -> Result<(), NoMemory>
-    ensures { OnOk result ((q : List ℕ) → table.get index.new q ≡ noted number rule.now q (table.get index.old q)) }
+    ensures { OnOk result ((q : List ℕ)
+        → table.get index.new q ≡ noted number rule.now q (table.get index.old q)) }
 {
     let prerequisite = Use::Prerequisite {
         phony: rule.has_target(b".PHONY"),
@@ -153,7 +156,8 @@ pub(crate) fn note_rules(
     rules: &[Rule],
 ) -> Result<(), NoMemory>
     requires { first + length rules.now < 2 ^ 64 }
-    ensures { OnOk result ((q : List ℕ) → table.get index.new q ≡ uses_from first rules.now q (table.get index.old q)) }
+    ensures { OnOk result ((q : List ℕ)
+        → table.get index.new q ≡ uses_from first rules.now q (table.get index.old q)) }
 {
     for (i, rule) in rules.iter().enumerate() {
         note_rule(alloc, index, first + i, rule)?;

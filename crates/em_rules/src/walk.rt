@@ -14,7 +14,8 @@ fn add_number(
     rule: &Rule,
     name: &[u8],
 ) -> Result<(), NoMemory>
-    ensures { OnOk result (numbers.new ≡ numbers.old ++ (if has_target rule.now name.now then number ∷ [] else [])) }
+    ensures { OnOk result (numbers.new
+        ≡ numbers.old ++ (if has_target rule.now name.now then number ∷ [] else [])) }
 {
     if rule.has_target(name) {
         numbers.push(number)?;
@@ -35,7 +36,8 @@ pub(crate) fn numbers(alloc: Global, rules: &[Rule], name: &[u8]) -> Result<Seq<
 
 /// The number, where it is a rule for the name with a recipe.
 fn with_recipe(number: usize, rule: &Rule, name: &[u8]) -> Option<usize>
-    ensures { result ≡ (if has_target rule.now name.now && is_some rule.now.recipe then Some number else None) }
+    ensures { result
+        ≡ (if has_target rule.now name.now && is_some rule.now.recipe then Some number else None) }
 {
     if rule.has_target(name) && rule.recipe.is_some() {
         Some(number)

@@ -17,9 +17,6 @@ use Rattle.em_statement.specs.Split.{behind, is_empty}
 abbrev pub deeper : ℕ → ℕ → ℕ
 deeper b depth = if b == 40 then suc depth else depth
 
-abbrev pub shallower : ℕ → ℕ → ℕ
-shallower b depth = if b == 41 then depth else suc depth
-
 -- where this byte first stands outside brackets; nowhere behind a bracket that closes more than was opened
 abbrev pub outer : ℕ → ℕ → List ℕ → Option ℕ
 outer stop depth [] = None

@@ -7,6 +7,7 @@ use Rattle.std.specs.Option.{option_map_or, option_or}
 use Rattle.std.specs.Str.{bytes_eq}
 use Rattle.em_base.specs.Blanks.{trimmed}
 use Rattle.em_wordlist.specs.Words.{words_of}
+use Rattle.em_rules.specs.Dots.{undotted}
 use Rattle.em_statement.specs.declared.head.Head.{Head}
 use Rattle.em_statement.specs.declared.head.Colon.{Colon}
 use Rattle.em_statement.specs.declared.head.Colon.TheVariants.{Single, Double, Grouped}
@@ -89,24 +90,18 @@ percent_refusal several (b ∷ bs) =
     else if several && (b == 37) then Some (codes "%")
     else percent_refusal several bs
 
--- a name as it is known, without leading `./`
-abbrev pub plain : List ℕ → List ℕ
-plain [] = []
-plain (a ∷ []) = a ∷ []
-plain (a ∷ b ∷ rest) = if (a == 46) && (b == 47) then plain rest else a ∷ b ∷ rest
-
 -- a target: several of them may hold no `%`, and `.SUFFIXES` has no prerequisites
 abbrev pub target_refusal : Bool → Bool → List ℕ → Option (List ℕ)
 target_refusal several followed word =
     if is_member word then Some word
-    else if is_special (plain word) then Some (plain word)
-    else if followed && bytes_eq (plain word) (codes ".SUFFIXES") then Some (plain word)
+    else if is_special (undotted word) then Some (undotted word)
+    else if followed && bytes_eq (undotted word) (codes ".SUFFIXES") then Some (undotted word)
     else percent_refusal several word
 
 abbrev pub prerequisite_refusal : List ℕ → Option (List ℕ)
 prerequisite_refusal word =
     if is_member word then Some word
-    else if bytes_eq (plain word) (codes ".WAIT") then Some (plain word)
+    else if bytes_eq (undotted word) (codes ".WAIT") then Some (undotted word)
     else percent_refusal false word
 
 -- the first that there is

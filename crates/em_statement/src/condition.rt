@@ -1,5 +1,5 @@
 //! Conditions.
-ghost use Rattle.std.specs.Prelude.{◌≡◌, ◌+◌, IfOk, MatchOption, None, Some, option_map};
+ghost use Rattle.std.specs.Prelude.{◌≡◌, IfOk, option_map};
 ghost use Rattle.em_statement.specs.Conditions as conditions;
 ghost use Rattle.em_statement.specs.Conditions.{outer, unquoted, sides_of, condition_by};
 

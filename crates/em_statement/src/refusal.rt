@@ -2,11 +2,12 @@
 ghost use Rattle.std.specs.Prelude.{◌≡◌, ◌++◌, ◌∷◌, map, option_map, IfOk, IsErr, IsSome};
 ghost use Rattle.std.specs.List.{position};
 ghost use Rattle.em_statement.specs.Heads as heads;
-ghost use Rattle.em_statement.specs.Heads.{is_member, is_special, plain, percent_refusal, target_refusal, prerequisite_refusal, colon_refusal, is_colon, refusal_of, first_of, has_several, is_followed};
+ghost use Rattle.em_statement.specs.Heads.{is_member, is_special, percent_refusal, target_refusal, prerequisite_refusal, colon_refusal, is_colon, refusal_of, first_of, has_several, is_followed};
 
 use crate::head::{Colon, Head, colon_of, head_at};
 use crate::split::{before, behind, from, place_of};
 use em_base::{NoMemory, Text};
+use em_rules::undotted;
 use std::alloc::Global;
 
 /// Whether a word names a member of an archive.
@@ -47,22 +48,11 @@ fn percent_refusal(several: bool, word: &[u8]) -> Option<&'static [u8]>
     None
 }
 
-/// A name as it is known, without leading `./`.
-fn plain(word: &[u8]) -> &[u8]
-    ensures { result.now ≡ plain word.now }
-{
-    let mut rest = word;
-    while let [b'.', b'/', behind @ ..] = rest {
-        rest = behind;
-    }
-    rest
-}
-
 /// What is refused in a target.
 fn target_refusal(several: bool, followed: bool, word: &[u8]) -> Option<&[u8]>
     ensures { option_map (λ r. r.now) result ≡ target_refusal several followed word.now }
 {
-    let name = plain(word);
+    let name = undotted(word);
     if is_member(word) {
         Some(word)
     } else if is_special(name) || followed && name == b".SUFFIXES".as_slice() {
@@ -76,7 +66,7 @@ fn target_refusal(several: bool, followed: bool, word: &[u8]) -> Option<&[u8]>
 fn prerequisite_refusal(word: &[u8]) -> Option<&[u8]>
     ensures { option_map (λ r. r.now) result ≡ prerequisite_refusal word.now }
 {
-    let name = plain(word);
+    let name = undotted(word);
     if is_member(word) {
         Some(word)
     } else if name == b".WAIT".as_slice() {
@@ -88,7 +78,8 @@ fn prerequisite_refusal(word: &[u8]) -> Option<&[u8]>
 
 /// The first target that is refused.
 fn first_target_refusal(several: bool, followed: bool, targets: &[Text]) -> Option<&[u8]>
-    ensures { option_map (λ r. r.now) result ≡ first_of (map (target_refusal several followed) targets.now) }
+    ensures { option_map (λ r. r.now) result
+        ≡ first_of (map (target_refusal several followed) targets.now) }
 {
     for target in targets {
         let refused = target_refusal(several, followed, target.bytes());
@@ -101,7 +92,8 @@ fn first_target_refusal(several: bool, followed: bool, targets: &[Text]) -> Opti
 
 /// The first prerequisite that is refused.
 fn first_prerequisite_refusal(prerequisites: &[Text]) -> Option<&[u8]>
-    ensures { option_map (λ r. r.now) result ≡ first_of (map prerequisite_refusal prerequisites.now) }
+    ensures { option_map (λ r. r.now) result
+        ≡ first_of (map prerequisite_refusal prerequisites.now) }
 {
     for prerequisite in prerequisites {
         let refused = prerequisite_refusal(prerequisite.bytes());

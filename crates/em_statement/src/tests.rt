@@ -296,6 +296,8 @@ fn a_head_has_parts(rt: HostRuntime) -> Result<(), Fail> {
         assert!(rt; head.form.as_ref().map(|form| form.bytes()) == form);
     }
     assert!(rt; read_head(rt.alloc(), b"a b")?.is_none());
+    let listed = listed(rt.alloc(), words(rt.alloc(), b" a  b")?.items())?;
+    assert!(rt; listed.bytes() == b"a,b,".as_slice());
     Ok(())
 }
 
