@@ -1,0 +1,252 @@
+//! What a statement does when its texts are expanded.
+ghost use Rattle.std.specs.Prelude.{◌≡◌, ◌++◌, [], IfOk, option_map};
+ghost use Rattle.std.specs.List.{list_any};
+ghost use Rattle.em_reader.specs.Acting as acting;
+ghost use Rattle.em_reader.specs.Acting.{is_pattern_rule, matched, or_itself, rule_of};
+ghost use Rattle.em_namefn.specs.Wildcards.{glyphs_of};
+ghost use Rattle.em_reading.specs.Faults.{is_free};
+ghost use Rattle.em_statement.specs.Heads.{head_of};
+ghost use Rattle.em_view.specs.Steps.{Does};
+ghost use Rattle.em_wordlist.specs.Stems.{is_percent};
+
+use em_base::{NoMemory, Place, Seq, Text};
+use em_glob::{Glyph, is_pattern};
+use em_pathname::matching_names;
+use em_reading::{Fault, Heard, ReadNo, Reading, at, desk_fault, refused};
+use em_rules::{RecipeLine, Rule};
+use em_statement::{
+    Head, RuleLine, Statement, is_empty, read_head, refused_in_head,
+};
+use em_view::{Desk, View};
+use std::alloc::Global;
+
+/// The bytes as glyphs that aren't quoted.
+fn glyphs_of(alloc: Global, bytes: &[u8]) -> Result<Vec<Glyph>, NoMemory>
+    ensures { IfOk result (λ v. v.items ≡ glyphs_of bytes.now) }
+{
+    Ok(
+        bytes
+            .iter()
+            .map(|b| Glyph {
+                byte: *b,
+                quoted: false,
+            })
+            .collect(alloc)?,
+    )
+}
+
+/// The names, or the word itself where there are none.
+fn or_itself(word: Text, names: Seq<Text>) -> Result<Seq<Text>, NoMemory>
+    ensures { IfOk result (λ ns. ns ≡ or_itself word names) }
+{
+    let mut all = names;
+    if all.is_empty() {
+        all.push(word)?;
+    }
+    Ok(all)
+}
+
+/// The names in the tree that the word matches.
+fn wildcard_word<V: View>(
+    alloc: Global,
+    desk: &mut Desk<V>,
+    reading: &mut Reading,
+    place: &Place,
+    glyphs: &[Glyph],
+) -> Result<Seq<Text>, ReadNo>
+    ensures { Does is_free V.tells desk.old desk.new reading.old reading.new result (acting.wildcard_glyphs place.now glyphs.now) }
+{
+    match matching_names(alloc, glyphs, &reading.cwd, desk) {
+        Ok(names) => Ok(names),
+        Err(e) => Err(desk_fault(alloc, place, e)),
+    }
+}
+
+/// The names that a word stands for.
+fn matched_word<V: View>(
+    alloc: Global,
+    desk: &mut Desk<V>,
+    reading: &mut Reading,
+    place: &Place,
+    word: Text,
+) -> Result<Seq<Text>, ReadNo>
+    ensures { Does is_free V.tells desk.old desk.new reading.old reading.new result (acting.matched_word place.now word) }
+{
+    let glyphs = glyphs_of(alloc, word.bytes())?;
+    if !is_pattern(&glyphs) {
+        let mut names = Seq::new(alloc);
+        names.push(word)?;
+        return Ok(names);
+    }
+    let names = wildcard_word(alloc, desk, reading, place, &glyphs)?;
+    Ok(or_itself(word, names)?)
+}
+
+/// The names with others behind them.
+fn appended(so_far: Seq<Text>, more: Seq<Text>) -> Result<Seq<Text>, NoMemory>
+    ensures { IfOk result (λ all. all ≡ so_far ++ more) }
+{
+    let mut all = so_far.into_vec();
+    all.extend(more.into_vec())?;
+    Ok(Seq::from_vec(all))
+}
+
+/// The names that words stand for: each with a wildcard is replaced by its matches in the tree, if it has some.
+pub(crate) fn matched<V: View>(
+    alloc: Global,
+    desk: &mut Desk<V>,
+    reading: &mut Reading,
+    place: &Place,
+    words: &[Text],
+) -> Result<Seq<Text>, ReadNo>
+    ensures { Does is_free V.tells desk.old desk.new reading.old reading.new result (matched place.now [] words.now) }
+{
+    let mut all = Seq::new(alloc);
+    for word in words {
+        let word = word.copy(alloc)?;
+        let more = matched_word(alloc, desk, reading, place, word)?;
+        all = appended(all, more)?;
+    }
+    Ok(all)
+}
+
+/// Whether a target holds a `%`.
+fn is_pattern_rule(form: &Option<Text>, targets: &[Text]) -> bool
+    ensures { result ≡ is_pattern_rule form.now targets.now }
+{
+    form.is_none() && targets.iter().any(|t| t.bytes().contains(&b'%'))
+}
+
+/// The recipe behind a `;`.
+fn recipe_of(
+    alloc: Global,
+    place: &Place,
+    recipe: &Option<Text>,
+) -> Result<Option<Seq<RecipeLine>>, NoMemory>
+    ensures { IfOk result (λ r. r ≡ acting.recipe_of place.now recipe.now) }
+{
+    let Some(text) = recipe else {
+        return Ok(None);
+    };
+    let mut lines = Seq::new(alloc);
+    lines.push(RecipeLine {
+        place: place.copy(alloc)?,
+        text: text.copy(alloc)?,
+    })?;
+    Ok(Some(lines))
+}
+
+/// The rule of a line.
+fn rule_of(
+    alloc: Global,
+    place: &Place,
+    line: &RuleLine,
+    form: Option<Text>,
+    targets: Seq<Text>,
+    normal: Seq<Text>,
+    order: Seq<Text>,
+) -> Result<Rule, NoMemory>
+    ensures { IfOk result (λ r. r ≡ rule_of place.now line.now form targets normal order) }
+{
+    Ok(Rule {
+        pattern: is_pattern_rule(&form, targets.items()),
+        targets,
+        form,
+        normal,
+        order,
+        recipe: recipe_of(alloc, place, &line.recipe)?,
+        place: place.copy(alloc)?,
+    })
+}
+
+/// A line with a colon.
+fn rule_with<V: View>(
+    alloc: Global,
+    desk: &mut Desk<V>,
+    reading: &mut Reading,
+    place: &Place,
+    line: &RuleLine,
+    head: Head,
+) -> Result<(), ReadNo>
+    ensures { Does is_free V.tells desk.old desk.new reading.old reading.new result (acting.rule_with place.now line.now head) }
+{
+    let targets = matched(alloc, desk, reading, place, head.targets.items())?;
+    let normal = matched(alloc, desk, reading, place, head.normal.items())?;
+    let order = matched(alloc, desk, reading, place, head.order.items())?;
+    let rule = rule_of(alloc, place, line, head.form, targets, normal, order)?;
+    reading.begin_rule(alloc, rule)
+}
+
+/// What a line is by its head, when that is expanded whole.
+fn rule_by<V: View>(
+    alloc: Global,
+    desk: &mut Desk<V>,
+    reading: &mut Reading,
+    place: &Place,
+    line: &RuleLine,
+    text: &[u8],
+) -> Result<(), ReadNo>
+    ensures { Does is_free V.tells desk.old desk.new reading.old reading.new result (acting.rule_by place.now line.now text.now (head_of text.now)) }
+{
+    match read_head(alloc, text)? {
+        Some(head) => rule_with(alloc, desk, reading, place, line, head),
+        None => {
+            if is_empty(text) && line.recipe.is_none() {
+                Ok(())
+            } else {
+                Err(at(alloc, place, Fault::Separator))
+            }
+        }
+    }
+}
+
+/// The line of a rule.
+fn rule_line<V: View>(
+    alloc: Global,
+    desk: &mut Desk<V>,
+    reading: &mut Reading,
+    place: &Place,
+    line: &RuleLine,
+    heard: &Heard,
+) -> Result<(), ReadNo>
+    ensures { Does is_free V.tells desk.old desk.new reading.old reading.new result (acting.rule_line place.now line.now heard.now) }
+{
+    let text = heard.first.text.bytes();
+    if let Some(name) = refused_in_head(alloc, line.assigns, text)? {
+        return Err(refused(alloc, place, name.bytes()));
+    }
+    if let Some(name) = &heard.first.refused {
+        return Err(refused(alloc, place, name.bytes()));
+    }
+    rule_by(alloc, desk, reading, place, line, text)
+}
+
+/// What a statement does, if it puts no text in.
+pub(crate) fn act_alone<V: View>(
+    alloc: Global,
+    desk: &mut Desk<V>,
+    reading: &mut Reading,
+    place: &Place,
+    statement: &Statement,
+    heard: &Heard,
+) -> Result<(), ReadNo>
+    ensures { Does is_free V.tells desk.old desk.new reading.old reading.new result (acting.act_alone place.now statement.now heard.now) }
+{
+    match statement {
+        Statement::Assign(a) => reading.assign(alloc, place, a, heard),
+        Statement::Undefine(u) => reading.undefine(alloc, place, u, heard),
+        Statement::Export(_) => reading.export(alloc, place, heard),
+        Statement::Unexport(_) => reading.unexport(alloc, place, heard),
+        Statement::Rule(line) => rule_line(alloc, desk, reading, place, line, heard),
+        Statement::Unsupported(word) => Err(refused(alloc, place, word.bytes())),
+        Statement::Stray => Err(at(alloc, place, Fault::Separator)),
+        Statement::Blank => Ok(()),
+        Statement::If(_) => Ok(()),
+        Statement::Else => Ok(()),
+        Statement::ElseIf(_) => Ok(()),
+        Statement::Endif => Ok(()),
+        Statement::Extraneous => Ok(()),
+        Statement::Define(_) => Ok(()),
+        Statement::Include(_) => Ok(()),
+    }
+}

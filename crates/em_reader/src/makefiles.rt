@@ -1,0 +1,222 @@
+//! The makefile of an order, over any desk and over a state.
+ghost use Rattle.std.specs.Prelude.{◌≡◌, [], None, false, map, IfOk};
+ghost use Rattle.em_path.specs.Paths.{root_text};
+ghost use Rattle.em_path.specs.Reading.{read_fault, resolved_text};
+ghost use Rattle.em_reading.specs.Faults.{is_free};
+ghost use Rattle.em_reader.specs.Makefiles as makefiles;
+ghost use Rattle.em_reader.specs.Makefiles.{fresh, line_one, reading, read_all};
+ghost use Rattle.em_view.specs.Actions.{snapshot};
+ghost use Rattle.em_view.specs.Performs as performs;
+ghost use Rattle.em_view.specs.Steps.{Does, with_state};
+
+use crate::files::{Makefile, content_of};
+use crate::goal::default_goal;
+use crate::read::read_text;
+use em_base::{Fuel, NoMemory, Place, Text};
+use em_cmdline::Order;
+use em_lines::joined;
+use em_path::{Path, PathNo};
+use em_reading::{ReadNo, Reading, absent, start, start_vars};
+use em_rules::Book;
+use em_tree::State;
+use em_vars::Vars;
+use em_view::{Desk, PlainView, View};
+use std::alloc::Global;
+use std::mem;
+
+/// How many texts may be put into one another, and the first one.
+const LEVELS: u32 = 65;
+
+/// The units of a reading's fuel.
+const FUEL: u64 = 10_000_000;
+
+// ---- the makefile
+
+/// The first line of the file of this name.
+fn line_one(alloc: Global, name: &[u8]) -> Result<Place, NoMemory>
+    ensures { IfOk result (λ p. p ≡ line_one name.now) }
+{
+    let file = Text::from_slice(alloc, name)?;
+    Ok(Place { file, line: 1 })
+}
+
+/// The makefile that is asked for.
+fn asked_for<V: View>(
+    alloc: Global,
+    desk: &mut Desk<V>,
+    reading: &mut Reading,
+    name: &Text,
+) -> Result<Option<Makefile>, ReadNo>
+    ensures { Does is_free V.tells desk.old desk.new reading.old reading.new result (makefiles.asked_for name.now) }
+{
+    let place = line_one(alloc, name.bytes())?;
+    match content_of(alloc, desk, reading, &place, name.bytes())? {
+        None => Err(absent(alloc, &place, name.bytes())),
+        Some(bytes) => Ok(Some(Makefile {
+            name: name.copy(alloc)?,
+            bytes,
+        })),
+    }
+}
+
+/// The first of these files.
+fn first_file<V: View>(
+    alloc: Global,
+    desk: &mut Desk<V>,
+    reading: &mut Reading,
+    names: &[&[u8]],
+) -> Result<Option<Makefile>, ReadNo>
+    ensures { Does is_free V.tells desk.old desk.new reading.old reading.new result (makefiles.first_file (map (λ n. n.now) names.now)) }
+{
+    for name in names {
+        let place = line_one(alloc, name)?;
+        if let Some(bytes) = content_of(alloc, desk, reading, &place, name)? {
+            let name = Text::from_slice(alloc, name)?;
+            return Ok(Some(Makefile { name, bytes }));
+        }
+    }
+    Ok(None)
+}
+
+/// The makefile.
+fn makefile_of<V: View>(
+    alloc: Global,
+    desk: &mut Desk<V>,
+    reading: &mut Reading,
+    name: &Option<Text>,
+) -> Result<Option<Makefile>, ReadNo>
+    ensures { Does is_free V.tells desk.old desk.new reading.old reading.new result (makefiles.makefile_of name.now) }
+{
+    match name {
+        Some(name) => asked_for(alloc, desk, reading, name),
+        None => {
+            let names: [&[u8]; 3] = [b"GNUmakefile", b"makefile", b"Makefile"];
+            first_file(alloc, desk, reading, &names)
+        }
+    }
+}
+
+/// The lines of the makefile.
+fn read_file<V: View>(
+    alloc: Global,
+    desk: &mut Desk<V>,
+    reading: &mut Reading,
+    makefile: &Makefile,
+) -> Result<(), ReadNo>
+    ensures { Does is_free V.tells desk.old desk.new reading.old reading.new result (makefiles.read_file makefile.now) }
+{
+    reading.book.found = true;
+    let place = line_one(alloc, makefile.name.bytes())?;
+    let lines = joined(alloc, &makefile.name, makefile.bytes.bytes())?;
+    read_text(alloc, LEVELS, desk, reading, &place, &lines)
+}
+
+/// The lines of the makefile, if there is one.
+fn read_makefile<V: View>(
+    alloc: Global,
+    desk: &mut Desk<V>,
+    reading: &mut Reading,
+    makefile: &Option<Makefile>,
+) -> Result<(), ReadNo>
+    ensures { Does is_free V.tells desk.old desk.new reading.old reading.new result (makefiles.read_makefile makefile.now) }
+{
+    match makefile {
+        None => Ok(()),
+        Some(makefile) => read_file(alloc, desk, reading, makefile),
+    }
+}
+
+/// The first line of the makefile, or of no file.
+fn place_of(alloc: Global, makefile: &Option<Makefile>) -> Result<Place, NoMemory>
+    ensures { IfOk result (λ p. p ≡ makefiles.place_of makefile.now) }
+{
+    match makefile {
+        None => line_one(alloc, &[]),
+        Some(makefile) => line_one(alloc, makefile.name.bytes()),
+    }
+}
+
+/// All that the order asks to read.
+fn read_all<V: View>(
+    alloc: Global,
+    desk: &mut Desk<V>,
+    reading: &mut Reading,
+    name: &Option<Text>,
+) -> Result<(), ReadNo>
+    ensures { Does is_free V.tells desk.old desk.new reading.old reading.new result (read_all name.now) }
+{
+    let makefile = makefile_of(alloc, desk, reading, name)?;
+    read_makefile(alloc, desk, reading, &makefile)?;
+    reading.close_rule(alloc)?;
+    reading.end_conditionals(alloc)?;
+    let place = place_of(alloc, &makefile)?;
+    default_goal(alloc, desk, reading, &place)
+}
+
+// ---- the whole
+
+/// The reading from its start on.
+fn read_from<V: View>(
+    alloc: Global,
+    desk: &mut Desk<V>,
+    order: &Order,
+    cwd: Path,
+    vars: Vars,
+    said: &mut Text,
+) -> Result<Book, ReadNo>
+    ensures { Does is_free V.tells desk.old desk.new said.old said.new result (makefiles.read_from order.now.makefile cwd vars) }
+{
+    let before = mem::replace(said, Text::new(alloc));
+    let mut reading = start(alloc, cwd, vars, before)?;
+    let result = read_all(alloc, desk, &mut reading, &order.makefile);
+    let Reading {
+        cwd: _,
+        book,
+        nest: _,
+        opened: _,
+        begun: _,
+        define: _,
+        spoken,
+    } = reading;
+    *said = spoken.said;
+    match result {
+        Ok(()) => Ok(book),
+        Err(e) => Err(e),
+    }
+}
+
+/// Reads the makefile that the order asks for, over any desk: its `-f`, else the first of `GNUmakefile`, `makefile` and `Makefile` that is
+/// a file in the working directory. The exported variables of `defaults` are there at the start, as defaults.
+pub fn read_through<V: View>(
+    alloc: Global,
+    desk: &mut Desk<V>,
+    order: &Order,
+    defaults: &Vars,
+    said: &mut Text,
+) -> Result<Book, ReadNo>
+    requires { read_fault root_text order.now.dir ≡ None }
+    ensures { Does is_free V.tells desk.old desk.new said.old said.new result (reading order.now (resolved_text root_text order.now.dir) defaults.now) }
+{
+    let cwd = match Path::read(alloc, &Path::root(), order.dir.bytes()) {
+        Ok(cwd) => cwd,
+        Err(_) => return Err(ReadNo::NoMemory),
+    };
+    let vars = start_vars(alloc, order.goals.items(), order.assigned.items(), &cwd, defaults)?;
+    read_from(alloc, desk, order, cwd, vars, said)
+}
+
+/// Reads the makefile that the order asks for in a state.
+pub fn read_makefiles(
+    alloc: Global,
+    state: &State,
+    order: &Order,
+    said: &mut Text,
+) -> Result<Book, ReadNo>
+    requires { read_fault root_text order.now.dir ≡ None }
+    ensures { performs.is_free is_free result ≡ false
+        → with_state result said.new ≡ (reading order.now (resolved_text root_text order.now.dir) [] said.old (snapshot state.now) fresh).0 }
+{
+    let defaults = Vars::new(alloc)?;
+    let mut desk = Desk::new(alloc, PlainView::new(state), 0, 0, Fuel::new(FUEL));
+    read_through(alloc, &mut desk, order, &defaults, said)
+}

@@ -1,0 +1,203 @@
+-- What a line does to what was read so far, without asking anything.
+use Rattle.std.specs.Prelude.{ℕ, ◌+◌, ◌-◌, ◌==◌, ◌&&◌, min, not, Bool, true, false, List, [], ◌∷◌, ◌++◌, length, take, map, Option, Some, None, is_some, is_none, option_map, unwrap_or, Result, Ok, Err, codes, decimal, if◌then◌else◌}
+use Rattle.std.specs.List.{list_any, flat_map}
+use Rattle.std.specs.Option.{option_or}
+use Rattle.std.specs.Str.{bytes_eq}
+use Rattle.em_base.specs.declared.place.Place.{Place}
+use Rattle.em_cond.specs.declared.nest.Conditional.{Conditional}
+use Rattle.em_cond.specs.Nests.{entered, after_other, after_leave, is_active}
+use Rattle.em_lines.specs.declared.line.Line.{Line}
+use Rattle.em_lines.specs.Comments.{bare}
+use Rattle.em_rules.specs.declared.rule.Rule.{Rule}
+use Rattle.em_rules.specs.declared.rule.RecipeLine.{RecipeLine}
+use Rattle.em_rules.specs.declared.book.Book.{Book}
+use Rattle.em_rules.specs.declared.book.BookNo.{BookNo}
+use Rattle.em_rules.specs.declared.book.BookNo.TheVariants as book_no
+use Rattle.em_rules.specs.Rules.{recipe_rule}
+use Rattle.em_rules.specs.Static.{undotted_rule, unmatched}
+use Rattle.em_rules.specs.Books.{fault_of, added}
+use Rattle.em_vars.specs.Entries.{Entries}
+use Rattle.em_statement.specs.declared.assignment.Assignment.{Assignment}
+use Rattle.em_statement.specs.Split.{first_word, is_empty}
+use Rattle.em_reading.specs.declared.no.Fault.{Fault}
+use Rattle.em_reading.specs.declared.no.Fault.TheVariants as fault
+use Rattle.em_reading.specs.declared.no.RuleNo.TheVariants.{Recipe, Static}
+use Rattle.em_reading.specs.declared.no.ReadNo.{ReadNo}
+use Rattle.em_reading.specs.declared.no.ReadNo.TheVariants as no
+use Rattle.em_reading.specs.declared.reading.Reading.{Reading}
+use Rattle.em_reading.specs.declared.reading.Body.{Body}
+use Rattle.em_reading.specs.Faults.{at_place}
+
+abbrev pub Changed : Type 0
+Changed = Result (Unit {0} × Reading) (ReadNo × Reading)
+
+abbrev pub Change : Type 0
+Change = Reading → Changed
+
+abbrev pub good : Change
+good r = Ok (tt, r)
+
+abbrev pub bad : Place → Fault → Change
+bad p f r = Err (at_place p f, r)
+
+-- lines are read: each open conditional is in the branch that is
+abbrev pub is_read : Reading → Bool
+is_read r = is_active r.nest
+
+abbrev pub with_vars : Reading → Entries → Reading
+with_vars r vars = record r { book = record r.book { vars = vars } }
+
+-- ---- rules
+
+-- `FILE:LINE: warning: overriding recipe for target 'T'`, at the later rule
+abbrev pub warning : Place → List ℕ → List ℕ
+warning p target = p.file ++ 58 ∷ decimal p.line ++ codes ": warning: overriding recipe for target '" ++ target ++ codes "'" ++ 10 ∷ []
+
+-- for each target of the rule that has a recipe from another rule already
+abbrev pub warning_for : Book → Place → List ℕ → List ℕ
+warning_for b p target = if is_some (recipe_rule b.rules target) then warning p target else []
+
+abbrev pub warnings : Book → Rule → List ℕ
+warnings b rule = if is_some rule.recipe then flat_map (warning_for b rule.place) rule.targets else []
+
+abbrev pub say : List ℕ → Reading → Reading
+say t r = record r { spoken = record r.spoken { said = r.spoken.said ++ t } }
+
+abbrev pub of_book : BookNo → Fault
+of_book (book_no.Static t) = fault.Rule (Static t)
+of_book book_no.NoMemory = fault.Limit
+
+abbrev pub add_rule : Rule → Option BookNo → Change
+add_rule rule None r = good (record (say (warnings r.book rule) r) { book = added r.book rule })
+add_rule rule (Some e) r = bad rule.place (of_book e) (say (warnings r.book rule) r)
+
+-- the rule whose recipe lines could follow is whole
+abbrev pub close_by : Option Rule → Change
+close_by None r = good r
+close_by (Some rule) r = add_rule rule (fault_of rule) (record r { begun = None })
+
+abbrev pub close_rule : Change
+close_rule r = close_by r.begun r
+
+-- a static pattern rule is judged at its line
+abbrev pub begin_by : Rule → Option (List ℕ) → Change
+begin_by rule None r = good (record r { begun = Some rule })
+begin_by rule (Some target) r = bad rule.place (fault.Rule (Static target)) r
+
+abbrev pub begin_rule : Rule → Change
+begin_rule rule r = begin_by (undotted_rule rule) (unmatched (undotted_rule rule)) r
+
+abbrev pub recipe_line : Line → RecipeLine
+recipe_line l = record { place = l.place; text = l.text }
+
+abbrev pub with_line : Rule → RecipeLine → Rule
+with_line rule l = record rule { recipe = Some (unwrap_or rule.recipe [] ++ l ∷ []) }
+
+abbrev pub recipe_by : Line → Option Rule → Change
+recipe_by l None r = bad l.place (fault.Rule Recipe) r
+recipe_by l (Some rule) r = good (record r { begun = Some (with_line rule (recipe_line l)) })
+
+-- a line that begins with a tab
+abbrev pub recipe : Line → Change
+recipe l r = if is_read r then recipe_by l r.begun r else good r
+
+-- ---- conditionals
+
+abbrev pub enter : Place → Bool → Change
+enter p holds r = good (record r { nest = entered holds ∷ r.nest; opened = r.opened ++ p ∷ [] })
+
+abbrev pub turned : Place → Option (List Conditional) → Change
+turned p None r = bad p fault.Conditional r
+turned p (Some nest) r = good (record r { nest = nest })
+
+abbrev pub other : Place → Option Bool → Change
+other p condition r = turned p (after_other condition r.nest) r
+
+abbrev pub left : Place → Option (List Conditional) → Change
+left p None r = bad p fault.Conditional r
+left p (Some nest) r = good (record r { nest = nest; opened = take (length r.opened - 1) r.opened })
+
+abbrev pub leave : Place → Change
+leave p r = left p (after_leave r.nest) r
+
+-- ---- the lines of a `define`
+
+abbrev pub begin_define : Place → Assignment → Change
+begin_define p a r = good (record r { define = Some (record { place = p; assignment = a; nested = 0; text = None }) })
+
+-- it is passed over in a branch that isn't read
+abbrev pub define_line : Place → Assignment → Change
+define_line p a r = if is_read r then begin_define p a r else good r
+
+-- a line of the body, with the tab that it began with
+abbrev pub body_text : Line → List ℕ
+body_text l = if l.tab then 9 ∷ l.text else l.text
+
+abbrev pub line_start : Option (List ℕ) → List ℕ
+line_start None = []
+line_start (Some text) = text ++ 10 ∷ []
+
+-- lines are parted by newlines
+abbrev pub joined_to : Option (List ℕ) → List ℕ → List ℕ
+joined_to text line = line_start text ++ line
+
+abbrev pub with_body_line : Body → Line → Body
+with_body_line b l = record b { text = Some (joined_to b.text (body_text l)) }
+
+-- a `define` within the body has an `endef` of its own
+abbrev pub deeper : Body → Body
+deeper b = record b { nested = min (b.nested + 1) 18446744073709551615 }
+
+abbrev pub shallower : Body → Body
+shallower b = record b { nested = b.nested - 1 }
+
+abbrev pub starts_with_word : List ℕ → Line → Bool
+starts_with_word word l = not l.tab && bytes_eq (first_word (bare l.text)) word
+
+abbrev pub is_define : Line → Bool
+is_define l = starts_with_word (codes "define") l
+
+abbrev pub is_endef : Line → Bool
+is_endef l = starts_with_word (codes "endef") l
+
+-- the line that ends the body
+abbrev pub ends_body : Body → Line → Bool
+ends_body b l = is_endef l && (b.nested == 0)
+
+abbrev pub body_after : Body → Line → Body
+body_after b l = with_body_line (if is_define l then deeper b else if is_endef l then shallower b else b) l
+
+abbrev pub body_line : Body → Line → Change
+body_line b l r = good (record r { define = Some (body_after b l) })
+
+-- the assignment that the whole `define` is
+abbrev pub whole : Body → Assignment
+whole b = record b.assignment { value = unwrap_or b.text [] }
+
+-- the `define` whose body is read, taken out
+abbrev pub take_define : Reading → Result (Option Body × Reading) (ReadNo × Reading)
+take_define r = Ok (r.define, record r { define = None })
+
+-- ---- ends
+
+abbrev pub unended : Option Body → Change
+unended None r = good r
+unended (Some b) r = bad b.place fault.Define r
+
+-- a text ends in front of a line that is too long, or at its end, where no `define` may be open
+abbrev pub end_text : Option Place → Change
+end_text (Some p) r = bad p fault.Limit r
+end_text None r = unended r.define r
+
+abbrev pub unbalanced : List Place → Change
+unbalanced [] r = good r
+unbalanced (p ∷ ps) r = bad p fault.Conditional r
+
+-- at the end no conditional is open; the outermost one is told
+abbrev pub end_conditionals : Change
+end_conditionals r = unbalanced r.opened r
+
+-- ---- `eval`
+
+abbrev pub without_evals : Reading → Reading
+without_evals r = record r { spoken = record r.spoken { evals = [] } }

@@ -1,0 +1,31 @@
+-- How the refusals of lower layers are called in a reading.
+use Rattle.std.specs.Prelude.{ℕ, Bool, true, false, List, Option, Some, None}
+use Rattle.em_base.specs.declared.place.Place.{Place}
+use Rattle.em_view.specs.declared.no.DeskNo.{DeskNo}
+use Rattle.em_view.specs.declared.no.DeskNo.TheVariants as desk
+use Rattle.em_expand.specs.declared.no.ExpandNo.{ExpandNo}
+use Rattle.em_expand.specs.declared.no.ExpandNo.TheVariants as no
+use Rattle.em_reading.specs.declared.no.Fault.{Fault}
+use Rattle.em_reading.specs.declared.no.Fault.TheVariants as fault
+use Rattle.em_reading.specs.declared.no.ReadNo.{ReadNo}
+use Rattle.em_reading.specs.declared.no.ReadNo.TheVariants.{At, NoMemory}
+
+-- the one error that may come freely
+abbrev pub is_free : ReadNo → Bool
+is_free NoMemory = true
+is_free _ = false
+
+abbrev pub at_place : Place → Fault → ReadNo
+at_place p f = At p f
+
+abbrev pub of_expand : Place → ExpandNo → ReadNo
+of_expand p no.NoMemory = NoMemory
+of_expand p no.Spent = At p fault.Spent
+of_expand p (no.Refused name) = At p (fault.Refused name)
+of_expand p e = At p (fault.Expand e)
+
+-- a reading changes no file, so that no operation is refused
+abbrev pub of_desk : Place → DeskNo → ReadNo
+of_desk p desk.NoMemory = NoMemory
+of_desk p desk.Spent = At p fault.Spent
+of_desk p (desk.File f) = At p fault.Spent

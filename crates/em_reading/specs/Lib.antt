@@ -1,0 +1,15 @@
+pub use Rattle.em_base.specs.Blanks
+pub use Rattle.em_lines.specs.Comments
+pub use Rattle.em_cond.specs.Nests
+pub use Rattle.em_vars.specs.Entries
+pub use Rattle.em_rules.specs.Rules
+pub use Rattle.em_rules.specs.Static
+pub use Rattle.em_rules.specs.Books
+pub use Rattle.em_wordlist.specs.Words
+pub use Rattle.em_view.specs.Steps
+pub use Rattle.em_statement.specs.Split
+pub mod Faults
+pub mod Variables
+pub mod Changes
+pub mod Heard
+pub mod Start

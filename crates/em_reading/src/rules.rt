@@ -1,0 +1,173 @@
+//! Rules that are begun and closed.
+ghost use Rattle.std.specs.Prelude.{◌≡◌, ◌++◌, IfOk, OnOk};
+ghost use Rattle.std.specs.List.{flat_map};
+ghost use Rattle.em_rules.specs.Books.{fault_of};
+ghost use Rattle.em_reading.specs.Changes as changes;
+ghost use Rattle.em_reading.specs.Changes.{warning, warning_for, warnings, with_line, recipe_line};
+ghost use Rattle.em_reading.specs.Faults.{is_free};
+ghost use Rattle.em_view.specs.Steps.{Works};
+
+use crate::no::{Fault, ReadNo, RuleNo, at};
+use crate::reading::Reading;
+use em_base::{NoMemory, Place, Seq, Text};
+use em_lines::Line;
+use em_rules::{Book, BookNo, RecipeLine, Rule, undotted_rule, unmatched};
+use itoa::Buffer;
+use std::alloc::Global;
+use std::mem;
+
+/// Appends `FILE:LINE: warning: overriding recipe for target 'T'`.
+fn add_warning(text: &mut Text, place: &Place, target: &[u8]) -> Result<(), NoMemory>
+    ensures { OnOk result (text.new ≡ text.old ++ warning place.now target.now) }
+{
+    let mut buffer = Buffer::new();
+    text.add(place.file.bytes())?;
+    text.add(b":")?;
+    text.add(buffer.format(place.line).as_bytes())?;
+    text.add(b": warning: overriding recipe for target '")?;
+    text.add(target)?;
+    text.add(b"'\n")
+}
+
+/// Appends the warning for a target that has a recipe already.
+fn add_warning_for(
+    text: &mut Text,
+    book: &Book,
+    place: &Place,
+    target: &[u8],
+) -> Result<(), NoMemory>
+    ensures { OnOk result (text.new ≡ text.old ++ warning_for book.now place.now target.now) }
+{
+    if book.rules.recipe_rule(target).is_none() {
+        return Ok(());
+    }
+    add_warning(text, place, target)
+}
+
+/// Appends the warnings for these targets.
+fn add_warnings(
+    text: &mut Text,
+    book: &Book,
+    place: &Place,
+    targets: &[Text],
+) -> Result<(), NoMemory>
+    ensures { OnOk result (text.new ≡ text.old ++ flat_map (warning_for book.now place.now) targets.now) }
+{
+    for target in targets {
+        add_warning_for(text, book, place, target.bytes())?;
+    }
+    Ok(())
+}
+
+/// Appends the warnings for a rule.
+fn warn(text: &mut Text, book: &Book, rule: &Rule) -> Result<(), NoMemory>
+    ensures { OnOk result (text.new ≡ text.old ++ warnings book.now rule.now) }
+{
+    if rule.recipe.is_none() {
+        return Ok(());
+    }
+    add_warnings(text, book, &rule.place, rule.targets.items())
+}
+
+/// The rule with one recipe line more.
+fn with_line(alloc: Global, rule: Rule, line: RecipeLine) -> Result<Rule, NoMemory>
+    ensures { IfOk result (λ r. r ≡ with_line rule line) }
+{
+    let Rule {
+        targets,
+        pattern,
+        form,
+        normal,
+        order,
+        recipe,
+        place,
+    } = rule;
+    let mut lines = match recipe {
+        Some(lines) => lines,
+        None => Seq::new(alloc),
+    };
+    lines.push(line)?;
+    let recipe = Some(lines);
+    Ok(Rule {
+        targets,
+        pattern,
+        form,
+        normal,
+        order,
+        recipe,
+        place,
+    })
+}
+
+/// The line as one of a recipe.
+fn recipe_line(alloc: Global, line: &Line) -> Result<RecipeLine, NoMemory>
+    ensures { IfOk result (λ l. l ≡ recipe_line line.now) }
+{
+    Ok(RecipeLine {
+        place: line.place.copy(alloc)?,
+        text: line.text.copy(alloc)?,
+    })
+}
+
+impl Reading {
+    /// Adds a rule that is whole, with its warnings.
+    fn add_rule(&mut self, alloc: Global, rule: Rule) -> Result<(), ReadNo>
+        ensures { Works is_free self.old self.new result (changes.add_rule rule (fault_of rule)) }
+    {
+        warn(&mut self.spoken.said, &self.book, &rule)?;
+        let place = rule.place.copy(alloc)?;
+        match self.book.add(rule) {
+            Ok(()) => Ok(()),
+            Err(BookNo::NoMemory) => Err(ReadNo::NoMemory),
+            Err(BookNo::Static(target)) => {
+                Err(ReadNo::At(place, Fault::Rule(RuleNo::Static(target))))
+            }
+        }
+    }
+
+    /// The rule whose recipe lines could follow is whole.
+    pub fn close_rule(&mut self, alloc: Global) -> Result<(), ReadNo>
+        ensures { Works is_free self.old self.new result changes.close_rule }
+    {
+        match mem::replace(&mut self.begun, None) {
+            None => Ok(()),
+            Some(rule) => self.add_rule(alloc, rule),
+        }
+    }
+
+    /// Begins a rule, whose recipe lines may follow.
+    pub fn begin_rule(&mut self, alloc: Global, rule: Rule) -> Result<(), ReadNo>
+        ensures { Works is_free self.old self.new result (changes.begin_rule rule) }
+    {
+        let unmatched = unmatched(&rule);
+        let rule = undotted_rule(alloc, rule)?;
+        let Some(number) = unmatched else {
+            self.begun = Some(rule);
+            return Ok(());
+        };
+        match rule.targets.get(number) {
+            Some(target) => {
+                let target = target.copy(alloc)?;
+                Err(at(alloc, &rule.place, Fault::Rule(RuleNo::Static(target))))
+            }
+            None => Err(ReadNo::NoMemory),
+        }
+    }
+
+    /// A line that begins with a tab: one of the recipe of the rule before it.
+    pub fn recipe(&mut self, alloc: Global, line: &Line) -> Result<(), ReadNo>
+        ensures { Works is_free self.old self.new result (changes.recipe line.now) }
+    {
+        if !self.is_read() {
+            return Ok(());
+        }
+        match mem::replace(&mut self.begun, None) {
+            None => Err(at(alloc, &line.place, Fault::Rule(RuleNo::Recipe))),
+            Some(rule) => {
+                let rule = with_line(alloc, rule, recipe_line(alloc, line)?)?;
+                self.begun = Some(rule);
+                Ok(())
+            }
+        }
+    }
+}
