@@ -13,6 +13,7 @@ use Rattle.em_reading.specs.declared.no.ReadNo.{ReadNo}
 use Rattle.em_reading.specs.declared.heard.Expanded.{Expanded}
 use Rattle.em_reading.specs.declared.reading.Reading.{Reading}
 use Rattle.em_reading.specs.Faults as faults
+use Rattle.em_reader.proofs.States.{free_with}
 use Rattle.em_reader.specs.Hearing.{plain, caught_of, caught_by, caught, with_spoken, itself, heard}
 
 free_caught : (p : Place) (e : ExpandNo) → is_free faults.is_free (caught_of p e) ≡ low.is_free e
@@ -24,10 +25,6 @@ free_caught p (no.Refused t) = refl
 free_caught p no.Spent = refl
 free_caught p no.TooDeep = refl
 free_caught p no.NoMemory = refl
-
-free_with : (r : Result Expanded ReadNo) (t : Reading) → is_free (λ (x : ReadNo × Reading). faults.is_free x.0) (with_state r t) ≡ is_free faults.is_free r
-free_with (Ok a) t = refl
-free_with (Err e) t = refl
 
 module _ {V : Type 0} {tells : V → Told} {old new : DeskState V} (p : Place) (text : List ℕ) {s : Reading} {t : Spoken} where
   pub heard_ok : {a : List ℕ} → Does low.is_free tells old new s.spoken t (Ok a) (expansion s.book.vars s.cwd p text)

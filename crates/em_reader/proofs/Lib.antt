@@ -1,1 +1,4 @@
 mod Catching
+mod Pieces
+mod States
+mod Wholes

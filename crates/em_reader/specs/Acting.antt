@@ -93,9 +93,12 @@ rule_with p l h = do
   order ← matched p [] h.order
   own (begin_rule (rule_of p l h.form targets normal order))
 
+abbrev pub is_nothing : List ℕ → Option (List ℕ) → Bool
+is_nothing text recipe = is_empty text && is_none recipe
+
 -- a line without a colon that holds more than blanks is no statement
 abbrev pub no_rule : Place → RuleLine → List ℕ → Reads (Unit {0})
-no_rule p l text = if is_empty text && is_none l.recipe then done tt else refuse (at_place p fault.Separator)
+no_rule p l text = if is_nothing text l.recipe then done tt else refuse (at_place p fault.Separator)
 
 abbrev pub rule_by : Place → RuleLine → List ℕ → Option Head → Reads (Unit {0})
 rule_by p l text None = no_rule p l text
@@ -109,7 +112,7 @@ unless_refused (Some name) p m = refuse (at_place p (fault.Refused name))
 abbrev pub rule_line : Place → RuleLine → Heard → Reads (Unit {0})
 rule_line p l h =
     unless_refused (refusal_of l.assigns h.first.text) p
-        (unless_refused h.first.refused p (rule_by p l h.first.text (head_of h.first.text)))
+    (unless_refused h.first.refused p (rule_by p l h.first.text (head_of h.first.text)))
 
 -- ---- a statement
 

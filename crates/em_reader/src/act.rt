@@ -1,5 +1,5 @@
 //! What a statement does when its texts are expanded.
-ghost use Rattle.std.specs.Prelude.{◌≡◌, ◌++◌, [], IfOk, option_map};
+ghost use Rattle.std.specs.Prelude.{◌≡◌, ◌++◌, ◌∷◌, [], IfOk, option_map};
 ghost use Rattle.std.specs.List.{list_any};
 ghost use Rattle.em_reader.specs.Acting as acting;
 ghost use Rattle.em_reader.specs.Acting.{is_pattern_rule, matched, or_itself, rule_of};
@@ -14,9 +14,7 @@ use em_glob::{Glyph, is_pattern};
 use em_pathname::matching_names;
 use em_reading::{Fault, Heard, ReadNo, Reading, at, desk_fault, refused};
 use em_rules::{RecipeLine, Rule};
-use em_statement::{
-    Head, RuleLine, Statement, is_empty, read_head, refused_in_head,
-};
+use em_statement::{Head, RuleLine, Statement, is_empty, read_head, refused_in_head};
 use em_view::{Desk, View};
 use std::alloc::Global;
 
@@ -62,6 +60,31 @@ fn wildcard_word<V: View>(
     }
 }
 
+/// The names that a word with a wildcard stands for: its matches, or the word itself where there are none.
+fn matches_of<V: View>(
+    alloc: Global,
+    desk: &mut Desk<V>,
+    reading: &mut Reading,
+    place: &Place,
+    word: Text,
+    glyphs: &[Glyph],
+) -> Result<Seq<Text>, ReadNo>
+    requires { glyphs.now ≡ glyphs_of word }
+    ensures { Does is_free V.tells desk.old desk.new reading.old reading.new result (acting.matches_of place.now word) }
+{
+    let names = wildcard_word(alloc, desk, reading, place, glyphs)?;
+    Ok(or_itself(word, names)?)
+}
+
+/// The word alone.
+fn alone(alloc: Global, word: Text) -> Result<Seq<Text>, NoMemory>
+    ensures { IfOk result (λ ns. ns ≡ word ∷ []) }
+{
+    let mut names = Seq::new(alloc);
+    names.push(word)?;
+    Ok(names)
+}
+
 /// The names that a word stands for.
 fn matched_word<V: View>(
     alloc: Global,
@@ -73,13 +96,10 @@ fn matched_word<V: View>(
     ensures { Does is_free V.tells desk.old desk.new reading.old reading.new result (acting.matched_word place.now word) }
 {
     let glyphs = glyphs_of(alloc, word.bytes())?;
-    if !is_pattern(&glyphs) {
-        let mut names = Seq::new(alloc);
-        names.push(word)?;
-        return Ok(names);
+    if is_pattern(&glyphs) {
+        return matches_of(alloc, desk, reading, place, word, &glyphs);
     }
-    let names = wildcard_word(alloc, desk, reading, place, &glyphs)?;
-    Ok(or_itself(word, names)?)
+    Ok(alone(alloc, word)?)
 }
 
 /// The names with others behind them.
@@ -110,11 +130,25 @@ pub(crate) fn matched<V: View>(
     Ok(all)
 }
 
+/// Whether a name holds a `%`.
+fn holds_percent(name: &Text) -> bool
+    ensures { result ≡ list_any is_percent name.now }
+{
+    name.bytes().contains(&b'%')
+}
+
+/// Whether one of the names holds a `%`.
+fn is_in_one(names: &[Text]) -> bool
+    ensures { result ≡ list_any (λ t. list_any is_percent t) names.now }
+{
+    names.iter().any(|name| holds_percent(name))
+}
+
 /// Whether a target holds a `%`.
 fn is_pattern_rule(form: &Option<Text>, targets: &[Text]) -> bool
     ensures { result ≡ is_pattern_rule form.now targets.now }
 {
-    form.is_none() && targets.iter().any(|t| t.bytes().contains(&b'%'))
+    form.is_none() && is_in_one(targets)
 }
 
 /// The recipe behind a `;`.
@@ -177,6 +211,13 @@ fn rule_with<V: View>(
     reading.begin_rule(alloc, rule)
 }
 
+/// Whether a line without a colon is nothing: blanks, and no recipe behind a `;`.
+fn is_nothing(text: &[u8], recipe: &Option<Text>) -> bool
+    ensures { result ≡ acting.is_nothing text.now recipe.now }
+{
+    is_empty(text) && recipe.is_none()
+}
+
 /// What a line is by its head, when that is expanded whole.
 fn rule_by<V: View>(
     alloc: Global,
@@ -191,11 +232,10 @@ fn rule_by<V: View>(
     match read_head(alloc, text)? {
         Some(head) => rule_with(alloc, desk, reading, place, line, head),
         None => {
-            if is_empty(text) && line.recipe.is_none() {
-                Ok(())
-            } else {
-                Err(at(alloc, place, Fault::Separator))
+            if is_nothing(text, &line.recipe) {
+                return Ok(());
             }
+            Err(at(alloc, place, Fault::Separator))
         }
     }
 }

@@ -1,8 +1,8 @@
 //! Files, and the lines of a text.
-ghost use Rattle.std.specs.Prelude.{◌≡◌, IfOk, map, option_map};
+ghost use Rattle.std.specs.Prelude.{◌≡◌, Some, IfOk, map, option_map};
 ghost use Rattle.em_reading.specs.Faults.{is_free};
 ghost use Rattle.em_reader.specs.Reading as steps;
-ghost use Rattle.em_reader.specs.Reading.{path_of, placed_line};
+ghost use Rattle.em_reader.specs.Reading.{content_by, path_of, placed_line};
 ghost use Rattle.em_view.specs.Steps.{Does};
 
 use em_base::{NoMemory, Place, Seq, Text};
@@ -32,6 +32,22 @@ fn path_of(alloc: Global, cwd: &Path, name: &[u8]) -> Result<Option<Path>, NoMem
     }
 }
 
+/// The bytes of the file at this path; `None` where there is none.
+fn bytes_at<V: View>(
+    alloc: Global,
+    desk: &mut Desk<V>,
+    reading: &mut Reading,
+    place: &Place,
+    path: &Path,
+) -> Result<Option<Body>, ReadNo>
+    ensures { Does is_free V.tells desk.old desk.new reading.old reading.new result (content_by place.now (Some path.now)) }
+{
+    match desk.content(path) {
+        Ok(bytes) => Ok(bytes),
+        Err(e) => Err(desk_fault(alloc, place, e)),
+    }
+}
+
 /// The bytes of the file of this name; `None` where it is no path or no file.
 pub(crate) fn content_of<V: View>(
     alloc: Global,
@@ -42,12 +58,9 @@ pub(crate) fn content_of<V: View>(
 ) -> Result<Option<Body>, ReadNo>
     ensures { Does is_free V.tells desk.old desk.new reading.old reading.new result (steps.content_of place.now name.now) }
 {
-    let Some(path) = path_of(alloc, &reading.cwd, name)? else {
-        return Ok(None);
-    };
-    match desk.content(&path) {
-        Ok(bytes) => Ok(bytes),
-        Err(e) => Err(desk_fault(alloc, place, e)),
+    match path_of(alloc, &reading.cwd, name)? {
+        Some(path) => bytes_at(alloc, desk, reading, place, &path),
+        None => Ok(None),
     }
 }
 
@@ -74,7 +87,11 @@ fn placed_lines(alloc: Global, place: &Place, lines: &[Line]) -> Result<Seq<Line
 }
 
 /// The place of a line that is too long, moved.
-fn placed_end(alloc: Global, place: &Place, too_long: Option<Place>) -> Result<Option<Place>, NoMemory>
+fn placed_end(
+    alloc: Global,
+    place: &Place,
+    too_long: Option<Place>,
+) -> Result<Option<Place>, NoMemory>
     ensures { IfOk result (λ p. p ≡ option_map (λ q. place.now) too_long) }
 {
     match too_long {

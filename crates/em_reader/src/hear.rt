@@ -10,8 +10,8 @@ ghost use Rattle.em_view.specs.Steps.{Does};
 
 use em_base::{NoMemory, Place, Seq, Span, Text};
 use em_expand::{ExpandNo, expand};
-use em_refs::{Bracket, Part, Parted, parts_before};
 use em_reading::{Expanded, Heard, ReadNo, Reading, expand_fault, is_expanded};
+use em_refs::{Bracket, Part, Parted, parts_before};
 use em_statement::{Assignment, Condition, Sides, Statement};
 use em_view::{Desk, View};
 use std::alloc::Global;
@@ -72,7 +72,15 @@ pub(crate) fn heard<V: View>(
     ensures { Does is_free V.tells desk.old desk.new reading.old reading.new result (hearing.heard place.now text.now) }
 {
     let vars = &reading.book.vars;
-    match expand(alloc, text, vars, &reading.cwd, place, desk, &mut reading.spoken) {
+    match expand(
+        alloc,
+        text,
+        vars,
+        &reading.cwd,
+        place,
+        desk,
+        &mut reading.spoken,
+    ) {
         Ok(text) => Ok(plain(text)),
         Err(e) => caught(alloc, place, e),
     }
@@ -184,6 +192,13 @@ fn both(first: Expanded, second: Expanded) -> Heard
     Heard { first, second }
 }
 
+/// No texts.
+fn no_texts(alloc: Global) -> Heard
+    ensures { result ≡ both nothing nothing }
+{
+    both(nothing(alloc), nothing(alloc))
+}
+
 /// One text.
 fn one<V: View>(
     alloc: Global,
@@ -226,7 +241,14 @@ fn two<V: View>(
     ensures { Does is_free V.tells desk.old desk.new reading.old reading.new result (hearing.two place.now sides.now) }
 {
     let first = heard(alloc, desk, reading, place, sides.left.bytes())?;
-    let second = heard_after(alloc, desk, reading, &first.refused, place, sides.right.bytes())?;
+    let second = heard_after(
+        alloc,
+        desk,
+        reading,
+        &first.refused,
+        place,
+        sides.right.bytes(),
+    )?;
     Ok(both(first, second))
 }
 
@@ -278,7 +300,7 @@ pub(crate) fn hear_condition<V: View>(
         Condition::Different(sides) => two(alloc, desk, reading, place, sides),
         Condition::Defined(text) => one(alloc, desk, reading, place, text.bytes()),
         Condition::Undefined(text) => one(alloc, desk, reading, place, text.bytes()),
-        Condition::Malformed => Ok(both(nothing(alloc), nothing(alloc))),
+        Condition::Malformed => Ok(no_texts(alloc)),
     }
 }
 
@@ -307,20 +329,20 @@ pub(crate) fn hear<V: View>(
     ensures { Does is_free V.tells desk.old desk.new reading.old reading.new result (hearing.hear place.now statement.now) }
 {
     match statement {
-        Statement::If(_) => Ok(both(nothing(alloc), nothing(alloc))),
-        Statement::ElseIf(_) => Ok(both(nothing(alloc), nothing(alloc))),
+        Statement::If(_) => Ok(no_texts(alloc)),
+        Statement::ElseIf(_) => Ok(no_texts(alloc)),
         Statement::Include(i) => one(alloc, desk, reading, place, i.names.bytes()),
         Statement::Undefine(u) => one(alloc, desk, reading, place, u.name.bytes()),
         Statement::Export(names) => one(alloc, desk, reading, place, names.bytes()),
         Statement::Unexport(names) => one(alloc, desk, reading, place, names.bytes()),
         Statement::Assign(a) => hear_assignment(alloc, desk, reading, place, a),
         Statement::Rule(line) => head(alloc, desk, reading, place, line.head.bytes()),
-        Statement::Blank => Ok(both(nothing(alloc), nothing(alloc))),
-        Statement::Else => Ok(both(nothing(alloc), nothing(alloc))),
-        Statement::Endif => Ok(both(nothing(alloc), nothing(alloc))),
-        Statement::Extraneous => Ok(both(nothing(alloc), nothing(alloc))),
-        Statement::Define(_) => Ok(both(nothing(alloc), nothing(alloc))),
-        Statement::Stray => Ok(both(nothing(alloc), nothing(alloc))),
-        Statement::Unsupported(_) => Ok(both(nothing(alloc), nothing(alloc))),
+        Statement::Blank => Ok(no_texts(alloc)),
+        Statement::Else => Ok(no_texts(alloc)),
+        Statement::Endif => Ok(no_texts(alloc)),
+        Statement::Extraneous => Ok(no_texts(alloc)),
+        Statement::Define(_) => Ok(no_texts(alloc)),
+        Statement::Stray => Ok(no_texts(alloc)),
+        Statement::Unsupported(_) => Ok(no_texts(alloc)),
     }
 }

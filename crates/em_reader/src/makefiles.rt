@@ -166,8 +166,8 @@ fn read_from<V: View>(
 ) -> Result<Book, ReadNo>
     ensures { Does is_free V.tells desk.old desk.new said.old said.new result (makefiles.read_from order.now.makefile cwd vars) }
 {
-    let before = mem::replace(said, Text::new(alloc));
-    let mut reading = start(alloc, cwd, vars, before)?;
+    let mut reading = start(alloc, cwd, vars, Text::new(alloc))?;
+    reading.spoken.said = mem::replace(said, Text::new(alloc));
     let result = read_all(alloc, desk, &mut reading, &order.makefile);
     let Reading {
         cwd: _,
@@ -201,7 +201,13 @@ pub fn read_through<V: View>(
         Ok(cwd) => cwd,
         Err(_) => return Err(ReadNo::NoMemory),
     };
-    let vars = start_vars(alloc, order.goals.items(), order.assigned.items(), &cwd, defaults)?;
+    let vars = start_vars(
+        alloc,
+        order.goals.items(),
+        order.assigned.items(),
+        &cwd,
+        defaults,
+    )?;
     read_from(alloc, desk, order, cwd, vars, said)
 }
 

@@ -231,10 +231,10 @@ fn evaluated<V: View>(
     ensures { Does is_free V.tells desk.old desk.new reading.old reading.new result (steps.evaluated (read_text left) place.now heard.now) }
 {
     let texts = reading.take_evals(alloc);
-    if refused_in(heard).is_some() {
-        return Ok(());
+    match refused_in(heard) {
+        Some(_) => Ok(()),
+        None => read_evals(alloc, left, desk, reading, place, texts.items()),
     }
-    read_evals(alloc, left, desk, reading, place, texts.items())
 }
 
 /// Texts that `eval` was given, in order.
@@ -274,7 +274,15 @@ fn include_heard<V: View>(
     }
     let words = words(alloc, heard.first.text.bytes())?;
     let names = matched(alloc, desk, reading, place, words.items())?;
-    include_all(alloc, left, desk, reading, place, include.required, names.items())
+    include_all(
+        alloc,
+        left,
+        desk,
+        reading,
+        place,
+        include.required,
+        names.items(),
+    )
 }
 
 /// The files of these names, in order.

@@ -1,0 +1,27 @@
+use Rattle.std.proofs.Common.{◌≡◌, ◌∙◌, ◌+◌, drop, refl, sym, ap, Ok, Err}
+use Rattle.em_view.proofs.Doing.{then_s, leave_s, finish_s, out_s, owned_s, refused_s, gave_s, below_ok, below_err, more_s, stop_s, end_s}
+use Rattle.em_base.proofs.Lemmas.{left_at, none_at}
+use Rattle.em_reader.proofs.act.matched.Goals as goal
+
+pub returns-in_err-word : goal.returns-in_err-word
+returns-in_err-word g c = end_s c.loop-word.invariant (out_s _ refl c.from_residual.ensures.1)
+
+pub returns-in_err-more : goal.returns-in_err-more
+returns-in_err-more g c =
+    let left = left_at c.args.words.now c.loop-word.word-index c.word-item.result c.loop-word-test.true c.word-item.is in
+    stop_s _ (rw left at c.loop-word.invariant) c.from_residual-in_err-more.ensures.1 (rw c.in_ok-word.ensures at c.in_err-more.ensures)
+
+pub returns-in_err-all : goal.returns-in_err-all
+returns-in_err-all g c =
+    let left = left_at c.args.words.now c.loop-word.word-index c.word-item.result c.loop-word-test.true c.word-item.is in
+    end_s (rw left at c.loop-word.invariant) (then_s _ (rw c.in_ok-word.ensures at c.in_ok-more.ensures) (out_s _ refl c.from_residual-in_err-all.ensures.1))
+
+pub loop-word-preserved : goal.loop-word-preserved
+loop-word-preserved g c =
+    let left = left_at c.args.words.now c.loop-word.word-index c.word-item.result c.loop-word-test.true c.word-item.is in
+    rw c.in_ok-all.ensures (more_s _ (rw left at c.loop-word.invariant) (rw c.in_ok-word.ensures at c.in_ok-more.ensures))
+
+pub returns : goal.returns
+returns g c =
+    let none = none_at c.args.words.now c.loop-word.word-index c.loop-word-test.false in
+    end_s (rw none at c.loop-word.invariant) finish_s

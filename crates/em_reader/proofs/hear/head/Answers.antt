@@ -1,0 +1,12 @@
+use Rattle.std.proofs.Common.{◌≡◌, ◌∙◌, refl, sym, ap, Ok, Err}
+use Rattle.em_view.proofs.Doing.{then_s, leave_s, finish_s, out_s, owned_s, refused_s, gave_s}
+use Rattle.em_reader.specs.Hearing.{head}
+use Rattle.em_reader.proofs.hear.head.Goals as goal
+
+pub returns-in_err-first : goal.returns-in_err-first
+unfolding head
+returns-in_err-first g c = leave_s _ c.from_residual.ensures.1 c.in_err-first.ensures
+
+pub returns : goal.returns
+unfolding head
+returns g c = then_s _ c.in_ok-first.ensures (rw (c.both.ensures, c.nothing.ensures) finish_s)

@@ -1,0 +1,13 @@
+use Rattle.std.proofs.Common.{◌≡◌, ◌∙◌, ◌+◌, drop, map, refl, sym, ap, Ok, Err}
+use Rattle.em_view.proofs.Doing.{then_s, leave_s, finish_s, out_s, owned_s, refused_s, gave_s, more_s, stop_s, end_s}
+use Rattle.em_reader.proofs.Wholes.{whole_ok, whole_err}
+use Rattle.em_reader.proofs.makefiles.read_from.Goals as goal
+
+pub returns-in_err-reading : goal.returns-in_err-reading
+returns-in_err-reading g c = out_s _ refl c.from_residual.ensures.1
+
+pub returns-in-Ok : goal.returns-in-Ok
+returns-in-Ok g c = whole_ok c.args.order.now.makefile c.args.cwd c.args.vars {r = c.read_all-result.new.reading} (rw (c.in_ok-reading.ensures, c.replace.ensures.value) at c.in-Ok.ensures)
+
+pub returns : goal.returns
+returns g c = whole_err c.args.order.now.makefile c.args.cwd c.args.vars {r = c.read_all-result.new.reading} (rw (c.in_ok-reading.ensures, c.replace.ensures.value) at c.in-Err.ensures)
