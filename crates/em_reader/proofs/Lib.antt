@@ -2,3 +2,4 @@ mod Catching
 mod Pieces
 mod States
 mod Wholes
+mod Passed

@@ -16,4 +16,5 @@ pub use Rattle.em_reading.specs.Start
 pub mod Hearing
 pub mod Acting
 pub mod Reading
+pub mod Passing
 pub mod Makefiles

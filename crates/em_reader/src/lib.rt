@@ -5,6 +5,7 @@ mod act;
 mod files;
 mod goal;
 mod hear;
+pub mod laws;
 mod makefiles;
 mod read;
 

@@ -2,7 +2,7 @@
 use super::*;
 
 /// Faults.
-const FAULTS: [Row; 33] = [
+const FAULTS: [Row; 35] = [
     (b"A = $(A)\nB := $(A)\nall:\n", b"*** Makefile:2: self A"),
     (b"ifdef X\nall:\n\techo 1\n", b"*** Makefile:1: conditional"),
     (b"include no\n", b"*** Makefile:1: include no"),
@@ -39,6 +39,11 @@ const FAULTS: [Row; 33] = [
     (b"a: $(b\n", b"*** Makefile:1: unclosed"),
     (b"include bad.mk\n", b"*** bad.mk:2: separator"),
     (b"$(eval bad)\n", b"*** Makefile:1: separator"),
+    (b"$(eval a:)\n\techo\n", b"*** Makefile:2: recipe"),
+    (
+        b"include open.mk\ninclude close.mk\n",
+        b"*** open.mk:1: conditional",
+    ),
     (
         b"define T\na:\nbad\nendef\n$(eval $(T))\n",
         b"*** Makefile:5: separator",
