@@ -27,5 +27,5 @@ pub fn law_undefined()
         → (s : Spoken) (o : Oracle) (w : Workspace)
         → b ≢ 36 → bracket_of b ≡ None → value_of vars (b ∷ []) ≡ None → 1 ≤ w.fuel
         → expansion vars cwd place (36 ∷ b ∷ []) s o w
-            ≡ (Ok ([], s), record w { fuel = w.fuel - 1 }) }
+        ≡ (Ok ([], s), record w { fuel = w.fuel - 1 }) }
 {}
