@@ -52,7 +52,8 @@ fn wildcard_word<V: View>(
     place: &Place,
     glyphs: &[Glyph],
 ) -> Result<Seq<Text>, ReadNo>
-    ensures { Does is_free V.tells desk.old desk.new reading.old reading.new result (acting.wildcard_glyphs place.now glyphs.now) }
+    ensures { Does is_free V.tells desk.old desk.new reading.old reading.new result
+        (acting.wildcard_glyphs place.now glyphs.now) }
 {
     match matching_names(alloc, glyphs, &reading.cwd, desk) {
         Ok(names) => Ok(names),
@@ -70,7 +71,8 @@ fn matches_of<V: View>(
     glyphs: &[Glyph],
 ) -> Result<Seq<Text>, ReadNo>
     requires { glyphs.now ≡ glyphs_of word }
-    ensures { Does is_free V.tells desk.old desk.new reading.old reading.new result (acting.matches_of place.now word) }
+    ensures { Does is_free V.tells desk.old desk.new reading.old reading.new result
+        (acting.matches_of place.now word) }
 {
     let names = wildcard_word(alloc, desk, reading, place, glyphs)?;
     Ok(or_itself(word, names)?)
@@ -93,7 +95,8 @@ fn matched_word<V: View>(
     place: &Place,
     word: Text,
 ) -> Result<Seq<Text>, ReadNo>
-    ensures { Does is_free V.tells desk.old desk.new reading.old reading.new result (acting.matched_word place.now word) }
+    ensures { Does is_free V.tells desk.old desk.new reading.old reading.new result
+        (acting.matched_word place.now word) }
 {
     let glyphs = glyphs_of(alloc, word.bytes())?;
     if is_pattern(&glyphs) {
@@ -119,7 +122,8 @@ pub(crate) fn matched<V: View>(
     place: &Place,
     words: &[Text],
 ) -> Result<Seq<Text>, ReadNo>
-    ensures { Does is_free V.tells desk.old desk.new reading.old reading.new result (matched place.now [] words.now) }
+    ensures { Does is_free V.tells desk.old desk.new reading.old reading.new result
+        (matched place.now [] words.now) }
 {
     let mut all = Seq::new(alloc);
     for word in words {
@@ -202,7 +206,8 @@ fn rule_with<V: View>(
     line: &RuleLine,
     head: Head,
 ) -> Result<(), ReadNo>
-    ensures { Does is_free V.tells desk.old desk.new reading.old reading.new result (acting.rule_with place.now line.now head) }
+    ensures { Does is_free V.tells desk.old desk.new reading.old reading.new result
+        (acting.rule_with place.now line.now head) }
 {
     let targets = matched(alloc, desk, reading, place, head.targets.items())?;
     let normal = matched(alloc, desk, reading, place, head.normal.items())?;
@@ -227,7 +232,8 @@ fn rule_by<V: View>(
     line: &RuleLine,
     text: &[u8],
 ) -> Result<(), ReadNo>
-    ensures { Does is_free V.tells desk.old desk.new reading.old reading.new result (acting.rule_by place.now line.now text.now (head_of text.now)) }
+    ensures { Does is_free V.tells desk.old desk.new reading.old reading.new result
+        (acting.rule_by place.now line.now text.now (head_of text.now)) }
 {
     match read_head(alloc, text)? {
         Some(head) => rule_with(alloc, desk, reading, place, line, head),
@@ -249,7 +255,8 @@ fn rule_line<V: View>(
     line: &RuleLine,
     heard: &Heard,
 ) -> Result<(), ReadNo>
-    ensures { Does is_free V.tells desk.old desk.new reading.old reading.new result (acting.rule_line place.now line.now heard.now) }
+    ensures { Does is_free V.tells desk.old desk.new reading.old reading.new result
+        (acting.rule_line place.now line.now heard.now) }
 {
     let text = heard.first.text.bytes();
     if let Some(name) = refused_in_head(alloc, line.assigns, text)? {
@@ -270,7 +277,8 @@ pub(crate) fn act_alone<V: View>(
     statement: &Statement,
     heard: &Heard,
 ) -> Result<(), ReadNo>
-    ensures { Does is_free V.tells desk.old desk.new reading.old reading.new result (acting.act_alone place.now statement.now heard.now) }
+    ensures { Does is_free V.tells desk.old desk.new reading.old reading.new result
+        (acting.act_alone place.now statement.now heard.now) }
 {
     match statement {
         Statement::Assign(a) => reading.assign(alloc, place, a, heard),

@@ -40,7 +40,8 @@ fn bytes_at<V: View>(
     place: &Place,
     path: &Path,
 ) -> Result<Option<Body>, ReadNo>
-    ensures { Does is_free V.tells desk.old desk.new reading.old reading.new result (content_by place.now (Some path.now)) }
+    ensures { Does is_free V.tells desk.old desk.new reading.old reading.new result
+        (content_by place.now (Some path.now)) }
 {
     match desk.content(path) {
         Ok(bytes) => Ok(bytes),
@@ -56,7 +57,8 @@ pub(crate) fn content_of<V: View>(
     place: &Place,
     name: &[u8],
 ) -> Result<Option<Body>, ReadNo>
-    ensures { Does is_free V.tells desk.old desk.new reading.old reading.new result (steps.content_of place.now name.now) }
+    ensures { Does is_free V.tells desk.old desk.new reading.old reading.new result
+        (steps.content_of place.now name.now) }
 {
     match path_of(alloc, &reading.cwd, name)? {
         Some(path) => bytes_at(alloc, desk, reading, place, &path),

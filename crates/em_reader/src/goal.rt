@@ -19,7 +19,8 @@ fn expanded_goal<V: View>(
     place: &Place,
     text: &[u8],
 ) -> Result<(), ReadNo>
-    ensures { Does is_free V.tells desk.old desk.new reading.old reading.new result (makefiles.expanded_goal place.now text.now) }
+    ensures { Does is_free V.tells desk.old desk.new reading.old reading.new result
+        (makefiles.expanded_goal place.now text.now) }
 {
     let value = heard(alloc, desk, reading, place, text)?;
     if let Some(name) = &value.refused {
@@ -35,7 +36,8 @@ pub(crate) fn default_goal<V: View>(
     reading: &mut Reading,
     place: &Place,
 ) -> Result<(), ReadNo>
-    ensures { Does is_free V.tells desk.old desk.new reading.old reading.new result (makefiles.default_goal place.now) }
+    ensures { Does is_free V.tells desk.old desk.new reading.old reading.new result
+        (makefiles.default_goal place.now) }
 {
     let Some(v) = reading.book.vars.get(b".DEFAULT_GOAL") else {
         return reading.set_goal(alloc, &[]);

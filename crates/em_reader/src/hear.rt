@@ -69,7 +69,8 @@ pub(crate) fn heard<V: View>(
     place: &Place,
     text: &[u8],
 ) -> Result<Expanded, ReadNo>
-    ensures { Does is_free V.tells desk.old desk.new reading.old reading.new result (hearing.heard place.now text.now) }
+    ensures { Does is_free V.tells desk.old desk.new reading.old reading.new result
+        (hearing.heard place.now text.now) }
 {
     let vars = &reading.book.vars;
     match expand(
@@ -158,7 +159,8 @@ fn heard_pieces<V: View>(
     place: &Place,
     pieces: &[Text],
 ) -> Result<Expanded, ReadNo>
-    ensures { Does is_free V.tells desk.old desk.new reading.old reading.new result (heard_pieces place.now [] pieces.now) }
+    ensures { Does is_free V.tells desk.old desk.new reading.old reading.new result
+        (heard_pieces place.now [] pieces.now) }
 {
     let mut all = nothing(alloc);
     for piece in pieces {
@@ -179,7 +181,8 @@ fn heard_head<V: View>(
     place: &Place,
     text: &[u8],
 ) -> Result<Expanded, ReadNo>
-    ensures { Does is_free V.tells desk.old desk.new reading.old reading.new result (hearing.heard_head place.now text.now) }
+    ensures { Does is_free V.tells desk.old desk.new reading.old reading.new result
+        (hearing.heard_head place.now text.now) }
 {
     let pieces = pieces(alloc, text)?;
     heard_pieces(alloc, desk, reading, place, pieces.items())
@@ -207,7 +210,8 @@ fn one<V: View>(
     place: &Place,
     text: &[u8],
 ) -> Result<Heard, ReadNo>
-    ensures { Does is_free V.tells desk.old desk.new reading.old reading.new result (hearing.one place.now text.now) }
+    ensures { Does is_free V.tells desk.old desk.new reading.old reading.new result
+        (hearing.one place.now text.now) }
 {
     let first = heard(alloc, desk, reading, place, text)?;
     Ok(both(first, nothing(alloc)))
@@ -222,7 +226,8 @@ fn heard_after<V: View>(
     place: &Place,
     text: &[u8],
 ) -> Result<Expanded, ReadNo>
-    ensures { Does is_free V.tells desk.old desk.new reading.old reading.new result (hearing.heard_after refused.now place.now text.now) }
+    ensures { Does is_free V.tells desk.old desk.new reading.old reading.new result
+        (hearing.heard_after refused.now place.now text.now) }
 {
     match refused {
         None => heard(alloc, desk, reading, place, text),
@@ -238,7 +243,8 @@ fn two<V: View>(
     place: &Place,
     sides: &Sides,
 ) -> Result<Heard, ReadNo>
-    ensures { Does is_free V.tells desk.old desk.new reading.old reading.new result (hearing.two place.now sides.now) }
+    ensures { Does is_free V.tells desk.old desk.new reading.old reading.new result
+        (hearing.two place.now sides.now) }
 {
     let first = heard(alloc, desk, reading, place, sides.left.bytes())?;
     let second = heard_after(
@@ -261,7 +267,8 @@ fn value_of<V: View>(
     assignment: &Assignment,
     name: &Expanded,
 ) -> Result<Expanded, ReadNo>
-    ensures { Does is_free V.tells desk.old desk.new reading.old reading.new result (hearing.value_of_assignment place.now assignment.now name.now) }
+    ensures { Does is_free V.tells desk.old desk.new reading.old reading.new result
+        (hearing.value_of_assignment place.now assignment.now name.now) }
 {
     let value = assignment.value.bytes();
     if is_expanded(assignment.operator, &reading.book.vars, name.text.bytes()) {
@@ -278,7 +285,8 @@ fn hear_assignment<V: View>(
     place: &Place,
     assignment: &Assignment,
 ) -> Result<Heard, ReadNo>
-    ensures { Does is_free V.tells desk.old desk.new reading.old reading.new result (hearing.hear_assignment place.now assignment.now) }
+    ensures { Does is_free V.tells desk.old desk.new reading.old reading.new result
+        (hearing.hear_assignment place.now assignment.now) }
 {
     let name = heard(alloc, desk, reading, place, assignment.name.bytes())?;
     let value = value_of(alloc, desk, reading, place, assignment, &name)?;
@@ -293,7 +301,8 @@ pub(crate) fn hear_condition<V: View>(
     place: &Place,
     condition: &Condition,
 ) -> Result<Heard, ReadNo>
-    ensures { Does is_free V.tells desk.old desk.new reading.old reading.new result (hearing.hear_condition place.now condition.now) }
+    ensures { Does is_free V.tells desk.old desk.new reading.old reading.new result
+        (hearing.hear_condition place.now condition.now) }
 {
     match condition {
         Condition::Same(sides) => two(alloc, desk, reading, place, sides),
@@ -312,7 +321,8 @@ fn head<V: View>(
     place: &Place,
     text: &[u8],
 ) -> Result<Heard, ReadNo>
-    ensures { Does is_free V.tells desk.old desk.new reading.old reading.new result (hearing.head place.now text.now) }
+    ensures { Does is_free V.tells desk.old desk.new reading.old reading.new result
+        (hearing.head place.now text.now) }
 {
     let first = heard_head(alloc, desk, reading, place, text)?;
     Ok(both(first, nothing(alloc)))
@@ -326,7 +336,8 @@ pub(crate) fn hear<V: View>(
     place: &Place,
     statement: &Statement,
 ) -> Result<Heard, ReadNo>
-    ensures { Does is_free V.tells desk.old desk.new reading.old reading.new result (hearing.hear place.now statement.now) }
+    ensures { Does is_free V.tells desk.old desk.new reading.old reading.new result
+        (hearing.hear place.now statement.now) }
 {
     match statement {
         Statement::If(_) => Ok(no_texts(alloc)),

@@ -47,7 +47,8 @@ fn asked_for<V: View>(
     reading: &mut Reading,
     name: &Text,
 ) -> Result<Option<Makefile>, ReadNo>
-    ensures { Does is_free V.tells desk.old desk.new reading.old reading.new result (makefiles.asked_for name.now) }
+    ensures { Does is_free V.tells desk.old desk.new reading.old reading.new result
+        (makefiles.asked_for name.now) }
 {
     let place = line_one(alloc, name.bytes())?;
     match content_of(alloc, desk, reading, &place, name.bytes())? {
@@ -66,7 +67,8 @@ fn first_file<V: View>(
     reading: &mut Reading,
     names: &[&[u8]],
 ) -> Result<Option<Makefile>, ReadNo>
-    ensures { Does is_free V.tells desk.old desk.new reading.old reading.new result (makefiles.first_file (map (λ n. n.now) names.now)) }
+    ensures { Does is_free V.tells desk.old desk.new reading.old reading.new result
+        (makefiles.first_file (map (λ n. n.now) names.now)) }
 {
     for name in names {
         let place = line_one(alloc, name)?;
@@ -85,7 +87,8 @@ fn makefile_of<V: View>(
     reading: &mut Reading,
     name: &Option<Text>,
 ) -> Result<Option<Makefile>, ReadNo>
-    ensures { Does is_free V.tells desk.old desk.new reading.old reading.new result (makefiles.makefile_of name.now) }
+    ensures { Does is_free V.tells desk.old desk.new reading.old reading.new result
+        (makefiles.makefile_of name.now) }
 {
     match name {
         Some(name) => asked_for(alloc, desk, reading, name),
@@ -103,7 +106,8 @@ fn read_file<V: View>(
     reading: &mut Reading,
     makefile: &Makefile,
 ) -> Result<(), ReadNo>
-    ensures { Does is_free V.tells desk.old desk.new reading.old reading.new result (makefiles.read_file makefile.now) }
+    ensures { Does is_free V.tells desk.old desk.new reading.old reading.new result
+        (makefiles.read_file makefile.now) }
 {
     reading.book.found = true;
     let place = line_one(alloc, makefile.name.bytes())?;
@@ -118,7 +122,8 @@ fn read_makefile<V: View>(
     reading: &mut Reading,
     makefile: &Option<Makefile>,
 ) -> Result<(), ReadNo>
-    ensures { Does is_free V.tells desk.old desk.new reading.old reading.new result (makefiles.read_makefile makefile.now) }
+    ensures { Does is_free V.tells desk.old desk.new reading.old reading.new result
+        (makefiles.read_makefile makefile.now) }
 {
     match makefile {
         None => Ok(()),
@@ -143,7 +148,8 @@ fn read_all<V: View>(
     reading: &mut Reading,
     name: &Option<Text>,
 ) -> Result<(), ReadNo>
-    ensures { Does is_free V.tells desk.old desk.new reading.old reading.new result (read_all name.now) }
+    ensures { Does is_free V.tells desk.old desk.new reading.old reading.new result
+        (read_all name.now) }
 {
     let makefile = makefile_of(alloc, desk, reading, name)?;
     read_makefile(alloc, desk, reading, &makefile)?;
@@ -164,7 +170,8 @@ fn read_from<V: View>(
     vars: Vars,
     said: &mut Text,
 ) -> Result<Book, ReadNo>
-    ensures { Does is_free V.tells desk.old desk.new said.old said.new result (makefiles.read_from order.now.makefile cwd vars) }
+    ensures { Does is_free V.tells desk.old desk.new said.old said.new result
+        (makefiles.read_from order.now.makefile cwd vars) }
 {
     let mut reading = start(alloc, cwd, vars, Text::new(alloc))?;
     reading.spoken.said = mem::replace(said, Text::new(alloc));
@@ -185,8 +192,15 @@ fn read_from<V: View>(
     }
 }
 
-/// Reads the makefile that the order asks for, over any desk: its `-f`, else the first of `GNUmakefile`, `makefile` and `Makefile` that is
-/// a file in the working directory. The exported variables of `defaults` are there at the start, as defaults.
+/// Reads the makefile that the order asks for, over any desk: its `-f`, else the first of `GNUmakefile`,
+/// `makefile` and `Makefile` that is a file in the working directory, as GNU make does. The exported
+/// variables of `defaults` are there at the start, as defaults. What is said on the way is appended to
+/// `said`, also before a fault; the first fault in reading order comes with its place.
+///
+/// The time is linear in what is read and expanded, with a few searches by name for each name in a rule. A
+/// byte of a rule's line is copied at most eight times: when lines are joined, when the line is parted, as a
+/// piece of the head, when that is expanded and put together again, as a word, as a name, and as a key of
+/// the book's index. A byte of any other line is copied at most five times, besides its expansion.
 pub fn read_through<V: View>(
     alloc: Global,
     desk: &mut Desk<V>,
@@ -195,7 +209,8 @@ pub fn read_through<V: View>(
     said: &mut Text,
 ) -> Result<Book, ReadNo>
     requires { read_fault root_text order.now.dir ≡ None }
-    ensures { Does is_free V.tells desk.old desk.new said.old said.new result (reading order.now (resolved_text root_text order.now.dir) defaults.now) }
+    ensures { Does is_free V.tells desk.old desk.new said.old said.new result
+        (reading order.now (resolved_text root_text order.now.dir) defaults.now) }
 {
     let cwd = match Path::read(alloc, &Path::root(), order.dir.bytes()) {
         Ok(cwd) => cwd,
@@ -211,7 +226,8 @@ pub fn read_through<V: View>(
     read_from(alloc, desk, order, cwd, vars, said)
 }
 
-/// Reads the makefile that the order asks for in a state.
+/// Reads the makefile that the order asks for in a state, with 10,000,000 units of fuel: `Spent` comes exactly
+/// where they don't suffice. Errors, what is said and cost are those of `read_through`.
 pub fn read_makefiles(
     alloc: Global,
     state: &State,

@@ -25,7 +25,8 @@ pub(crate) fn read_text<V: View>(
     place: &Place,
     lines: &Lines,
 ) -> Result<(), ReadNo>
-    ensures { Does is_free V.tells desk.old desk.new reading.old reading.new result (read_text left place.now lines.now) }
+    ensures { Does is_free V.tells desk.old desk.new reading.old reading.new result
+        (read_text left place.now lines.now) }
 {
     if left == 0 {
         return Err(at(alloc, place, Fault::Limit));
@@ -45,7 +46,8 @@ fn read_line<V: View>(
     reading: &mut Reading,
     line: &Line,
 ) -> Result<(), ReadNo>
-    ensures { Does is_free V.tells desk.old desk.new reading.old reading.new result (steps.read_line (read_text left) line.now) }
+    ensures { Does is_free V.tells desk.old desk.new reading.old reading.new result
+        (steps.read_line (read_text left) line.now) }
 {
     match reading.take_define() {
         Some(body) => in_body(alloc, left, desk, reading, line, body),
@@ -69,7 +71,8 @@ fn in_body<V: View>(
     line: &Line,
     body: Body,
 ) -> Result<(), ReadNo>
-    ensures { Does is_free V.tells desk.old desk.new reading.old reading.new result (steps.in_body (read_text left) line.now body) }
+    ensures { Does is_free V.tells desk.old desk.new reading.old reading.new result
+        (steps.in_body (read_text left) line.now body) }
 {
     if !body.ends(alloc, line)? {
         return reading.body_line(alloc, body, line);
@@ -94,7 +97,8 @@ fn by_statement<V: View>(
     place: &Place,
     statement: &Statement,
 ) -> Result<(), ReadNo>
-    ensures { Does is_free V.tells desk.old desk.new reading.old reading.new result (steps.by_statement (read_text left) place.now statement.now) }
+    ensures { Does is_free V.tells desk.old desk.new reading.old reading.new result
+        (steps.by_statement (read_text left) place.now statement.now) }
 {
     match statement {
         Statement::If(condition) => if_line(alloc, left, desk, reading, place, condition),
@@ -125,7 +129,8 @@ fn if_line<V: View>(
     place: &Place,
     condition: &Condition,
 ) -> Result<(), ReadNo>
-    ensures { Does is_free V.tells desk.old desk.new reading.old reading.new result (steps.if_line (read_text left) place.now condition.now) }
+    ensures { Does is_free V.tells desk.old desk.new reading.old reading.new result
+        (steps.if_line (read_text left) place.now condition.now) }
 {
     if !reading.is_read() {
         return reading.enter(alloc, place, false);
@@ -145,7 +150,8 @@ fn else_if_line<V: View>(
     place: &Place,
     condition: &Condition,
 ) -> Result<(), ReadNo>
-    ensures { Does is_free V.tells desk.old desk.new reading.old reading.new result (steps.else_if_line (read_text left) place.now condition.now) }
+    ensures { Does is_free V.tells desk.old desk.new reading.old reading.new result
+        (steps.else_if_line (read_text left) place.now condition.now) }
 {
     if !reading.nest.may_turn() {
         return reading.other(alloc, place, Some(false));
@@ -165,7 +171,8 @@ fn active_line<V: View>(
     place: &Place,
     statement: &Statement,
 ) -> Result<(), ReadNo>
-    ensures { Does is_free V.tells desk.old desk.new reading.old reading.new result (steps.active_line (read_text left) place.now statement.now) }
+    ensures { Does is_free V.tells desk.old desk.new reading.old reading.new result
+        (steps.active_line (read_text left) place.now statement.now) }
 {
     if !reading.is_read() {
         return Ok(());
@@ -183,7 +190,8 @@ fn statement_line<V: View>(
     place: &Place,
     statement: &Statement,
 ) -> Result<(), ReadNo>
-    ensures { Does is_free V.tells desk.old desk.new reading.old reading.new result (steps.statement_line (read_text left) place.now statement.now) }
+    ensures { Does is_free V.tells desk.old desk.new reading.old reading.new result
+        (steps.statement_line (read_text left) place.now statement.now) }
 {
     reading.close_rule(alloc)?;
     let heard = hear(alloc, desk, reading, place, statement)?;
@@ -228,7 +236,8 @@ fn evaluated<V: View>(
     place: &Place,
     heard: &Heard,
 ) -> Result<(), ReadNo>
-    ensures { Does is_free V.tells desk.old desk.new reading.old reading.new result (steps.evaluated (read_text left) place.now heard.now) }
+    ensures { Does is_free V.tells desk.old desk.new reading.old reading.new result
+        (steps.evaluated (read_text left) place.now heard.now) }
 {
     let texts = reading.take_evals(alloc);
     match refused_in(heard) {
@@ -247,7 +256,8 @@ fn read_evals<V: View>(
     place: &Place,
     texts: &[Text],
 ) -> Result<(), ReadNo>
-    ensures { Does is_free V.tells desk.old desk.new reading.old reading.new result (read_evals (read_text left) place.now texts.now) }
+    ensures { Does is_free V.tells desk.old desk.new reading.old reading.new result
+        (read_evals (read_text left) place.now texts.now) }
 {
     for text in texts {
         let lines = eval_lines(alloc, place, text.bytes())?;
@@ -267,7 +277,8 @@ fn include_heard<V: View>(
     include: &Include,
     heard: &Heard,
 ) -> Result<(), ReadNo>
-    ensures { Does is_free V.tells desk.old desk.new reading.old reading.new result (steps.include_heard (read_text left) place.now include.now heard.now) }
+    ensures { Does is_free V.tells desk.old desk.new reading.old reading.new result
+        (steps.include_heard (read_text left) place.now include.now heard.now) }
 {
     if let Some(name) = refused_in(heard) {
         return Err(refused(alloc, place, name.bytes()));
@@ -296,7 +307,8 @@ fn include_all<V: View>(
     required: bool,
     names: &[Text],
 ) -> Result<(), ReadNo>
-    ensures { Does is_free V.tells desk.old desk.new reading.old reading.new result (include_all (read_text left) required place.now names.now) }
+    ensures { Does is_free V.tells desk.old desk.new reading.old reading.new result
+        (include_all (read_text left) required place.now names.now) }
 {
     for name in names {
         include_one(alloc, left, desk, reading, place, required, name)?;
@@ -315,7 +327,8 @@ fn include_one<V: View>(
     required: bool,
     name: &Text,
 ) -> Result<(), ReadNo>
-    ensures { Does is_free V.tells desk.old desk.new reading.old reading.new result (steps.include_one (read_text left) required place.now name.now) }
+    ensures { Does is_free V.tells desk.old desk.new reading.old reading.new result
+        (steps.include_one (read_text left) required place.now name.now) }
 {
     match content_of(alloc, desk, reading, place, name.bytes())? {
         Some(bytes) => {

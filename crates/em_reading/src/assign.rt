@@ -84,7 +84,8 @@ impl Reading {
         assignment: &Assignment,
         heard: &Heard,
     ) -> Result<(), ReadNo>
-        ensures { Works is_free self.old self.new result (acting.assign place.now assignment.now heard.now) }
+        ensures { Works is_free self.old self.new result
+            (acting.assign place.now assignment.now heard.now) }
     {
         if let Some(name) = assignment_refusal(assignment.operator, heard) {
             return Err(refused(alloc, place, name));
@@ -111,7 +112,8 @@ impl Reading {
         directive: &Undefine,
         heard: &Heard,
     ) -> Result<(), ReadNo>
-        ensures { Works is_free self.old self.new result (acting.undefine place.now directive.now heard.now) }
+        ensures { Works is_free self.old self.new result
+            (acting.undefine place.now directive.now heard.now) }
     {
         if let Some(name) = refused_in(heard) {
             return Err(refused(alloc, place, name.bytes()));

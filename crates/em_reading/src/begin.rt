@@ -101,7 +101,8 @@ pub fn start_vars(
     cwd: &Path,
     defaults: &Vars,
 ) -> Result<Vars, NoMemory>
-    ensures { IfOk result (λ vars. vars ≡ start_vars goals.now assigned.now cwd.now defaults.now) }
+    ensures { IfOk result
+        (λ vars. vars ≡ start_vars goals.now assigned.now cwd.now defaults.now) }
 {
     let mut vars = given(alloc, defaults)?;
     set_defaults(alloc, &mut vars, cwd.text(), goals)?;

@@ -60,7 +60,8 @@ impl Reading {
         condition: &Condition,
         heard: &Heard,
     ) -> Result<(), ReadNo>
-        ensures { Works is_free self.old self.new result (acting.if_heard place.now condition.now heard.now) }
+        ensures { Works is_free self.old self.new result
+            (acting.if_heard place.now condition.now heard.now) }
     {
         if let Some(name) = refused_in(heard) {
             return Err(refused(alloc, place, name.bytes()));
@@ -79,7 +80,8 @@ impl Reading {
         condition: &Condition,
         heard: &Heard,
     ) -> Result<(), ReadNo>
-        ensures { Works is_free self.old self.new result (acting.else_if_heard place.now condition.now heard.now) }
+        ensures { Works is_free self.old self.new result
+            (acting.else_if_heard place.now condition.now heard.now) }
     {
         if let Some(name) = refused_in(heard) {
             return Err(refused(alloc, place, name.bytes()));

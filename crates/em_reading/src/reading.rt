@@ -115,7 +115,8 @@ impl Reading {
         place: &Place,
         assignment: &Assignment,
     ) -> Result<(), ReadNo>
-        ensures { Works is_free self.old self.new result (changes.begin_define place.now assignment.now) }
+        ensures { Works is_free self.old self.new result
+            (changes.begin_define place.now assignment.now) }
     {
         self.define = Some(Body {
             place: place.copy(alloc)?,
@@ -133,7 +134,8 @@ impl Reading {
         place: &Place,
         assignment: &Assignment,
     ) -> Result<(), ReadNo>
-        ensures { Works is_free self.old self.new result (changes.define_line place.now assignment.now) }
+        ensures { Works is_free self.old self.new result
+            (changes.define_line place.now assignment.now) }
     {
         if !self.is_read() {
             return Ok(());

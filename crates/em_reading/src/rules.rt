@@ -51,7 +51,8 @@ fn add_warnings(
     place: &Place,
     targets: &[Text],
 ) -> Result<(), NoMemory>
-    ensures { OnOk result (text.new ≡ text.old ++ flat_map (warning_for book.now place.now) targets.now) }
+    ensures { OnOk result
+        (text.new ≡ text.old ++ flat_map (warning_for book.now place.now) targets.now) }
 {
     for target in targets {
         add_warning_for(text, book, place, target.bytes())?;
