@@ -236,7 +236,9 @@ pub fn read_makefiles(
 ) -> Result<Book, ReadNo>
     requires { read_fault root_text order.now.dir ≡ None }
     ensures { performs.is_free is_free result ≡ false
-        → with_state result said.new ≡ (reading order.now (resolved_text root_text order.now.dir) [] said.old (snapshot state.now) fresh).0 }
+        → with_state result said.new
+        ≡ (reading order.now (resolved_text root_text order.now.dir) [] said.old
+        (snapshot state.now) fresh).0 }
 {
     let defaults = Vars::new(alloc)?;
     let mut desk = Desk::new(alloc, PlainView::new(state), 0, 0, Fuel::new(FUEL));
