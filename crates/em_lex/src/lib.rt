@@ -1,0 +1,8 @@
+//! The tokens of a recipe line in a subset of the POSIX shell.
+#![tactic(auto)]
+
+mod lexeme;
+mod no;
+
+pub use lexeme::{Lexed, Lexeme, Start, Token, TokenKind, What};
+pub use no::LexNo;
