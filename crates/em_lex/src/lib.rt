@@ -1,8 +1,10 @@
 //! The tokens of a recipe line in a subset of the POSIX shell.
 #![tactic(auto)]
 
+mod bytes;
 mod lexeme;
 mod no;
+mod state;
 
 pub use lexeme::{Lexed, Lexeme, Start, Token, TokenKind, What};
 pub use no::LexNo;
