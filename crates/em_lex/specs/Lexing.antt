@@ -1,6 +1,6 @@
 -- The lexemes of a line.
 --     lexed line     those up to the leftmost fault, and that fault
-use Rattle.std.specs.Prelude.{ℕ, suc, zero, ◌+◌, ◌-◌, ◌==◌, ◌&&◌, not, nat_le, Bool, true, false, List, [], ◌∷◌, ◌++◌, length, map, take, drop, slice_get, slice_index, Option, Some, None, option_map, if◌then◌else◌}
+use Rattle.std.specs.Prelude.{ℕ, suc, zero, ◌+◌, ◌-◌, ◌==◌, ◌&&◌, not, min, nat_le, Bool, true, false, List, [], ◌∷◌, ◌++◌, length, map, take, drop, slice_get, slice_index, Option, Some, None, option_map, if◌then◌else◌}
 use Rattle.std.specs.List.{prefix_len}
 use Rattle.em_base.specs.declared.construct.Construct.TheVariants.{Depth}
 use Rattle.em_base.specs.declared.place.Span.{Span}
@@ -41,7 +41,7 @@ unfoldable pub embedded : Lexed → Lexer → Byte → Lexer
 embedded inner s b =
     let places = s.places in
     let t = popped s in
-    let u = emitted t s.start (s.start + 1) (SubstitutionStart (is_quoted (top t))) in
+    let u = emitted t s.start (min (s.start + 1) b.at) (SubstitutionStart (is_quoted (top t))) in
     let v = record u { items = u.items ++ map (moved places b.at) inner.items; text = []; places = [] } in
     with_fault (option_map (moved_fault places b.at) inner.stop) (emitted v b.at b.end SubstitutionEnd)
 

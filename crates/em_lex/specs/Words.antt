@@ -87,8 +87,8 @@ with_assignment text to s =
 -- the word's begin and its unquoted bytes, which were gathered and end at `to`
 unfoldable pub headed : Start → ℕ → Lexer → Lexer
 headed start to s =
-    let t = started start s.start s in
-    spent (if is_assigning start then with_assignment s.text to t else emitted t s.start to (Bytes false s.text))
+    let t = spent (started start s.start s) in
+    if is_assigning start then with_assignment s.text to t else emitted t s.start to (Bytes false s.text)
 
 -- the descriptor of one digit, of at least so much and at most 2
 abbrev pub descriptor : ℕ → List ℕ → Option ℕ

@@ -2,9 +2,11 @@
 #![tactic(auto)]
 
 mod bytes;
+mod frame;
 mod lexeme;
 mod no;
 mod state;
+mod steps;
 
 pub use lexeme::{Lexed, Lexeme, Start, Token, TokenKind, What};
 pub use no::LexNo;
