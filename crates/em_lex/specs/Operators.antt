@@ -54,16 +54,22 @@ abbrev pub is_duplicate : Spot → Bool
 is_duplicate (Duplicate at) = true
 is_duplicate _ = false
 
+abbrev pub item_or_command : Bool → Spot
+item_or_command item = if item then Item else Command
+
+abbrev pub pattern_or_command : Bool → Spot
+pattern_or_command pattern = if pattern then Pattern else Command
+
 -- behind an operator, which began at `at`: `;;` ends an item where a `case` is open, `|` stands between patterns too, and a
 -- redirection is part of a simple command
 abbrev pub spot_behind : What → Option Frame → Spot → ℕ → Spot
-spot_behind CaseEnd f spot at = if is_cases f then Item else Command
-spot_behind Pipe f spot at = if is_pattern spot then Pattern else Command
+spot_behind CaseEnd f spot at = item_or_command (is_cases f)
+spot_behind Pipe f spot at = pattern_or_command (is_pattern spot)
 spot_behind Less f spot at = Operand
 spot_behind Great f spot at = Operand
 spot_behind DoubleGreat f spot at = Operand
 spot_behind GreatAnd f spot at = Duplicate at
-spot_behind Newline f spot at = if is_item spot then Item else Command
+spot_behind Newline f spot at = item_or_command (is_item spot)
 spot_behind _ f spot at = Command
 
 -- the reserved words behind which another may stand, or a command begins
@@ -96,13 +102,22 @@ is_in In = true
 is_in _ = false
 
 -- behind the beginning of a word
+abbrev pub spot_in_command : Start → Spot
+spot_in_command w = if joins w then Command else if is_case w then Subject else Operand
+
+abbrev pub spot_in_inside : Start → Spot
+spot_in_inside w = if is_in w then Item else Operand
+
+abbrev pub spot_in_item : Start → Spot
+spot_in_item w = if is_esac w then Command else Pattern
+
 abbrev pub spot_in : Spot → Start → Spot
-spot_in Command w = if joins w then Command else if is_case w then Subject else Operand
+spot_in Command w = spot_in_command w
 spot_in Operand w = Operand
 spot_in (Duplicate at) w = Operand
 spot_in Subject w = Inside
-spot_in Inside w = if is_in w then Item else Operand
-spot_in Item w = if is_esac w then Command else Pattern
+spot_in Inside w = spot_in_inside w
+spot_in Item w = spot_in_item w
 spot_in Pattern w = Pattern
 
 -- where a word is `case`, or `esac`, as a reserved word
@@ -122,25 +137,21 @@ cases_in spot w fs =
     else fs
 
 -- where a lexeme is a descriptor 0
+abbrev pub zero_in : What → ℕ → Option ℕ
+zero_in (Number n) at = if n == 0 then Some at else None
+zero_in _ at = None
+
 abbrev pub zero_at : Option Lexeme → Option ℕ
 zero_at None = None
 zero_at (Some l) = zero_in l.what l.span.start
-  where
-    zero_in : What → ℕ → Option ℕ
-    zero_in (Number n) at = if n == 0 then Some at else None
-    zero_in _ at = None
 
--- the last lexeme, where it is a descriptor 0
-abbrev pub zero_before : List Lexeme → Option ℕ
-zero_before ls = zero_at (slice_get ls (length ls - 1))
+abbrev pub refused_zero : Option ℕ → Lexer → Lexer
+refused_zero None s = s
+refused_zero (Some at) s = refused s Descriptor at
 
--- `0>&` is refused
+-- `0>&` is refused: the last lexeme is the descriptor
 abbrev pub without_zero : What → Lexer → Lexer
-without_zero GreatAnd s = at_zero (zero_before s.items) s
-  where
-    at_zero : Option ℕ → Lexer → Lexer
-    at_zero None t = t
-    at_zero (Some at) t = refused t Descriptor at
+without_zero GreatAnd s = refused_zero (zero_at (slice_get s.items (length s.items - 1))) s
 without_zero _ s = s
 
 -- an operator, which began where the state says and ends at `to`

@@ -17,13 +17,17 @@ valued s form to = spent (emitted s s.start to (Value (is_quoted (top s)) s.text
 abbrev pub in_argument : Bool → Lexer → Lexer
 in_argument quoted s = pushed (Argument s.start quoted) (spent s)
 
--- a value with an argument, up to it: `${name-`; in double quotes a word is read as there
+-- a value with an argument, up to it
+abbrev pub with_start : Lexer → List ℕ → ℕ → Lexer
+with_start s form to = spent (emitted s s.start to (ArgumentStart (is_quoted (top s)) s.text form))
+
+-- `${name-`: in double quotes the word is read as there
 unfoldable pub with_word : Lexer → List ℕ → ℕ → Lexer
-with_word s form to = in_argument (is_quoting (top s)) (emitted s s.start to (ArgumentStart (is_quoted (top s)) s.text form))
+with_word s form to = in_argument (is_quoting (top s)) (with_start s form to)
 
 -- `${name%`: the pattern is read as outside quotes
 unfoldable pub with_pattern : Lexer → List ℕ → ℕ → Lexer
-with_pattern s form to = in_argument false (emitted s s.start to (ArgumentStart (is_quoted (top s)) s.text form))
+with_pattern s form to = in_argument false (with_start s form to)
 
 -- `${` that no value begins with; the rest up to its `}` is read like an argument
 unfoldable pub spoiled : Lexer → ℕ → Lexer

@@ -106,11 +106,14 @@ worded s to = emitted (headed (whole_start (reserved s.text) s.text) to s) to to
 abbrev pub is_number : List ℕ → Bool
 is_number text = list_all is_ascii_digit text
 
+abbrev pub is_dash : List ℕ → Bool
+is_dash text = bytes_eq text (codes "-")
+
 -- behind a `>&` at `at`: a descriptor, or `-`, or a word, which is no redirection
 unfoldable pub duplicated : ℕ → Lexer → ℕ → Lexer
 duplicated at s to =
     if is_number s.text then record (numbered (descriptor 1 s.text) to s) { spot = Operand }
-    else if bytes_eq s.text (codes "-") then record (spent (refused s Redirection at)) { spot = Operand }
+    else if is_dash s.text then record (spent (refused s Redirection at)) { spot = Operand }
     else worded s to
 
 -- unquoted bytes that end at `at`, before the byte `next`: digits right before `<` or `>` are a descriptor

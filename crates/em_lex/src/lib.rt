@@ -5,8 +5,11 @@ mod bytes;
 mod frame;
 mod lexeme;
 mod no;
+mod operator;
 mod state;
 mod steps;
+mod value;
+mod word;
 
 pub use lexeme::{Lexed, Lexeme, Start, Token, TokenKind, What};
 pub use no::LexNo;
