@@ -45,6 +45,9 @@ starts_name (b ∷ bs) = begins_name b
 abbrev pub name_length : List ℕ → ℕ
 name_length text = if starts_name text then prefix_len is_in_name text else 0
 
+abbrev pub assignment_length : List ℕ → ℕ
+assignment_length text = min (name_length text + 1) (length text)
+
 abbrev pub is_name : List ℕ → Bool
 is_name text = starts_name text && (name_length text == length text)
 
@@ -80,7 +83,7 @@ with_bytes (b ∷ bs) from to s = emitted s from to (Bytes false (b ∷ bs))
 -- the bytes of an assignment: its name with `=`, and what stands behind that
 unfoldable pub with_assignment : List ℕ → ℕ → Lexer → Lexer
 with_assignment text to s =
-    let size = name_length text + 1 in
+    let size = assignment_length text in
     let middle = min (s.start + size) to in
     with_bytes (drop size text) middle to (emitted s s.start middle (Bytes false (take size text)))
 

@@ -62,6 +62,21 @@ fn name_length(text: &[u8]) -> usize
     if starts_name(text) { name_bytes(text) } else { 0 }
 }
 
+/// How many bytes a name and `=` have with which the text begins.
+fn assignment_length(text: &[u8]) -> usize
+    ensures length { result ≡ words.assignment_length text.now }
+    ensures within { result ≤ length text.now }
+{
+    (name_length(text) + 1).min(text.len())
+}
+
+/// The place `size` bytes behind `start`, or `to` where that comes before.
+pub(crate) fn place_behind(start: usize, size: usize, to: usize) -> usize
+    ensures { result ≡ min (start + size) to }
+{
+    start.saturating_add(size).min(to)
+}
+
 /// Whether the text is a name.
 fn is_name(text: &[u8]) -> bool
     ensures { result ≡ words.is_name text.now }
@@ -130,7 +145,7 @@ fn is_number(text: &[u8]) -> bool
 fn is_dash(text: &[u8]) -> bool
     ensures { result ≡ words.is_dash text.now }
 {
-    text == b"-"
+    text == b"-".as_slice()
 }
 
 impl Lexer {
@@ -161,8 +176,8 @@ impl Lexer {
     fn put_assignment(&mut self, alloc: Global, text: &[u8], to: usize) -> Result<(), NoMemory>
         ensures { OnOk result (self.new ≡ words.with_assignment text.now to self.old) }
     {
-        let size = (name_length(text) + 1).min(text.len());
-        let middle = self.start.saturating_add(size).min(to);
+        let size = assignment_length(text);
+        let middle = place_behind(self.start, size, to);
         let name = Text::from_slice(alloc, &text[..size])?;
         let quoted = false;
         self.emit(self.start, middle, What::Bytes { quoted, text: name })?;
