@@ -52,9 +52,12 @@ abbrev pub left : Lexer → ℕ → Lexer
 left s at = popped (emitted s at at WordEnd)
 
 -- where nothing is begun
+abbrev pub listed : Lexer → Byte → Lexer
+listed s b = if acts b.code then special (entered s b.at) b else between s b
+
 unfoldable pub ready : Lexer → Byte → Lexer
 ready s b =
-    if is_list (top s) then (if acts b.code then special (entered s b.at) b else between s b)
+    if is_list (top s) then listed s b
     else if is_ordinary (top s) b.code then gathered (begun Gathering b.at s) b.code
     else if is_word (top s) && ends_word b.code then between (left s b.at) b
     else special s b
@@ -62,6 +65,9 @@ ready s b =
 -- bytes that stand for themselves
 abbrev pub pieced : Lexer → List ℕ → ℕ → Lexer
 pieced s text to = spent (emitted s s.start to (Bytes (is_quoted (top s)) text))
+
+abbrev pub settled_length : Lexer → ℕ → Lexer
+settled_length s at = if length s.text == 0 then positional s else spoiled s at
 
 -- what is begun ends at `at`. At the end of the text a word does as before a newline.
 abbrev pub settled_in : Mode → Lexer → ℕ → Lexer
@@ -73,7 +79,7 @@ settled_in Gathering s at = pieced s s.text at
 settled_in Dollar s at = pieced s (36 ∷ []) at
 settled_in Naming s at = valued s [] at
 settled_in Opened s at = turned Ready s
-settled_in Length s at = if length s.text == 0 then positional s else spoiled s at
+settled_in Length s at = settled_length s at
 settled_in (Trim a) s at = with_pattern s (a ∷ []) at
 settled_in _ s at = spoiled s at
 
@@ -123,6 +129,10 @@ naming s b = if is_in_name b.code then gathered s b.code else ready (valued s []
 unfoldable pub behind_opened : Lexer → Byte → Lexer
 behind_opened s b = ready (turned Ready (if b.code == 40 then refused s Arithmetic s.start else s)) b
 
+-- a byte that can't stand in the `${` before it
+abbrev pub spoiled_at : Lexer → Byte → Lexer
+spoiled_at s b = ready (spoiled s b.at) b
+
 -- behind `${`
 unfoldable pub brace : Lexer → Byte → Lexer
 brace s b =
@@ -130,22 +140,24 @@ brace s b =
     else if b.code == 35 then turned Length s
     else if b.code == 63 then turned Status s
     else if is_special b.code then positional s
-    else ready (spoiled s b.at) b
+    else spoiled_at s b
 
 -- behind `${?`
 unfoldable pub status : Lexer → Byte → Lexer
-status s b = if b.code == 125 then valued s (63 ∷ []) b.end else ready (spoiled s b.at) b
+status s b = if b.code == 125 then valued s (63 ∷ []) b.end else spoiled_at s b
 
 -- behind `${#`, and a name where some of it is read
-abbrev pub lengths : Bool → Lexer → Byte → Lexer
-lengths true s b = if begins_name b.code then gathered s b.code else ready (positional s) b
-lengths false s b =
+abbrev pub first_of_length : Lexer → Byte → Lexer
+first_of_length s b = if begins_name b.code then gathered s b.code else ready (positional s) b
+
+abbrev pub more_of_length : Lexer → Byte → Lexer
+more_of_length s b =
     if is_in_name b.code then gathered s b.code
     else if b.code == 125 then valued s (35 ∷ []) b.end
-    else ready (spoiled s b.at) b
+    else spoiled_at s b
 
 unfoldable pub in_length : Lexer → Byte → Lexer
-in_length s b = lengths (length s.text == 0) s b
+in_length s b = if length s.text == 0 then first_of_length s b else more_of_length s b
 
 -- in `${name`
 unfoldable pub parameter : Lexer → Byte → Lexer
@@ -155,11 +167,11 @@ parameter s b =
     else if takes_word b.code then with_word s (b.code ∷ []) b.end
     else if b.code == 58 then turned Colon s
     else if (b.code == 37) || (b.code == 35) then turned (Trim b.code) s
-    else ready (spoiled s b.at) b
+    else spoiled_at s b
 
 -- behind `${name:`
 unfoldable pub colon : Lexer → Byte → Lexer
-colon s b = if takes_word b.code then with_word s (58 ∷ b.code ∷ []) b.end else ready (spoiled s b.at) b
+colon s b = if takes_word b.code then with_word s (58 ∷ b.code ∷ []) b.end else spoiled_at s b
 
 -- behind `${name%` or `${name#`
 unfoldable pub trim : ℕ → Lexer → Byte → Lexer

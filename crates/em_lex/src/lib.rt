@@ -2,8 +2,10 @@
 #![tactic(auto)]
 
 mod bytes;
+mod dollar;
 mod frame;
 mod lexeme;
+mod mode;
 mod no;
 mod operator;
 mod state;
