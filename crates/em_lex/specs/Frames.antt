@@ -35,8 +35,13 @@ is_cases (Some Cases) = true
 is_cases _ = false
 
 abbrev pub is_backquotes : Option Frame → Bool
-is_backquotes (Some (Backquotes at)) = true
+is_backquotes (Some (Backquotes at quoting)) = true
 is_backquotes _ = false
+
+-- within backquotes that stand in double quotes
+abbrev pub is_backquotes_quoted : Option Frame → Bool
+is_backquotes_quoted (Some (Backquotes at quoting)) = quoting
+is_backquotes_quoted _ = false
 
 -- what stands there is quoted
 abbrev pub is_quoted : Option Frame → Bool
@@ -59,7 +64,7 @@ is_escaped_in _ b = acts_quoted b || (b == 92)
 abbrev pub opener : Frame → Option ℕ
 opener (Single at) = Some at
 opener (Double at) = Some at
-opener (Backquotes at) = Some at
+opener (Backquotes at quoting) = Some at
 opener (Argument at quoted) = Some at
 opener (Substitution at spot) = Some at
 opener _ = None

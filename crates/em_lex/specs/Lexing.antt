@@ -84,12 +84,12 @@ leftmost (Some at) None = Some (Unclosed at)
 leftmost (Some at) (Some fault) = if nat_le at (place_of fault) then Some (Unclosed at) else Some fault
 
 -- the lexemes that end at a place or before
-abbrev pub until : ℕ → List Lexeme → List Lexeme
-until at items = take (prefix_len (λ l. nat_le l.span.end at) items) items
+abbrev pub count_until : ℕ → List Lexeme → ℕ
+count_until at items = prefix_len (λ l. nat_le l.span.end at) items
 
 abbrev pub up_to : Option LexNo → List Lexeme → Lexed
 up_to None items = record { items = items; stop = None }
-up_to (Some fault) items = record { items = until (place_of fault) items; stop = Some fault }
+up_to (Some fault) items = record { items = take (count_until (place_of fault) items) items; stop = Some fault }
 
 abbrev pub outcome : Lexer → Lexed
 outcome s = up_to (leftmost (outermost s.frames None) s.fault) s.items

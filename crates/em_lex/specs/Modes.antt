@@ -13,7 +13,7 @@ use Rattle.em_lex.specs.declared.state.Spot.TheVariants.{Operand}
 use Rattle.em_lex.specs.declared.state.Mode.{Mode}
 use Rattle.em_lex.specs.declared.state.Mode.TheVariants.{Ready, Comment, Operating, Head, Gathering, Dollar, Naming, Opened, Brace, Status, Length, Parameter, Colon, Trim}
 use Rattle.em_lex.specs.Bytes.{acts, begins_name, is_in_name, begins_operator, ends_word, is_special, takes_word}
-use Rattle.em_lex.specs.Frames.{is_list, is_word, is_quoted, is_single, is_double, is_ordinary}
+use Rattle.em_lex.specs.Frames.{is_list, is_quoting, is_word, is_quoted, is_single, is_double, is_ordinary}
 use Rattle.em_lex.specs.Steps.{emitted, refused, top, pushed, popped, begun, turned, gathered, spent}
 use Rattle.em_lex.specs.Operators.{pair, refused_pair, single, spot_behind, operated, round_opened, round_closed}
 use Rattle.em_lex.specs.Words.{told, fronted, entered}
@@ -44,7 +44,7 @@ special s b =
     if b.code == 39 then (if is_single (top s) then popped s else quote_opened (Single b.at) b s)
     else if b.code == 34 then (if is_double (top s) then popped s else quote_opened (Double b.at) b s)
     else if b.code == 36 then begun Dollar b.at s
-    else if b.code == 96 then quote_opened (Backquotes b.at) b s
+    else if b.code == 96 then quote_opened (Backquotes b.at (is_quoting (top s))) b s
     else popped (emitted s b.at b.end ArgumentEnd)
 
 -- the word ends at `at`

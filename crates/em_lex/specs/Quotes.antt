@@ -6,7 +6,7 @@ use Rattle.em_lex.specs.declared.state.Lexer.{Lexer}
 use Rattle.em_lex.specs.declared.state.Mode.{Mode}
 use Rattle.em_lex.specs.declared.state.Mode.TheVariants.{Comment, Head, Gathering}
 use Rattle.em_lex.specs.Bytes.{acts_quoted}
-use Rattle.em_lex.specs.Frames.{is_list, is_quoting, is_single, is_backquotes, is_escaped_in}
+use Rattle.em_lex.specs.Frames.{is_list, is_quoting, is_single, is_backquotes, is_backquotes_quoted, is_escaped_in}
 use Rattle.em_lex.specs.Steps.{emitted, top, begun, gathered}
 use Rattle.em_lex.specs.Words.{fronted, entered}
 use Rattle.em_lex.specs.Modes.{settled, by_mode}
@@ -62,7 +62,7 @@ is_dropped quoting b = (b == 92) || (b == 36) || (b == 96) || (quoting && (b == 
 unfoldable pub raw : Lexer → Byte → Lexer
 raw s b =
     if s.backslash then
-      (if is_dropped (is_quoting (slice_get s.frames 1)) b.code then kept (slashed false s) b.code b.at
+      (if is_dropped (is_backquotes_quoted (top s)) b.code then kept (slashed false s) b.code b.at
       else kept (kept (slashed false s) 92 (b.at - 1)) b.code b.at)
     else if b.code == 92 then slashed true s
     else kept s b.code b.at

@@ -59,7 +59,17 @@ pub(crate) fn is_cases(frame: Option<Frame>) -> bool
 pub(crate) fn is_backquotes(frame: Option<Frame>) -> bool
     ensures { result ≡ frames.is_backquotes frame }
 {
-    matches!(frame, Some(Frame::Backquotes(_)))
+    matches!(frame, Some(Frame::Backquotes(_, _)))
+}
+
+/// Whether the place is in backquotes that stand within double quotes.
+pub(crate) fn is_backquotes_quoted(frame: Option<Frame>) -> bool
+    ensures { result ≡ frames.is_backquotes_quoted frame }
+{
+    match frame {
+        Some(Frame::Backquotes(_, quoting)) => quoting,
+        _ => false,
+    }
 }
 
 /// Whether what stands there is quoted.
@@ -100,7 +110,7 @@ pub(crate) fn opener(frame: Frame) -> Option<usize>
     match frame {
         Frame::Single(at) => Some(at),
         Frame::Double(at) => Some(at),
-        Frame::Backquotes(at) => Some(at),
+        Frame::Backquotes(at, _) => Some(at),
         Frame::Argument(at, _) => Some(at),
         Frame::Substitution(at, _) => Some(at),
         _ => None,

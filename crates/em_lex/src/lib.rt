@@ -8,6 +8,8 @@ mod lexeme;
 mod mode;
 mod no;
 mod operator;
+mod quote;
+mod read;
 mod state;
 mod steps;
 mod value;
@@ -15,3 +17,4 @@ mod word;
 
 pub use lexeme::{Lexed, Lexeme, Start, Token, TokenKind, What};
 pub use no::LexNo;
+pub use read::lexemes;

@@ -3,7 +3,7 @@ ghost use Rattle.std.specs.Prelude.{◌≡◌, [], ◌∷◌, OnOk};
 ghost use Rattle.em_lex.specs.Modes as modes;
 
 use crate::bytes::{acts, begins_operator, ends_word};
-use crate::frame::{is_double, is_list, is_ordinary, is_quoted, is_single, is_word};
+use crate::frame::{is_double, is_list, is_ordinary, is_quoted, is_quoting, is_single, is_word};
 use crate::lexeme::What;
 use crate::operator::{pair, refused_pair, single, spot_behind};
 use crate::state::{Byte, Frame, Lexer, Mode, Spot};
@@ -80,7 +80,8 @@ impl Lexer {
             return Ok(());
         }
         if b.code == b'`' {
-            return self.open_quote(alloc, Frame::Backquotes(b.at), b);
+            let quoting = is_quoting(self.top());
+            return self.open_quote(alloc, Frame::Backquotes(b.at, quoting), b);
         }
         self.emit(b.at, b.end, What::ArgumentEnd)?;
         self.pop();

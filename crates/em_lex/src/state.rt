@@ -78,8 +78,8 @@ pub(crate) enum Frame {
     Single(usize),
     /// A double quote, which stands there.
     Double(usize),
-    /// A backquote, which stands there.
-    Backquotes(usize),
+    /// A backquote, which stands there, and whether it stands within double quotes.
+    Backquotes(usize, bool),
     /// The argument of a value whose `$` stands there, and whether it is read as in double quotes.
     Argument(usize, bool),
     /// A `$(` that stands there, and the spot around its word.
