@@ -1,6 +1,6 @@
 -- The lexemes of a line.
 --     lexed line     those up to the leftmost fault, and that fault
-use Rattle.std.specs.Prelude.{ℕ, suc, zero, ◌+◌, ◌-◌, ◌==◌, ◌&&◌, not, min, nat_le, Bool, true, false, List, [], ◌∷◌, ◌++◌, length, map, take, drop, slice_get, slice_index, Option, Some, None, option_map, if◌then◌else◌}
+use Rattle.std.specs.Prelude.{ℕ, suc, zero, ◌+◌, ◌-◌, ◌==◌, ◌&&◌, not, min, nat_le, Bool, true, false, List, [], ◌∷◌, ◌++◌, length, map, take, drop, slice_get, unwrap_or, Option, Some, None, option_map, if◌then◌else◌}
 use Rattle.std.specs.List.{prefix_len}
 use Rattle.em_base.specs.declared.construct.Construct.TheVariants.{Depth}
 use Rattle.em_base.specs.declared.place.Span.{Span}
@@ -20,9 +20,7 @@ use Rattle.em_lex.specs.Quotes.{piece_begun, slashed, step}
 
 -- where the i-th byte of the text in backquotes stands, and behind its last byte the backquote that closes them
 abbrev pub place_in : List ℕ → ℕ → ℕ → ℕ
-place_in [] close i = close
-place_in (p ∷ ps) close zero = p
-place_in (p ∷ ps) close (suc i) = place_in ps close i
+place_in places close i = unwrap_or (slice_get places i) close
 
 abbrev pub moved : List ℕ → ℕ → Lexeme → Lexeme
 moved places close l = record { span = record { start = place_in places close l.span.start; end = place_in places close l.span.end }; what = l.what }

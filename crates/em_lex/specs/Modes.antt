@@ -105,11 +105,18 @@ heading s b =
     else if acts b.code then special (fronted s b.at) b
     else gathered s b.code
 
+-- no bytes are a piece only between quotes
+abbrev pub is_none_yet : Lexer → ℕ → Bool
+is_none_yet s b = (length s.text == 0) && ((b == 36) || (b == 96))
+
+abbrev pub pieced_before : Lexer → Byte → Lexer
+pieced_before s b = if is_none_yet s b.code then turned Ready s else pieced s s.text b.at
+
 -- bytes that stand for themselves, within a word
 unfoldable pub gathering : Lexer → Byte → Lexer
 gathering s b =
     if is_ordinary (top s) b.code then gathered s b.code
-    else ready (pieced s s.text b.at) b
+    else ready (pieced_before s b) b
 
 -- behind `$`: before any other byte it stands for itself
 unfoldable pub dollar : Lexer → Byte → Lexer

@@ -1,6 +1,6 @@
 -- The tokens of a line: what stands outside of all words, and whole words.
 --     tokens_of line     the tokens, where the line has no fault, or the leftmost fault
-use Rattle.std.specs.Prelude.{ℕ, suc, zero, List, [], ◌∷◌, ◌++◌, Option, Some, None, Result, Ok, Err}
+use Rattle.std.specs.Prelude.{ℕ, ◌+◌, ◌-◌, ◌==◌, if◌then◌else◌, List, [], ◌∷◌, ◌++◌, Option, Some, None, Result, Ok, Err}
 use Rattle.em_lex.specs.declared.lexeme.Lexeme.{Lexeme}
 use Rattle.em_lex.specs.declared.lexeme.Token.{Token}
 use Rattle.em_lex.specs.declared.lexeme.TokenKind.{TokenKind}
@@ -16,23 +16,20 @@ token from to kind = record { span = record { start = from; end = to }; kind = k
 
 -- the words that are open behind a lexeme, one in another
 abbrev pub open_behind : What → ℕ → ℕ
-open_behind (WordStart start) n = suc n
-open_behind WordEnd zero = zero
-open_behind WordEnd (suc n) = n
+open_behind (WordStart start) n = n + 1
+open_behind WordEnd n = n - 1
 open_behind _ n = n
 
 -- where the outermost word began, behind a lexeme
 abbrev pub began : What → ℕ → ℕ → ℕ → ℕ
-began (WordStart start) zero at from = at
+began (WordStart start) n at from = if n == 0 then at else from
 began _ n at from = from
 
 -- what a lexeme is as a token, where so many words are open before it and the outermost began at `from`
 abbrev pub token_at : What → ℕ → ℕ → Lexeme → List Token
 token_at (WordStart start) n from l = []
-token_at WordEnd (suc zero) from l = token from l.span.end Word ∷ []
-token_at WordEnd n from l = []
-token_at what zero from l = record { span = l.span; kind = kind_of what } ∷ []
-token_at what n from l = []
+token_at WordEnd n from l = if n == 1 then token from l.span.end Word ∷ [] else []
+token_at what n from l = if n == 0 then token l.span.start l.span.end (kind_of what) ∷ [] else []
 
 abbrev pub tokens_from : ℕ → ℕ → List Lexeme → List Token
 tokens_from n from [] = []

@@ -136,6 +136,24 @@ impl Lexer {
         self.emit(self.start, to, What::Bytes { quoted, text })
     }
 
+    /// Whether no bytes were gathered, and the byte doesn't close quotes.
+    fn is_none_yet(&self, byte: u8) -> bool
+        ensures { result ≡ modes.is_none_yet self.now byte }
+    {
+        self.text.bytes().is_empty() && (byte == b'$' || byte == b'`')
+    }
+
+    /// Puts the bytes that were gathered before a byte, where they are a piece.
+    fn put_piece_before(&mut self, alloc: Global, b: Byte) -> Result<(), NoMemory>
+        ensures { OnOk result (self.new ≡ modes.pieced_before self.old b) }
+    {
+        if self.is_none_yet(b.code) {
+            self.turn(Mode::Ready);
+            return Ok(());
+        }
+        self.put_piece(alloc, b.at)
+    }
+
     /// Puts a `$` that stands for itself.
     fn put_dollar(&mut self, alloc: Global, to: usize) -> Result<(), NoMemory>
         ensures { OnOk result (self.new ≡ modes.pieced self.old (36 ∷ []) to) }
@@ -220,7 +238,7 @@ impl Lexer {
         if is_ordinary(self.top(), b.code) {
             return self.gather(b.code);
         }
-        self.put_piece(alloc, b.at)?;
+        self.put_piece_before(alloc, b)?;
         self.ready(alloc, b)
     }
 

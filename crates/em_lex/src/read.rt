@@ -1,4 +1,5 @@
 //! The lexemes of a line.
+#![tactic(none)]
 ghost use Rattle.std.specs.Prelude.{◌≡◌, ◌++◌, None, map, option_map, IfOk, OnOk};
 ghost use Rattle.em_lex.specs.Lexing as lexing;
 ghost use Rattle.em_lex.specs.Lexing.{lexed_in};
