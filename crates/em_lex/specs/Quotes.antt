@@ -62,8 +62,8 @@ is_dropped quoting b = (b == 92) || (b == 36) || (b == 96) || (quoting && (b == 
 unfoldable pub raw : Lexer → Byte → Lexer
 raw s b =
     if s.backslash then
-      (if is_dropped (is_backquotes_quoted (top s)) b.code then kept (slashed false s) b.code b.at
-      else kept (kept (slashed false s) 92 (b.at - 1)) b.code b.at)
+    (if is_dropped (is_backquotes_quoted (top s)) b.code then kept (slashed false s) b.code b.at
+    else kept (kept (slashed false s) 92 (b.at - 1)) b.code b.at)
     else if b.code == 92 then slashed true s
     else kept s b.code b.at
 

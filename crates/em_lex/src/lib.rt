@@ -8,6 +8,7 @@ mod lexeme;
 mod mode;
 mod no;
 mod operator;
+mod outer;
 mod quote;
 mod read;
 mod state;
@@ -17,4 +18,8 @@ mod word;
 
 pub use lexeme::{Lexed, Lexeme, Start, Token, TokenKind, What};
 pub use no::LexNo;
+pub use outer::tokens;
 pub use read::lexemes;
+
+#[cfg(test)]
+mod tests;

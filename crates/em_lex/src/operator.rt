@@ -98,7 +98,11 @@ fn item_or_command(item: bool) -> Spot
 fn pattern_or_command(pattern: bool) -> Spot
     ensures { result ≡ operators.pattern_or_command pattern }
 {
-    if pattern { Spot::Pattern } else { Spot::Command }
+    if pattern {
+        Spot::Pattern
+    } else {
+        Spot::Command
+    }
 }
 
 /// Whether another reserved word or a command may stand behind the word.
@@ -154,14 +158,22 @@ fn spot_in_command(start: Start) -> Spot
 fn spot_in_inside(start: Start) -> Spot
     ensures { result ≡ operators.spot_in_inside start }
 {
-    if matches!(start, Start::In) { Spot::Item } else { Spot::Operand }
+    if matches!(start, Start::In) {
+        Spot::Item
+    } else {
+        Spot::Operand
+    }
 }
 
 /// The spot behind a word where an item may begin.
 fn spot_in_item(start: Start) -> Spot
     ensures { result ≡ operators.spot_in_item start }
 {
-    if is_esac(start) { Spot::Command } else { Spot::Pattern }
+    if is_esac(start) {
+        Spot::Command
+    } else {
+        Spot::Pattern
+    }
 }
 
 /// The spot behind a word.

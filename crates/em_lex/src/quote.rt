@@ -3,7 +3,9 @@ ghost use Rattle.std.specs.Prelude.{◌≡◌, OnOk};
 ghost use Rattle.em_lex.specs.Quotes as quotes;
 ghost use Rattle.em_lex.specs.Modes.{by_mode};
 
-use crate::frame::{is_backquotes, is_backquotes_quoted, is_escaped_in, is_list, is_quoting, is_single};
+use crate::frame::{
+    is_backquotes, is_backquotes_quoted, is_escaped_in, is_list, is_quoting, is_single,
+};
 use crate::lexeme::What;
 use crate::state::{Byte, Lexer, Mode};
 use em_base::{NoMemory, Text};

@@ -1,5 +1,5 @@
 //! The lexemes of a line.
-#![tactic(none)]
+
 ghost use Rattle.std.specs.Prelude.{◌≡◌, ◌++◌, None, map, option_map, IfOk, OnOk};
 ghost use Rattle.em_lex.specs.Lexing as lexing;
 ghost use Rattle.em_lex.specs.Lexing.{lexed_in};
@@ -47,7 +47,12 @@ fn moved_fault(places: &[usize], close: usize, fault: LexNo) -> LexNo
 }
 
 /// Appends the lexemes of the text in backquotes.
-fn add_moved(items: &mut Seq<Lexeme>, inner: Vec<Lexeme>, places: &[usize], close: usize) -> Result<(), NoMemory>
+fn add_moved(
+    items: &mut Seq<Lexeme>,
+    inner: Vec<Lexeme>,
+    places: &[usize],
+    close: usize,
+) -> Result<(), NoMemory>
     ensures { OnOk result (items.new ≡ items.old ++ map (lexing.moved places.now close) inner.items) }
 {
     for lexeme in inner {
@@ -120,7 +125,17 @@ fn up_to(stop: Option<LexNo>, items: Seq<Lexeme>) -> Lexed
 fn outcome(lexer: Lexer) -> Lexed
     ensures { result ≡ lexing.outcome lexer }
 {
-    let Lexer { items, fault, frames, spot: _, mode: _, backslash: _, start: _, text: _, places: _ } = lexer;
+    let Lexer {
+        items,
+        fault,
+        frames,
+        spot: _,
+        mode: _,
+        backslash: _,
+        start: _,
+        text: _,
+        places: _,
+    } = lexer;
     up_to(leftmost(outermost_of(frames), fault), items)
 }
 
@@ -189,6 +204,7 @@ impl Lexer {
 }
 
 /// The lexemes of a text with so many levels of backquotes.
+#[tactic(none)]
 fn read(alloc: Global, text: &[u8], left: u32) -> Result<Lexed, NoMemory>
     ensures { IfOk result (λ l. l ≡ lexed_in left text.now) }
 {

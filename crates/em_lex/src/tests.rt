@@ -80,7 +80,10 @@ fn shown(alloc: Global, line: &[u8]) -> Result<Text, NoMemory> {
 fn lines_have_lexemes(rt: HostRuntime) -> Result<(), Fail> {
     for (line, wanted) in [
         (b"a>b".as_slice(), b"n[-a-]>n[-b-]".as_slice()),
-        (b"a;b;;c&d&&e|f||g", b"n[-a-];n[-b-];;n[-c-]&n[-d-]&&n[-e-]|n[-f-]||n[-g-]"),
+        (
+            b"a;b;;c&d&&e|f||g",
+            b"n[-a-];n[-b-];;n[-c-]&n[-d-]&&n[-e-]|n[-f-]||n[-g-]",
+        ),
         (b"(a)>>b <c\n", b"(n[-a-])>>n[-b-]<n[-c-]/"),
         // descriptors stand right before the operator
         (b"2>&1 >&2", b"#2>&#1>&#2"),
@@ -88,19 +91,34 @@ fn lines_have_lexemes(rt: HostRuntime) -> Result<(), Fail> {
         (b"a>&1>f >& g", b"n[-a-]>&#1>n[-f-]>&n[-g-]"),
         // names, assignments, reserved words
         (b"x=1 y=$z x+=1 =", b"a[-x=--1-]a[-y=-$z.]p[-x+=1-]p[-=-]"),
-        (b"if i\\\nf 'if' \\if ifs {", b"r[-if-]r[-if-]p[=if=]p[=i=-f-]n[-ifs-]r[-{-]"),
+        (
+            b"if i\\\nf 'if' \\if ifs {",
+            b"r[-if-]r[-if-]p[=if=]p[=i=-f-]n[-ifs-]r[-{-]",
+        ),
         (b"a&\\\n&b\\\n", b"n[-a-]&&n[-b-]"),
         // quotes
         (b"a 'b \\c'\"d $x\"", b"n[-a-]p[=b \\c==d ==$x.]"),
         (b"''\"\"", b"p[====]"),
-        (b"\"a\\\"b\\c\\\n\" a\\ b\\", b"p[=a\"b\\c=]p[-a-= =-b-=\\=]"),
+        (
+            b"\"a\\\"b\\c\\\n\" a\\ b\\",
+            b"p[=a\"b\\c=]p[-a-= =-b-=\\=]",
+        ),
         // comments
         (b"# 'a\nb#c \\#d '#' #", b"/p[-b#c-]p[=#=-d-]p[=#=]"),
         (b"#a\\\nb", b"/n[-b-]"),
         // values
-        (b"$ a$ $x-${x}${#x}$?${?}", b"p[-$-]p[-a--$-]p[$x.---$x.$x.#$.?$.?]".as_slice()),
-        (b"${x:-a b}${y%%'*'}${z#\\}}", b"p[${x.:- -a b-}${y.%% =*=}${z.# =}=}]"),
-        (b"\"${x-'a'}${x%'a'}${x+\\}b}\"", b"p[=${x.- ='a'=}=${x.% =a=}=${x.+ =}b=}]"),
+        (
+            b"$ a$ $x-${x}${#x}$?${?}",
+            b"p[-$-]p[-a--$-]p[$x.---$x.$x.#$.?$.?]".as_slice(),
+        ),
+        (
+            b"${x:-a b}${y%%'*'}${z#\\}}",
+            b"p[${x.:- -a b-}${y.%% =*=}${z.# =}=}]",
+        ),
+        (
+            b"\"${x-'a'}${x%'a'}${x+\\}b}\"",
+            b"p[=${x.- ='a'=}=${x.% =a=}=${x.+ =}b=}]",
+        ),
         (b"${} ${a b}", b"p[!}]p[!- b-}]"),
         // substitutions
         (b"\"$(a \"b\")\"", b"p[=(:n[-a-]p[=b=]:)]"),
@@ -110,7 +128,10 @@ fn lines_have_lexemes(rt: HostRuntime) -> Result<(), Fail> {
             b"$(case x in a) b;; (c|d) (e);; esac)f",
             b"p[(:r[-case-]n[-x-]r[-in-]n[-a-])n[-b-];;(n[-c-]|n[-d-])(n[-e-]);;r[-esac-]:)-f-]",
         ),
-        (b"$(echo case x in y) z)", b"p[(:n[-echo-]r[-case-]n[-x-]r[-in-]n[-y-]:)]n[-z-])"),
+        (
+            b"$(echo case x in y) z)",
+            b"p[(:n[-echo-]r[-case-]n[-x-]r[-in-]n[-y-]:)]n[-z-])",
+        ),
         // up to a fault; a word that begins with it has begun
         (b"a 'b", b"n[-a-]p["),
         (b"a b$(c", b"n[-a-]p[-b-"),
@@ -134,9 +155,23 @@ fn lines_have_tokens(rt: HostRuntime) -> Result<(), Fail> {
     use TokenKind::*;
     for (line, wanted) in [
         (b"".as_slice(), [].as_slice()),
-        (b"a>b", &[token(0, 1, Word), token(1, 2, Operator), token(2, 3, Word)]),
-        (b"2>&1\n", &[token(0, 1, Number), token(1, 3, Operator), token(3, 4, Number), token(4, 5, Newline)]),
-        (b"a \"b $(c;d)\" e", &[token(0, 1, Word), token(2, 12, Word), token(13, 14, Word)]),
+        (
+            b"a>b",
+            &[token(0, 1, Word), token(1, 2, Operator), token(2, 3, Word)],
+        ),
+        (
+            b"2>&1\n",
+            &[
+                token(0, 1, Number),
+                token(1, 3, Operator),
+                token(3, 4, Number),
+                token(4, 5, Newline),
+            ],
+        ),
+        (
+            b"a \"b $(c;d)\" e",
+            &[token(0, 1, Word), token(2, 12, Word), token(13, 14, Word)],
+        ),
         (b"$(case x in a) b;; esac)", &[token(0, 24, Word)]),
     ] {
         assert!(rt; tokens(rt.alloc(), line)?.as_slice() == wanted);

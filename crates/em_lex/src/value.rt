@@ -11,7 +11,12 @@ use std::alloc::Global;
 impl Lexer {
     /// Puts the value of the name that was gathered, with this form.
     #[tactic(auto, unfolding(crate::specs::Values::valued))]
-    pub(crate) fn put_value(&mut self, alloc: Global, form: &[u8], to: usize) -> Result<(), NoMemory>
+    pub(crate) fn put_value(
+        &mut self,
+        alloc: Global,
+        form: &[u8],
+        to: usize,
+    ) -> Result<(), NoMemory>
         ensures { OnOk result (self.new ≡ values.valued self.old form.now to) }
     {
         let quoted = is_quoted(self.top());
@@ -40,7 +45,12 @@ impl Lexer {
 
     /// Opens an argument that is a word: within double quotes it is read as there.
     #[tactic(auto, unfolding(crate::specs::Values::with_word))]
-    pub(crate) fn open_word(&mut self, alloc: Global, form: &[u8], to: usize) -> Result<(), NoMemory>
+    pub(crate) fn open_word(
+        &mut self,
+        alloc: Global,
+        form: &[u8],
+        to: usize,
+    ) -> Result<(), NoMemory>
         ensures { OnOk result (self.new ≡ values.with_word self.old form.now to) }
     {
         let quoted = is_quoting(self.top());
@@ -50,7 +60,12 @@ impl Lexer {
 
     /// Opens an argument that is a pattern: it is read as outside quotes.
     #[tactic(auto, unfolding(crate::specs::Values::with_pattern))]
-    pub(crate) fn open_pattern(&mut self, alloc: Global, form: &[u8], to: usize) -> Result<(), NoMemory>
+    pub(crate) fn open_pattern(
+        &mut self,
+        alloc: Global,
+        form: &[u8],
+        to: usize,
+    ) -> Result<(), NoMemory>
         ensures { OnOk result (self.new ≡ values.with_pattern self.old form.now to) }
     {
         self.put_start(alloc, form, to)?;

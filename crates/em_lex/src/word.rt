@@ -59,7 +59,11 @@ fn name_length(text: &[u8]) -> usize
     ensures length { result ≡ words.name_length text.now }
     ensures within { result ≤ length text.now }
 {
-    if starts_name(text) { name_bytes(text) } else { 0 }
+    if starts_name(text) {
+        name_bytes(text)
+    } else {
+        0
+    }
 }
 
 /// How many bytes a name and `=` have with which the text begins.
@@ -96,14 +100,22 @@ fn is_assignment(text: &[u8]) -> bool
 fn front_start(text: &[u8]) -> Start
     ensures { result ≡ words.front_start text.now }
 {
-    if is_assignment(text) { Start::Assignment } else { Start::Plain }
+    if is_assignment(text) {
+        Start::Assignment
+    } else {
+        Start::Plain
+    }
 }
 
 /// What a word begins with that these bytes are, which aren't a reserved word.
 fn bare_start(text: &[u8]) -> Start
     ensures { result ≡ words.bare_start text.now }
 {
-    if is_name(text) { Start::Name } else { front_start(text) }
+    if is_name(text) {
+        Start::Name
+    } else {
+        front_start(text)
+    }
 }
 
 /// What a word begins with that these bytes are.
@@ -160,7 +172,13 @@ impl Lexer {
     }
 
     /// Puts unquoted bytes, where there are some.
-    fn put_bytes(&mut self, alloc: Global, text: &[u8], start: usize, end: usize) -> Result<(), NoMemory>
+    fn put_bytes(
+        &mut self,
+        alloc: Global,
+        text: &[u8],
+        start: usize,
+        end: usize,
+    ) -> Result<(), NoMemory>
         ensures { OnOk result (self.new ≡ words.with_bytes text.now start end self.old) }
     {
         if text.is_empty() {

@@ -22,46 +22,52 @@ fn kind_of(what: &What) -> TokenKind
 }
 
 /// The token that a lexeme ends or is, where so many words are open before it and the outermost began at `from`.
-fn token_at(lexeme: &Lexeme, open: usize, from: usize) -> Option<Token>
-    ensures { option_to_list result ≡ tokens.token_at lexeme.now.what open from lexeme.now }
+fn token_at(lexeme: &Lexeme, deep: usize, from: usize) -> Option<Token>
+    ensures { option_to_list result ≡ tokens.token_at lexeme.now.what deep from lexeme.now }
 {
     match lexeme.what {
         What::WordStart(_) => None,
         What::WordEnd => {
             let start = from;
             let end = lexeme.span.end;
-            if open != 1 {
+            if deep != 1 {
                 return None;
             }
-            Some(Token { span: Span { start, end }, kind: TokenKind::Word })
+            Some(Token {
+                span: Span { start, end },
+                kind: TokenKind::Word,
+            })
         }
         _ => {
-            if open != 0 {
+            if deep != 0 {
                 return None;
             }
-            Some(Token { span: lexeme.span, kind: kind_of(&lexeme.what) })
+            Some(Token {
+                span: lexeme.span,
+                kind: kind_of(&lexeme.what),
+            })
         }
     }
 }
 
 /// How many words are open behind a lexeme.
-fn open_behind(what: &What, open: usize) -> usize
-    requires { open < 2 ^ 63 }
-    ensures { result ≡ tokens.open_behind what.now open }
+fn open_behind(what: &What, deep: usize) -> usize
+    requires { deep < 2 ^ 63 }
+    ensures { result ≡ tokens.open_behind what.now deep }
 {
     match what {
-        What::WordStart(_) => open + 1,
-        What::WordEnd => open.saturating_sub(1),
-        _ => open,
+        What::WordStart(_) => deep + 1,
+        What::WordEnd => deep.saturating_sub(1),
+        _ => deep,
     }
 }
 
 /// Where the outermost word began, behind a lexeme.
-fn began(lexeme: &Lexeme, open: usize, from: usize) -> usize
-    ensures { result ≡ tokens.began lexeme.now.what open lexeme.now.span.start from }
+fn began(lexeme: &Lexeme, deep: usize, from: usize) -> usize
+    ensures { result ≡ tokens.began lexeme.now.what deep lexeme.now.span.start from }
 {
     match lexeme.what {
-        What::WordStart(_) => if open == 0 { lexeme.span.start } else { from },
+        What::WordStart(_) => if deep == 0 { lexeme.span.start } else { from },
         _ => from,
     }
 }
@@ -71,14 +77,14 @@ fn tokens_in(alloc: Global, items: &[Lexeme]) -> Result<Vec<Token>, NoMemory>
     ensures { IfOk result (λ v. v.items ≡ tokens_from 0 0 items.now) }
 {
     let mut tokens = Vec::new(alloc);
-    let mut open: usize = 0;
+    let mut deep: usize = 0;
     let mut from: usize = 0;
     for lexeme in items {
-        if let Some(token) = token_at(lexeme, open, from) {
+        if let Some(token) = token_at(lexeme, deep, from) {
             tokens.push(token)?;
         }
-        from = began(lexeme, open, from);
-        open = open_behind(&lexeme.what, open);
+        from = began(lexeme, deep, from);
+        deep = open_behind(&lexeme.what, deep);
     }
     Ok(tokens)
 }
