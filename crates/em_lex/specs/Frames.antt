@@ -47,6 +47,10 @@ is_backquotes_quoted _ = false
 abbrev pub is_quoted : Option Frame → Bool
 is_quoted f = is_single f || is_quoting f
 
+-- the byte means nothing to the shell, save that a word may not begin with `#`
+abbrev pub is_plain : ℕ → Bool
+is_plain b = not (ends_word b || acts b || (b == 92))
+
 -- the byte stands for itself in a word; within quotes; in an argument, which a `}` ends
 abbrev pub is_ordinary : Option Frame → ℕ → Bool
 is_ordinary (Some InWord) b = not (ends_word b || acts b)

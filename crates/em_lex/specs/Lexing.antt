@@ -95,10 +95,14 @@ outcome s = up_to (leftmost (outermost s.frames None) s.fault) s.items
 abbrev pub too_deep : Lexed
 too_deep = record { items = []; stop = Some (Refused Depth 0) }
 
+-- a text is read to its end
+abbrev pub read_through : (List ℕ → Lexed) → Lexer → List ℕ → Lexer
+read_through within s text = finished (run within s 0 text) (length text)
+
 -- a text with so many levels of backquotes in one another
 unfoldable pub lexed_in : ℕ → List ℕ → Lexed
 lexed_in zero text = too_deep
-lexed_in (suc left) text = outcome (finished (run (lexed_in left) at_first 0 text) (length text))
+lexed_in (suc left) text = outcome (read_through (lexed_in left) at_first text)
 
 -- 64 levels suffice: each doubles the backslashes that the next one's backquotes need
 unfoldable pub lexed : List ℕ → Lexed

@@ -11,3 +11,4 @@ pub mod Quotes
 pub mod Lexing
 pub mod Kinds
 pub mod Tokens
+pub mod Alone

@@ -2,7 +2,7 @@
 
 ghost use Rattle.std.specs.Prelude.{◌≡◌, ◌++◌, None, map, option_map, IfOk, OnOk};
 ghost use Rattle.em_lex.specs.Lexing as lexing;
-ghost use Rattle.em_lex.specs.Lexing.{lexed_in};
+ghost use Rattle.em_lex.specs.Lexing.{lexed_in, read_through};
 ghost use Rattle.em_lex.specs.Frames.{outermost};
 
 use crate::frame::{is_backquotes, is_quoted, is_word, opener};
@@ -203,8 +203,27 @@ impl Lexer {
     }
 }
 
-/// The lexemes of a text with so many levels of backquotes.
-#[tactic(none)]
+/// Reads the bytes of a text, in which backquotes stand in one another on so many levels at most.
+#[cycle(reading)]
+fn read_bytes(alloc: Global, lexer: &mut Lexer, text: &[u8], left: u32) -> Result<(), NoMemory>
+    ensures { OnOk result (lexer.new ≡ read_through (lexed_in left) lexer.old text.now) }
+{
+    for (at, code) in text.iter().enumerate() {
+        let code = *code;
+        let end = at + 1;
+        let b = Byte { code, at, end };
+        if lexer.closes_backquotes(code) {
+            let inner = read(alloc, lexer.text.bytes(), left)?;
+            lexer.embed(alloc, inner, b)?;
+        } else {
+            lexer.step(alloc, b)?;
+        }
+    }
+    lexer.finish(alloc, text.len())
+}
+
+/// The lexemes of a text, with so many levels of backquotes.
+#[cycle(reading)]
 fn read(alloc: Global, text: &[u8], left: u32) -> Result<Lexed, NoMemory>
     ensures { IfOk result (λ l. l ≡ lexed_in left text.now) }
 {
@@ -214,18 +233,7 @@ fn read(alloc: Global, text: &[u8], left: u32) -> Result<Lexed, NoMemory>
         return Ok(Lexed { items, stop });
     }
     let mut lexer = Lexer::new(alloc);
-    for (at, code) in text.iter().enumerate() {
-        let code = *code;
-        let end = at + 1;
-        let b = Byte { code, at, end };
-        if lexer.closes_backquotes(code) {
-            let inner = read(alloc, lexer.text.bytes(), left - 1)?;
-            lexer.embed(alloc, inner, b)?;
-        } else {
-            lexer.step(alloc, b)?;
-        }
-    }
-    lexer.finish(alloc, text.len())?;
+    read_bytes(alloc, &mut lexer, text, left - 1)?;
     Ok(outcome(lexer))
 }
 
