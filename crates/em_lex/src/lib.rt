@@ -4,6 +4,7 @@
 mod bytes;
 mod dollar;
 mod frame;
+pub mod laws;
 mod lexeme;
 mod mode;
 mod no;

@@ -1,5 +1,5 @@
 //! The tokens of a line.
-ghost use Rattle.std.specs.Prelude.{◌≡◌, ◌⊎◌, ◌++◌, Ok, Err, IfOk, IfErr, OnOk};
+ghost use Rattle.std.specs.Prelude.{◌≡◌, ◌<◌, ◌^◌, ◌⊎◌, Ok, Err, IfOk, IfErr, option_to_list};
 ghost use Rattle.em_lex.specs.Kinds as kinds;
 ghost use Rattle.em_lex.specs.Tokens as tokens;
 ghost use Rattle.em_lex.specs.Tokens.{tokens_from, tokens_of};
@@ -92,6 +92,7 @@ fn tokens_in(alloc: Global, items: &[Lexeme]) -> Result<Vec<Token>, NoMemory>
 /// The tokens of the line: whole words, and the operators, newlines and numbers of descriptors outside of them, in order.
 /// `Unclosed` and `Refused` come exactly where the line has a fault, and tell the leftmost one. Steps for each byte, and for
 /// those between backquotes once more for each level of them.
+#[tactic(auto, unfolding(crate::specs::Tokens::tokens_of))]
 pub fn tokens(alloc: Global, line: &[u8]) -> Result<Vec<Token>, LexNo>
     ensures ok { IfOk result (λ v. tokens_of line.now ≡ Ok v.items) }
     ensures err { IfErr result (λ e. (e ≡ LexNo.NoMemory) ⊎ (tokens_of line.now ≡ Err e)) }
