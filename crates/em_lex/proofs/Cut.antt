@@ -1,5 +1,5 @@
 -- The lexemes that end at a place or before.
-use Rattle.std.proofs.Common.{◌≡◌, ℕ, suc, ◌+◌, ◌≤◌, leb, Bool, true, false, List, [], ◌∷◌, take, refl, ap, subst, sym, arith}
+use Rattle.std.proofs.Common.{◌≡◌, ℕ, suc, ◌+◌, ◌≤◌, leb, true, false, List, [], ◌∷◌, take, refl, subst, sym, arith}
 use Rattle.std.specs.Prelude.{Option, None, Some, All, IfSome}
 use Rattle.std.specs.List.{AllByRecursion}
 use Rattle.std.proofs.lemmas.Bool.{leb-true}

@@ -1,5 +1,5 @@
 -- What is open at a place of the text.
-use Rattle.std.specs.Prelude.{ℕ, ◌==◌, ◌||◌, ◌&&◌, not, Bool, true, false, List, [], ◌∷◌, Option, Some, None, if◌then◌else◌}
+use Rattle.std.specs.Prelude.{ℕ, ◌==◌, ◌||◌, not, Bool, true, false, List, [], ◌∷◌, Option, Some, None, if◌then◌else◌}
 use Rattle.em_lex.specs.declared.state.Frame.{Frame}
 use Rattle.em_lex.specs.declared.state.Frame.TheVariants.{Round, Cases, InWord, Single, Double, Backquotes, Argument, Substitution}
 use Rattle.em_lex.specs.Bytes.{acts, acts_quoted, ends_word}

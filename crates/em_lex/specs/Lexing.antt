@@ -1,12 +1,11 @@
 -- The lexemes of a line.
 --     lexed line     those up to the leftmost fault, and that fault
-use Rattle.std.specs.Prelude.{ℕ, suc, zero, ◌+◌, ◌-◌, ◌==◌, ◌&&◌, not, min, nat_le, Bool, true, false, List, [], ◌∷◌, ◌++◌, length, map, take, drop, slice_get, unwrap_or, Option, Some, None, option_map, if◌then◌else◌}
+use Rattle.std.specs.Prelude.{ℕ, suc, zero, ◌+◌, ◌-◌, ◌==◌, ◌&&◌, not, min, nat_le, Bool, true, false, List, [], ◌∷◌, ◌++◌, length, map, take, slice_get, unwrap_or, Option, Some, None, option_map, if◌then◌else◌}
 use Rattle.std.specs.List.{prefix_len}
 use Rattle.em_base.specs.declared.construct.Construct.TheVariants.{Depth}
-use Rattle.em_base.specs.declared.place.Span.{Span}
 use Rattle.em_lex.specs.declared.lexeme.Lexeme.{Lexeme}
 use Rattle.em_lex.specs.declared.lexeme.Lexed.{Lexed}
-use Rattle.em_lex.specs.declared.lexeme.What.TheVariants.{Bytes, WordEnd, SubstitutionStart, SubstitutionEnd}
+use Rattle.em_lex.specs.declared.lexeme.What.TheVariants.{Bytes, SubstitutionStart, SubstitutionEnd}
 use Rattle.em_lex.specs.declared.no.LexNo.{LexNo}
 use Rattle.em_lex.specs.declared.no.LexNo.TheVariants.{Unclosed, Refused, NoMemory}
 use Rattle.em_lex.specs.declared.state.Byte.{Byte}

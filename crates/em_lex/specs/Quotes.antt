@@ -1,11 +1,10 @@
 -- Backslashes and backquotes.
-use Rattle.std.specs.Prelude.{ℕ, ◌-◌, ◌==◌, ◌&&◌, ◌||◌, not, Bool, true, false, List, [], ◌∷◌, ◌++◌, slice_get, if◌then◌else◌}
+use Rattle.std.specs.Prelude.{ℕ, ◌-◌, ◌==◌, ◌&&◌, ◌||◌, not, Bool, true, false, [], ◌∷◌, ◌++◌, if◌then◌else◌}
 use Rattle.em_lex.specs.declared.lexeme.What.TheVariants.{Bytes}
 use Rattle.em_lex.specs.declared.state.Byte.{Byte}
 use Rattle.em_lex.specs.declared.state.Lexer.{Lexer}
 use Rattle.em_lex.specs.declared.state.Mode.{Mode}
 use Rattle.em_lex.specs.declared.state.Mode.TheVariants.{Comment, Head, Gathering}
-use Rattle.em_lex.specs.Bytes.{acts_quoted}
 use Rattle.em_lex.specs.Frames.{is_list, is_quoting, is_single, is_backquotes, is_backquotes_quoted, is_escaped_in}
 use Rattle.em_lex.specs.Steps.{emitted, top, begun, gathered}
 use Rattle.em_lex.specs.Words.{fronted, entered}

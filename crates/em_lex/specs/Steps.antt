@@ -1,5 +1,5 @@
 -- The small changes of which reading consists.
-use Rattle.std.specs.Prelude.{ℕ, Bool, List, [], ◌∷◌, ◌++◌, drop, slice_get, Option, Some, None}
+use Rattle.std.specs.Prelude.{ℕ, [], ◌∷◌, ◌++◌, drop, slice_get, Option, Some, None}
 use Rattle.em_base.specs.declared.construct.Construct.{Construct}
 use Rattle.em_lex.specs.declared.lexeme.Lexeme.{Lexeme}
 use Rattle.em_lex.specs.declared.lexeme.What.{What}

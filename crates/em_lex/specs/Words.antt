@@ -9,7 +9,6 @@ use Rattle.em_lex.specs.declared.lexeme.Start.TheVariants.{Plain, Name, Assignme
 use Rattle.em_lex.specs.declared.lexeme.What.TheVariants.{Number, WordStart, WordEnd, Bytes}
 use Rattle.em_lex.specs.declared.state.Frame.TheVariants.{InWord}
 use Rattle.em_lex.specs.declared.state.Lexer.{Lexer}
-use Rattle.em_lex.specs.declared.state.Mode.TheVariants.{Ready}
 use Rattle.em_lex.specs.declared.state.Spot.{Spot}
 use Rattle.em_lex.specs.declared.state.Spot.TheVariants.{Operand, Duplicate}
 use Rattle.em_lex.specs.Bytes.{begins_name, is_in_name}

@@ -219,7 +219,8 @@ fn zero_before(items: &[Lexeme]) -> Option<usize>
 impl Lexer {
     /// Opens a `case`, or closes one, where the word does so.
     pub(crate) fn put_cases(&mut self, start: Start) -> Result<(), NoMemory>
-        ensures { OnOk result (self.new ≡ record self.old { frames = operators.cases_in self.old.spot start self.old.frames }) }
+        ensures { OnOk result (self.new
+            ≡ record self.old { frames = operators.cases_in self.old.spot start self.old.frames }) }
     {
         if opens_cases(self.spot, start) {
             return self.push(Frame::Cases);

@@ -149,7 +149,8 @@ impl Lexer {
 
     /// Notes the fault of the text in backquotes, where it has one.
     fn note_moved(&mut self, places: &[usize], close: usize, stop: Option<LexNo>)
-        ensures { self.new ≡ lexing.with_fault (option_map (lexing.moved_fault places.now close) stop) self.old }
+        ensures { self.new
+            ≡ lexing.with_fault (option_map (lexing.moved_fault places.now close) stop) self.old }
     {
         if let Some(fault) = stop {
             self.note(moved_fault(places, close, fault));

@@ -1,4 +1,4 @@
-use Rattle.std.proofs.Common.{◌≡◌, false, true, cond, List, [], ◌∷◌, slice_get, refl, sym, ap, ◌∙◌}
+use Rattle.std.proofs.Common.{◌≡◌, false, cond, List, [], ◌∷◌, slice_get, refl, sym, ap, ◌∙◌}
 use Rattle.em_lex.specs.declared.state.Frame.{Frame}
 use Rattle.em_lex.specs.Frames.{is_cases, without_cases}
 use Rattle.em_lex.proofs.state.Lexer.drop_cases.Goals as goal
