@@ -1,0 +1,3 @@
+mod Quoted
+mod Bare
+mod Cut
