@@ -1,5 +1,6 @@
 -- What is done for an operand, over a desk.
 --     named operand m        a desk's call, whose refusal is a fault of this operand
+--     at operand m           the same in what also writes
 --     located cwd name       the path that a name says
 --     read cwd name          the bytes of a file operand
 --     caught utility m       an operand's fault is written, and what comes behind it is done
@@ -18,7 +19,7 @@ use Rattle.em_view.specs.declared.done.ExecNo.{ExecNo}
 use Rattle.em_view.specs.declared.done.ExecNo.TheVariants as exec
 use Rattle.em_view.specs.Actions.{Action, ◌>>=◌, done, fail, lift}
 use Rattle.em_view.specs.Rows.{content, kind_at}
-use Rattle.em_view.specs.Steps.{Steps, and_then}
+use Rattle.em_view.specs.Steps.{Steps, and_then, below}
 use Rattle.em_view.specs.Steps as steps
 use Rattle.em_view.specs.Ends.{is_want}
 use Rattle.em_utility.specs.declared.reason.Reason.{Reason}
@@ -79,6 +80,10 @@ read cwd name = do
   read_path name p
 
 -- ---- what is written
+
+-- the same of what also writes
+unfoldable pub at : {A : Type 0} → List ℕ → Action DeskNo A → Steps Done OperandNo A
+at operand m = below (refused operand) m
 
 -- what is done for an operand, and writes; what a command does
 abbrev pub Tries : Type 0

@@ -19,9 +19,13 @@ is_letter b = (nat_le 65 b && nat_le b 90) || (nat_le 97 b && nat_le b 122)
 abbrev pub is_in : List ℕ → ℕ → Bool
 is_in bytes b = list_any (λ x. x == b) bytes
 
+-- letters, and what else the utility lists
+abbrev pub are_letters : List ℕ → List ℕ → Bool
+are_letters listed bytes = list_all (λ b. is_letter b || is_in listed b) bytes
+
 abbrev pub is_option : List ℕ → List ℕ → Bool
 is_option listed [] = false
-is_option listed (dash ∷ letters) = dash == 45 && nat_lt 0 (length letters) && list_all (λ b. is_letter b || is_in listed b) letters
+is_option listed (dash ∷ letters) = dash == 45 && nat_lt 0 (length letters) && are_letters listed letters
 
 -- a word with a letter that takes a value: the next word is this value
 abbrev pub takes_value : List ℕ → List ℕ → Bool

@@ -82,11 +82,7 @@ fn refused(alloc: Global, operand: &[u8], no: DeskNo) -> OperandNo
 }
 
 /// What a desk's call gave in what is done for an operand.
-pub fn named<T>(
-    alloc: Global,
-    operand: &[u8],
-    given: Result<T, DeskNo>,
-) -> Result<T, OperandNo>
+pub fn named<T>(alloc: Global, operand: &[u8], given: Result<T, DeskNo>) -> Result<T, OperandNo>
     ensures { free_in is_free result ≡ false → result ≡ renamed (refused operand.now) given }
 {
     match given {

@@ -2,7 +2,7 @@
 ghost use Rattle.std.specs.Prelude.{◌≡◌, ◌+◌, ◌<◌, ◌^◌, IfOk, drop, false};
 ghost use Rattle.em_view.specs.Ends.{is_want};
 ghost use Rattle.em_view.specs.Performs.{is_free};
-ghost use Rattle.em_utility.specs.Options.{is_letter, is_in, is_option, takes_value, no_options, role_of, with_word, goes_on, options_of, unlisted, read_options};
+ghost use Rattle.em_utility.specs.Options.{is_letter, is_in, are_letters, is_option, takes_value, no_options, role_of, with_word, goes_on, options_of, unlisted, read_options};
 
 use em_base::{Construct, NoMemory, Text};
 use em_view::ExecNo;
@@ -61,15 +61,19 @@ fn is_letter(byte: u8) -> bool
     matches!(byte, b'A'..=b'Z' | b'a'..=b'z')
 }
 
+fn are_letters(listed: &[u8], bytes: &[u8]) -> bool
+    ensures { result ≡ are_letters listed.now bytes.now }
+{
+    bytes.iter().all(|b| is_letter(*b) || is_in(listed, *b))
+}
+
 /// Whether the word is a dash and letters.
 fn is_option(listed: &[u8], word: &[u8]) -> bool
     ensures { result ≡ is_option listed.now word.now }
 {
     match word.split_first() {
         Some((dash, letters)) => {
-            *dash == b'-'
-                && !letters.is_empty()
-                && letters.iter().all(|b| is_letter(*b) || is_in(listed, *b))
+            *dash == b'-' && !letters.is_empty() && are_letters(listed, letters)
         }
         None => false,
     }
@@ -169,7 +173,7 @@ fn options_of(
 fn unlisted(listed: &[u8], letters: &[u8]) -> Option<u8>
     ensures { result ≡ unlisted listed.now letters.now }
 {
-    letters.iter().find(|b| !is_in(listed, **b)).copied()
+    letters.iter().copied().find(|b| !is_in(listed, *b))
 }
 
 fn letter(alloc: Global, utility: &[u8], letter: u8) -> Result<Construct, NoMemory>
