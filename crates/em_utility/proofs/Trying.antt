@@ -23,7 +23,7 @@ use Rattle.em_utility.specs.Writing.{nothing}
 use Rattle.em_utility.specs.Operands.{is_free, refused, named, at, gives, Tries, Runs, settled, left_by, command}
 use Rattle.em_utility.specs.Operands as operands
 
-free_no : (operand : List ℕ) (e : DeskNo) → is_free (refused operand e) ≡ is_memory e
+pub free_no : (operand : List ℕ) (e : DeskNo) → is_free (refused operand e) ≡ is_memory e
 free_no operand (no.File f) = refl
 free_no operand no.Spent = refl
 free_no operand no.NoMemory = refl
