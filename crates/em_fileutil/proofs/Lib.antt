@@ -1,1 +1,2 @@
 mod Spotting
+mod Levels

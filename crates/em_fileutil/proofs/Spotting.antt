@@ -1,6 +1,6 @@
 -- What the steps of the file utilities come to.
 use Rattle.std.proofs.Common.{◌≡◌, ◌≢◌, ◌<◌, ◌≤◌, ◌+◌, ◌-◌, ℕ, zero, suc, Bool, true, false, List, [], ◌∷◌, drop, length, get_or, All, Option, Some, None, Result, Ok, Err, refl, sym, ap, subst, ◌∙◌, arith}
-use Rattle.std.specs.Prelude.{IsErrAnd, slice_get}
+use Rattle.std.specs.Prelude.{IsErrAnd, if◌then◌else◌}
 use Rattle.em_view.specs.declared.no.DeskNo.{DeskNo}
 use Rattle.em_view.specs.declared.no.DeskNo.TheVariants as no
 use Rattle.em_view.specs.declared.done.Done.{Done}
@@ -49,6 +49,17 @@ module _ {V A : Type 0} {tells : V → Told} {old new : DeskState V} {r : Result
 -- a value or an error that was found without the desk
 pub given_s : {V A : Type 0} {tells : V → Told} {d : DeskState V} {s : Done} {r : Result A OperandNo} (x : Result A OperandNo) → (performs.is_free is_free r ≡ false → r ≡ x) → Does is_free tells d d s s r (gives x)
 given_s {A} {s} x is = owned_s (with_state x) (λ h. ap (λ (y : Result A OperandNo). with_state y s) (is h))
+
+-- ---- a choice
+
+module _ {V : Type 0} {tells : V → Told} {old new : DeskState V} {s t : Done} {r : Result (Unit {0}) OperandNo} where
+  pub yes_s : (b : Bool) {x : Tries} (y : Tries) → b ≡ true → Does is_free tells old new s t r x → Does is_free tells old new s t r (if b then x else y)
+  yes_s true y e p = p
+  yes_s false y e p = absurd (let never : false ≡ true = e in cc)
+
+  pub no_s : (b : Bool) (x : Tries) {y : Tries} → b ≡ false → Does is_free tells old new s t r y → Does is_free tells old new s t r (if b then x else y)
+  no_s true x e p = absurd (let never : true ≡ false = e in cc)
+  no_s false x e p = p
 
 -- ---- a run within what is done for an operand
 

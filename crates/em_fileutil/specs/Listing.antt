@@ -1,6 +1,6 @@
 -- ls [-1] [-a] [-d], of one operand.
 use Rattle.std.specs.Prelude.{◌==◌, ◌||◌, ℕ, Bool, true, false, not, List, [], ◌∷◌, ◌++◌, codes, Result, Ok, if◌then◌else◌}
-use Rattle.std.specs.List.{filter, flat_map}
+use Rattle.std.specs.List.{flat_map}
 use Rattle.em_tree.specs.declared.node.Kind.{Kind}
 use Rattle.em_tree.specs.declared.node.Kind.TheVariants as kind
 use Rattle.em_view.specs.declared.no.FileNo.TheVariants as file
@@ -32,9 +32,12 @@ shows how name = how.all || not (is_hidden name)
 abbrev pub heading : Listing → List ℕ → List ℕ
 heading how name = if how.headed then name ++ codes ":\n" else []
 
+abbrev pub shown : Listing → List ℕ → List ℕ
+shown how name = if shows how name then line name else []
+
 -- one name a line
 abbrev pub lines : Listing → List (List ℕ) → List ℕ
-lines how inside = flat_map line (filter (shows how) inside)
+lines how inside = flat_map (shown how) inside
 
 abbrev pub list_text : Listing → List ℕ → List (List ℕ) → List ℕ
 list_text how name inside = heading how name ++ lines how inside

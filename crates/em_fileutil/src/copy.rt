@@ -197,10 +197,11 @@ pub(crate) fn copy_node<V: View>(
         Kind::Absent => Err(source.told(alloc, FileNo::Absent)),
         Kind::File => copy_as_file(alloc, manner, source, target, desk),
         Kind::Dir => {
-            if !recurs(manner) {
-                return Err(source.told(alloc, FileNo::IsDir));
+            if recurs(manner) {
+                copy_tree(alloc, utility, left, manner, source, target, desk, done)
+            } else {
+                Err(source.told(alloc, FileNo::IsDir))
             }
-            copy_tree(alloc, utility, left, manner, source, target, desk, done)
         }
     }
 }

@@ -1,10 +1,10 @@
 //! ls, of one operand.
-ghost use Rattle.std.specs.Prelude.{◌≡◌, ◌++◌, ◌∷◌, [], IfOk};
+ghost use Rattle.std.specs.Prelude.{◌≡◌, ◌++◌, IfOk};
 
 ghost use Rattle.em_view.specs.Steps.{Does, Works};
 ghost use Rattle.em_utility.specs.Operands.{is_free};
 
-ghost use Rattle.em_fileutil.specs.Listing.{prints, line, is_hidden, shows, heading, lines, list_text, list_directory, list_operand};
+ghost use Rattle.em_fileutil.specs.Listing.{prints, line, is_hidden, shows, heading, shown, list_text, list_directory, list_operand};
 
 use crate::operand::Operand;
 use em_base::{NoMemory, Text};
@@ -64,7 +64,7 @@ fn heading(alloc: Global, how: Listing, name: &[u8]) -> Result<Text, NoMemory>
 
 /// The text with a line of this name behind it, if it is shown.
 fn with_line(how: Listing, text: Text, name: &[u8]) -> Result<Text, NoMemory>
-    ensures { IfOk result (λ t. t ≡ text ++ lines how (name.now ∷ [])) }
+    ensures { IfOk result (λ t. t ≡ text ++ shown how name.now) }
 {
     let mut text = text;
     if shows(how, name) {
@@ -140,9 +140,10 @@ pub(crate) fn list_operand<V: View>(
         Kind::File => list_itself(alloc, operand, done),
         Kind::Dir => {
             if how.itself {
-                return list_itself(alloc, operand, done);
+                list_itself(alloc, operand, done)
+            } else {
+                list_directory(alloc, how, operand, desk, done)
             }
-            list_directory(alloc, how, operand, desk, done)
         }
     }
 }

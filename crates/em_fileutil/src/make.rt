@@ -100,10 +100,11 @@ fn touch_absent<V: View>(
 ) -> Result<(), OperandNo>
     ensures { (d : Done) → Does is_free V.tells desk.old desk.new d d result (touch_absent create operand.now) }
 {
-    if !create {
-        return Ok(());
+    if create {
+        operand.tried(alloc, desk.put(&operand.path, b""))
+    } else {
+        Ok(())
     }
-    operand.tried(alloc, desk.put(&operand.path, b""))
 }
 
 /// touch: stamps what is there; where nothing is, it puts an empty file if it may `create` one.

@@ -52,10 +52,11 @@ pub(crate) fn remove_node<V: View>(
         Kind::Absent => absent(alloc, how.force, operand),
         Kind::File => operand.tried(alloc, desk.remove(&operand.path)),
         Kind::Dir => {
-            if !how.recursive {
-                return Err(operand.told(alloc, FileNo::IsDir));
+            if how.recursive {
+                remove_tree(alloc, left, how, operand, desk, done)
+            } else {
+                Err(operand.told(alloc, FileNo::IsDir))
             }
-            remove_tree(alloc, left, how, operand, desk, done)
         }
     }
 }
