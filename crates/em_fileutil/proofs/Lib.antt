@@ -1,2 +1,3 @@
 mod Spotting
 mod Levels
+mod Commands

@@ -33,14 +33,16 @@ there_same o (Err e) = free_no o.name e
 module _ {V A : Type 0} {tells : V → Told} {old new : DeskState V} {r : Result (Option A) DeskNo} {m : Action DeskNo (Option A)} (o : Operand) {s : Done} where
   there_done : (x : Result A OperandNo) → performs.is_free (λ (y : OperandNo × Done). is_free y.0) (with_state x s) ≡ performs.is_free is_free x → (performs.is_free is_free x ≡ false → x ≡ there_by o r) → Performs is_memory tells old new r m → Does is_free tells old new s s x (there o m)
   unfolding there
-  there_done x same is p = record { performs = record {
-    grows = p.grows;
-    plain = λ h oracle all.
-        let h' : performs.is_free is_free x ≡ false = sym same ∙ h in
-        let given : performs.is_free is_memory r ≡ false = sym (there_same o r) ∙ ap (λ (y : Result A OperandNo). performs.is_free is_free y) (sym (is h')) ∙ h' in
-        ap (λ (z : Result (Option A) DeskNo × Workspace). let y : Result (A × Done) (OperandNo × Done) × Workspace = (with_state (there_by o z.0) s, z.1) in y) (p.plain given oracle all)
-        ∙ ap (λ (y : Result A OperandNo). let z : Result (A × Done) (OperandNo × Done) × Workspace = (with_state y s, new.work) in z) (sym (is h'));
-  } }
+  there_done x same is p = record {
+    performs = record {
+      grows = p.grows;
+      plain = λ h oracle all.
+          let h' : performs.is_free is_free x ≡ false = sym same ∙ h in
+          let given : performs.is_free is_memory r ≡ false = sym (there_same o r) ∙ ap (λ (y : Result A OperandNo). performs.is_free is_free y) (sym (is h')) ∙ h' in
+          ap (λ (z : Result (Option A) DeskNo × Workspace). let y : Result (A × Done) (OperandNo × Done) × Workspace = (with_state (there_by o z.0) s, z.1) in y) (p.plain given oracle all)
+          ∙ ap (λ (y : Result A OperandNo). let z : Result (A × Done) (OperandNo × Done) × Workspace = (with_state y s, new.work) in z) (sym (is h'));
+    };
+  }
 
   pub there_s : {x : Result A OperandNo} → (performs.is_free is_free x ≡ false → x ≡ there_by o r) → Performs is_memory tells old new r m → Does is_free tells old new s s x (there o m)
   there_s {x = Ok a} is p = there_done (Ok a) refl is p
@@ -69,6 +71,11 @@ module _ {V : Type 0} {tells : V → Told} {old new : DeskState V} {s t : Done} 
 
   pub ending_err : {e : ExecNo} → Does is_want tells old new s t (Err e) m → Does is_free tells old new s t (Err (End e)) (ending m)
   ending_err {e} p = within_err same_done new_done End m s (λ x. refl) (λ h. refl) p
+
+  -- the same at a `?` that ends the whole
+  pub ending_leave : {e : ExecNo} {r : Result (Unit {0}) OperandNo} → IsErrAnd r (λ x. x ≡ End e) → Does is_want tells old new s t (Err e) m → Does is_free tells old new s t r (ending m)
+  ending_leave {r = Ok a} is p = absurd is
+  ending_leave {r = Err x} is p = subst (λ (y : OperandNo). Does is_free tells old new s t (Err y) (ending m)) (sym is) (ending_err p)
 
 -- ---- one after another
 

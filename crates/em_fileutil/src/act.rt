@@ -2,7 +2,6 @@
 ghost use Rattle.em_view.specs.Ends.{is_want};
 ghost use Rattle.em_view.specs.Steps.{Does};
 ghost use Rattle.em_utility.specs.Operands.{is_free};
-
 ghost use Rattle.em_fileutil.specs.Acts.{copy_operand, act_on, act_for};
 ghost use Rattle.em_fileutil.specs.Utilities.{for_each};
 

@@ -5,9 +5,9 @@ ghost use Rattle.em_view.specs.Performs.{Performs};
 ghost use Rattle.em_view.specs.Steps.{Does, Works};
 ghost use Rattle.em_utility.specs.Options.{is_in};
 ghost use Rattle.em_utility.specs.Operands.{is_free};
-ghost use Rattle.em_fileutil.specs.Table.{row_of};
+ghost use Rattle.em_fileutil.specs.Table.{row_of, utility_of};
 ghost use Rattle.em_fileutil.specs.Utilities as utilities;
-ghost use Rattle.em_fileutil.specs.Utilities.{lacking, some, last, front, copy_all, copy, remove, list, run, utility_by};
+ghost use Rattle.em_fileutil.specs.Utilities.{lacking, some, last, front, copy_all, copy, remove, list, run, utility_by, utility_for};
 
 use crate::act::{Act, for_each};
 use crate::copy::{Manner, target_at};
@@ -16,7 +16,7 @@ use crate::remove::Removal;
 use crate::table::{Entry, Utility, utility_of};
 use em_base::{NoMemory, Seq, Text};
 use em_path::Path;
-use em_utility::{Options, OperandNo, Reason, begun, fail, read_options, settle};
+use em_utility::{OperandNo, Options, Reason, begun, fail, read_options, settle};
 use em_view::{Desk, Done, ExecNo, View};
 use std::alloc::Global;
 
@@ -191,7 +191,15 @@ fn run<V: View>(
             for_some(alloc, name, &act, cwd, operands, desk, done)
         }
         Utility::RemoveDirectory => {
-            for_some(alloc, name, &Act::RemoveDirectory, cwd, operands, desk, done)
+            for_some(
+                alloc,
+                name,
+                &Act::RemoveDirectory,
+                cwd,
+                operands,
+                desk,
+                done,
+            )
         }
         Utility::Touch => {
             let act = Act::Touch(!options.has(b'c'));
@@ -219,8 +227,33 @@ fn utility_by<V: View>(
 {
     let options = read_options(alloc, entry.name, entry.letters, b"", words)?;
     let mut done = begun(alloc);
-    run(alloc, entry, &options, cwd, options.operands(words), desk, &mut done)?;
+    run(
+        alloc,
+        entry,
+        &options,
+        cwd,
+        options.operands(words),
+        desk,
+        &mut done,
+    )?;
     Ok(Some(done))
+}
+
+/// The utility of this name, if it is one.
+fn utility_for<V: View>(
+    alloc: Global,
+    name: &[u8],
+    words: &[Text],
+    cwd: &Path,
+    desk: &mut Desk<V>,
+) -> Result<Option<Done>, ExecNo>
+    ensures { Performs is_want V.tells desk.old desk.new result
+        (utility_for (utility_of name.now) words.now cwd.now) }
+{
+    match utility_of(name) {
+        Some(entry) => utility_by(alloc, entry, words, cwd, desk),
+        None => Ok(None),
+    }
 }
 
 /// Runs the file utility that the first word names, with the words behind it, in a working directory: cp, mv, rm, mkdir, rmdir,
@@ -241,11 +274,8 @@ pub fn utility<V: View>(
 ) -> Result<Option<Done>, ExecNo>
     ensures { Performs is_want V.tells desk.old desk.new result (utilities.utility words.now cwd.now) }
 {
-    let Some((name, rest)) = words.split_first() else {
-        return Ok(None);
-    };
-    match utility_of(name.bytes()) {
-        Some(entry) => utility_by(alloc, entry, rest, cwd, desk),
+    match words.split_first() {
+        Some((name, rest)) => utility_for(alloc, name.bytes(), rest, cwd, desk),
         None => Ok(None),
     }
 }

@@ -223,7 +223,17 @@ fn copy_tree<V: View>(
 {
     make_missing(alloc, target.name.bytes(), &target.path, desk)?;
     let inside = source.there(alloc, desk.names(&source.path))?;
-    copy_each(alloc, utility, left, manner, source, target, inside.names(), desk, done)?;
+    copy_each(
+        alloc,
+        utility,
+        left,
+        manner,
+        source,
+        target,
+        inside.names(),
+        desk,
+        done,
+    )?;
     leave_source(alloc, manner, source, desk)
 }
 
@@ -246,7 +256,9 @@ fn copy_each<V: View>(
 {
     for name in names {
         let name = name.bytes();
-        let given = copy_child(alloc, utility, left, manner, source, target, name, desk, done);
+        let given = copy_child(
+            alloc, utility, left, manner, source, target, name, desk, done,
+        );
         settle(alloc, utility, given, done)?;
     }
     Ok(())

@@ -1,9 +1,7 @@
 //! ls, of one operand.
 ghost use Rattle.std.specs.Prelude.{◌≡◌, ◌++◌, IfOk};
-
 ghost use Rattle.em_view.specs.Steps.{Does, Works};
 ghost use Rattle.em_utility.specs.Operands.{is_free};
-
 ghost use Rattle.em_fileutil.specs.Listing.{prints, line, is_hidden, shows, heading, shown, list_text, list_directory, list_operand};
 
 use crate::operand::Operand;
@@ -75,12 +73,7 @@ fn with_line(how: Listing, text: Text, name: &[u8]) -> Result<Text, NoMemory>
 }
 
 /// The names of a directory, one a line.
-fn list_text(
-    alloc: Global,
-    how: Listing,
-    name: &[u8],
-    inside: &[Text],
-) -> Result<Text, NoMemory>
+fn list_text(alloc: Global, how: Listing, name: &[u8], inside: &[Text]) -> Result<Text, NoMemory>
     ensures { IfOk result (λ t. t ≡ list_text how name.now inside.now) }
 {
     let mut text = heading(alloc, how, name)?;

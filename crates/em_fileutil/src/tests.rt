@@ -172,7 +172,12 @@ fn with_d(alloc: Global, filled: bool) -> Result<State, Fail> {
     add(alloc, &mut state.tree, b"/d", Node::Dir { stamp: 1 })?;
     if filled {
         let body = Body::from_slice(alloc, b"")?;
-        add(alloc, &mut state.tree, b"/d/x", Node::File { body, stamp: 1 })?;
+        add(
+            alloc,
+            &mut state.tree,
+            b"/d/x",
+            Node::File { body, stamp: 1 },
+        )?;
     }
     Ok(state)
 }

@@ -53,7 +53,11 @@ fn options_stand_before_the_operands(rt: HostRuntime) -> Result<(), Fail> {
     ] {
         let words = words(alloc, line)?;
         let mut log = Text::new(alloc);
-        show(&words, read_options(alloc, b"u", b"1frn", b"n", &words), &mut log)?;
+        show(
+            &words,
+            read_options(alloc, b"u", b"1frn", b"n", &words),
+            &mut log,
+        )?;
         assert!(rt; log.bytes() == wanted.as_bytes(), "{line}");
     }
     Ok(())
@@ -124,7 +128,10 @@ fn each_fault_is_written_and_the_next_operand_is_read(rt: HostRuntime) -> Result
     desk.put(&located_at(alloc, b"empty")?, b"")?;
     let names: [&[u8]; 5] = [b"q", b"f", b"/", b"empty", b""];
     let log = shown(alloc, cat_all(alloc, &names, &mut desk))?;
-    assert!(rt; log.bytes() == b"12emake: cat: q: absent\n1x\n2emake: cat: /: is a directory\n2emake: cat: : bad path\n");
+    assert!(rt;
+        log.bytes()
+            == b"12emake: cat: q: absent\n1x\n2emake: cat: /: is a directory\n2emake: cat: : bad path\n"
+    );
     Ok(())
 }
 

@@ -32,7 +32,10 @@ pub static SCRIPTS: [(&str, &str); 70] = [
     ("mv b", "22emake: mv: : missing operand\n;"),
     ("mv q b e;ls e", "12emake: mv: q: absent\n;01b\n;"),
     ("mv d d/y", "12emake: mv: d: same file\n;"),
-    ("mkdir -p d/e;touch d/e/f;mv d g;ls g/e;ls -d d", "0;0;0;01f\n;12emake: ls: d: absent\n;"),
+    (
+        "mkdir -p d/e;touch d/e/f;mv d g;ls g/e;ls -d d",
+        "0;0;0;01f\n;12emake: ls: d: absent\n;",
+    ),
     // rm
     ("rm b;ls", "0;01d\ne\n;"),
     ("rm d", "12emake: rm: d: is a directory\n;"),

@@ -47,10 +47,10 @@ pub copy_each-loop-name-init : goal.copy_each-loop-name-init
 copy_each-loop-name-init g t c = λ new u r p. p
 
 pub copy_each-returns-in_err-settle : goal.copy_each-returns-in_err-settle
-copy_each-returns-in_err-settle g t c = each_stop c.args.utility.now (copy_child (copy_beneath c.args.utility.now c.args.manner c.args.left) c.args.source.now c.args.target.now) c.args.names.now c.loop-name.name-index c.loop-name.invariant c.name-item.result (left_at c.args.names.now c.loop-name.name-index c.name-item.result c.loop-name-test.true c.name-item.is) c.from_residual.ensures.1 c.in_err-settle.ensures (rw c.bytes.ensures at c.copy_child-given.ensures)
+copy_each-returns-in_err-settle g t c = each_stop c.args.utility.now (copy_child (copy_beneath c.args.utility.now c.args.manner c.args.left) c.args.source.now c.args.target.now) c.args.names.now c.loop-name.name-index c.loop-name.invariant c.name-item.result (left_at c.args.names.now c.loop-name.name-index c.name-item.result c.loop-name-test.true c.name-item.is) c.from_residual.ensures.1 c.in_err-settle.ensures (rw c.bytes-name.ensures at c.copy_child-given.ensures)
 
 pub copy_each-loop-name-preserved : goal.copy_each-loop-name-preserved
-copy_each-loop-name-preserved g t c = each_more c.args.utility.now (copy_child (copy_beneath c.args.utility.now c.args.manner c.args.left) c.args.source.now c.args.target.now) c.args.names.now c.loop-name.name-index c.loop-name.invariant c.name-item.result (left_at c.args.names.now c.loop-name.name-index c.name-item.result c.loop-name-test.true c.name-item.is) c.in_ok-settle.ensures (rw c.bytes.ensures at c.copy_child-given.ensures)
+copy_each-loop-name-preserved g t c = each_more c.args.utility.now (copy_child (copy_beneath c.args.utility.now c.args.manner c.args.left) c.args.source.now c.args.target.now) c.args.names.now c.loop-name.name-index c.loop-name.invariant c.name-item.result (left_at c.args.names.now c.loop-name.name-index c.name-item.result c.loop-name-test.true c.name-item.is) c.in_ok-settle.ensures (rw c.bytes-name.ensures at c.copy_child-given.ensures)
 
 pub copy_each-returns : goal.copy_each-returns
 copy_each-returns g t c = each_end c.args.utility.now (copy_child (copy_beneath c.args.utility.now c.args.manner c.args.left) c.args.source.now c.args.target.now) c.args.names.now c.loop-name.name-index c.loop-name.invariant (none_at c.args.names.now c.loop-name.name-index c.loop-name-test.false)
