@@ -128,7 +128,7 @@ fn cp_asks_for_the_target_then_for_the_source(rt: HostRuntime) -> Result<(), Fai
     let alloc = rt.alloc();
     let state = beside_b(alloc)?;
     let mut desk = Desk::new(alloc, PlainView::new(&state), 1, 0, Fuel::new(6));
-    assert!(rt; run(alloc, "cp b a", &mut desk)?.bytes() == b"0;");
+    assert!(rt; run(alloc, "cp b a", &mut desk)?.bytes() == b"0;".as_slice());
     let (usage, _changes, fuel) = desk.close();
     assert!(rt; fuel == 6);
     let a = path(alloc, b"a")?;
@@ -151,7 +151,7 @@ fn fuel_that_does_not_suffice_ends_a_command(rt: HostRuntime) -> Result<(), Fail
     let alloc = rt.alloc();
     let state = beside_b(alloc)?;
     let mut desk = Desk::new(alloc, PlainView::new(&state), 1, 0, Fuel::new(5));
-    assert!(rt; run(alloc, "cp b a", &mut desk)?.bytes() == b"$;");
+    assert!(rt; run(alloc, "cp b a", &mut desk)?.bytes() == b"$;".as_slice());
     Ok(())
 }
 
@@ -160,7 +160,7 @@ fn a_file_that_is_moved_keeps_its_stamp(rt: HostRuntime) -> Result<(), Fail> {
     let alloc = rt.alloc();
     let state = beside_b(alloc)?;
     let mut desk = Desk::new(alloc, PlainView::new(&state), 100, 0, Fuel::new(20));
-    assert!(rt; run(alloc, "mv b a", &mut desk)?.bytes() == b"0;");
+    assert!(rt; run(alloc, "mv b a", &mut desk)?.bytes() == b"0;".as_slice());
     assert!(rt; desk.stamp(&path(alloc, b"a")?)? == Some(1));
     assert!(rt; desk.kind(&path(alloc, b"b")?)? == Kind::Absent);
     Ok(())
@@ -191,6 +191,6 @@ fn what_was_listed_and_is_absent_then_is_a_fault(rt: HostRuntime) -> Result<(), 
     states.push(with_d(alloc, false)?)?;
     let mut desk = Desk::new(alloc, ScriptView::new(states), 1, 0, Fuel::new(20));
     let given = run(alloc, "rm -r d", &mut desk)?;
-    assert!(rt; given.bytes() == b"12emake: rm: d/x: absent\n;");
+    assert!(rt; given.bytes() == b"12emake: rm: d/x: absent\n;".as_slice());
     Ok(())
 }

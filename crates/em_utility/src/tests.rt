@@ -128,10 +128,13 @@ fn each_fault_is_written_and_the_next_operand_is_read(rt: HostRuntime) -> Result
     desk.put(&located_at(alloc, b"empty")?, b"")?;
     let names: [&[u8]; 5] = [b"q", b"f", b"/", b"empty", b""];
     let log = shown(alloc, cat_all(alloc, &names, &mut desk))?;
-    assert!(rt;
-        log.bytes()
-            == b"12emake: cat: q: absent\n1x\n2emake: cat: /: is a directory\n2emake: cat: : bad path\n"
+    let wanted = concat!(
+        "12emake: cat: q: absent\n",
+        "1x\n",
+        "2emake: cat: /: is a directory\n",
+        "2emake: cat: : bad path\n"
     );
+    assert!(rt; log.bytes() == wanted.as_bytes());
     Ok(())
 }
 
