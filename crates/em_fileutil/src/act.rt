@@ -53,7 +53,8 @@ fn act_on<V: View>(
     desk: &mut Desk<V>,
     done: &mut Done,
 ) -> Result<(), OperandNo>
-    ensures { Does is_free V.tells desk.old desk.new done.old done.new result (act_on utility.now act.now operand.now) }
+    ensures { Does is_free V.tells desk.old desk.new done.old done.new result
+        (act_on utility.now act.now operand.now) }
 {
     match act {
         Act::Copy(manner, to) => copy_operand(alloc, utility, *manner, to, operand, desk, done),

@@ -93,7 +93,8 @@ fn for_some<V: View>(
     done: &mut Done,
 ) -> Result<(), ExecNo>
     ensures { Does is_want V.tells desk.old desk.new done.old done.new result
-        (some utility.now operands.now (utilities.for_each utility.now act.now cwd.now operands.now)) }
+        (some utility.now operands.now
+        (utilities.for_each utility.now act.now cwd.now operands.now)) }
 {
     if operands.is_empty() {
         return missing(alloc, utility, done);
@@ -170,7 +171,8 @@ fn run<V: View>(
     done: &mut Done,
 ) -> Result<(), ExecNo>
     ensures { Does is_want V.tells desk.old desk.new done.old done.new result
-        (run entry.now.utility entry.now.name.now (is_in options.now.letters) cwd.now operands.now) }
+        (run entry.now.utility entry.now.name.now (is_in options.now.letters)
+        cwd.now operands.now) }
 {
     let name = entry.name;
     match entry.utility {
@@ -223,7 +225,8 @@ fn utility_by<V: View>(
     cwd: &Path,
     desk: &mut Desk<V>,
 ) -> Result<Option<Done>, ExecNo>
-    ensures { Performs is_want V.tells desk.old desk.new result (utility_by (row_of entry.now) words.now cwd.now) }
+    ensures { Performs is_want V.tells desk.old desk.new result (utility_by
+        (row_of entry.now) words.now cwd.now) }
 {
     let options = read_options(alloc, entry.name, entry.letters, b"", words)?;
     let mut done = begun(alloc);
@@ -256,15 +259,18 @@ fn utility_for<V: View>(
     }
 }
 
-/// Runs the file utility that the first word names, with the words behind it, in a working directory: cp, mv, rm, mkdir, rmdir,
-/// touch or ls, as POSIX has them but for the options, of which there are few (docs/FORMATS.md, "File utilities"). `None` comes
-/// exactly where the first word names none of them, and then nothing was asked. No utility reads its input.
+/// Runs the file utility that the first word names, with the words behind it, in a working
+/// directory: cp, mv, rm, mkdir, rmdir, touch or ls, as POSIX has them but for the options, of
+/// which there are few (docs/FORMATS.md, "File utilities"). `None` comes exactly where the first
+/// word names none of them, and then nothing was asked. No utility reads its input.
 ///
-/// Of an operand's faults a line is written to stream 2, the status is then 1, and the next operand is tried; where operands are
-/// missing, it is 2. Errors: `Refused` by an option's letter that the utility doesn't have, before anything is asked; `Spent`
-/// where fuel doesn't suffice for what the desk's calls cost, and then the changes till then stand.
+/// Of an operand's faults a line is written to stream 2, the status is then 1, and the next operand
+/// is tried; where operands are missing, it is 2. Errors: `Refused` by an option's letter that the
+/// utility doesn't have, before anything is asked; `Spent` where fuel doesn't suffice for what the
+/// desk's calls cost, and then the changes till then stand.
 ///
-/// Time and memory are linear in the bytes that are read and put and in the names that are listed; a file's bytes are copied once.
+/// Time and memory are linear in the bytes that are read and put and in the names that are listed;
+/// a file's bytes are copied once.
 pub fn utility<V: View>(
     alloc: Global,
     words: &[Text],
@@ -272,7 +278,8 @@ pub fn utility<V: View>(
     cwd: &Path,
     desk: &mut Desk<V>,
 ) -> Result<Option<Done>, ExecNo>
-    ensures { Performs is_want V.tells desk.old desk.new result (utilities.utility words.now cwd.now) }
+    ensures { Performs is_want V.tells desk.old desk.new result
+        (utilities.utility words.now cwd.now) }
 {
     match words.split_first() {
         Some((name, rest)) => utility_for(alloc, name.bytes(), rest, cwd, desk),

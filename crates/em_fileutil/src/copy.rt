@@ -32,7 +32,8 @@ pub(crate) enum Manner {
 #[derive(Debug, Drop)]
 pub(crate) struct Target {
     pub(crate) operand: Operand,
-    /// A directory, in which each source keeps its last name; else the one source gets the target's name.
+    /// A directory, in which each source keeps its last name; else the one source gets the target's
+    /// name.
     pub(crate) is_dir: bool,
 }
 
@@ -75,7 +76,8 @@ pub(crate) fn target_at<V: View>(
     name: &[u8],
     desk: &mut Desk<V>,
 ) -> Result<Target, OperandNo>
-    ensures { (d : Done) → Does is_free V.tells desk.old desk.new d d result (target_at cwd.now several name.now) }
+    ensures { (d : Done) → Does is_free V.tells desk.old desk.new d d result
+        (target_at cwd.now several name.now) }
 {
     let operand = Operand::at(alloc, cwd, name)?;
     let kind = operand.tried(alloc, desk.kind(&operand.path))?;
@@ -116,7 +118,8 @@ fn copy_file<V: View>(
     target: &Operand,
     desk: &mut Desk<V>,
 ) -> Result<(), OperandNo>
-    ensures { (d : Done) → Does is_free V.tells desk.old desk.new d d result (copy_file source.now target.now) }
+    ensures { (d : Done) → Does is_free V.tells desk.old desk.new d d result
+        (copy_file source.now target.now) }
 {
     let body = source.there(alloc, desk.content(&source.path))?;
     target.tried(alloc, desk.put(&target.path, body.bytes()))
@@ -128,7 +131,8 @@ fn move_file<V: View>(
     target: &Operand,
     desk: &mut Desk<V>,
 ) -> Result<(), OperandNo>
-    ensures { (d : Done) → Does is_free V.tells desk.old desk.new d d result (move_file source.now target.now) }
+    ensures { (d : Done) → Does is_free V.tells desk.old desk.new d d result
+        (move_file source.now target.now) }
 {
     let body = source.there(alloc, desk.content(&source.path))?;
     let stamp = source.there(alloc, desk.stamp(&source.path))?;
@@ -143,7 +147,8 @@ fn copy_as_file<V: View>(
     target: &Operand,
     desk: &mut Desk<V>,
 ) -> Result<(), OperandNo>
-    ensures { (d : Done) → Does is_free V.tells desk.old desk.new d d result (copy_as_file manner source.now target.now) }
+    ensures { (d : Done) → Does is_free V.tells desk.old desk.new d d result
+        (copy_as_file manner source.now target.now) }
 {
     match manner {
         Manner::Copy => copy_file(alloc, source, target, desk),
@@ -159,7 +164,8 @@ fn leave_source<V: View>(
     source: &Operand,
     desk: &mut Desk<V>,
 ) -> Result<(), OperandNo>
-    ensures { (d : Done) → Does is_free V.tells desk.old desk.new d d result (leave_source manner source.now) }
+    ensures { (d : Done) → Does is_free V.tells desk.old desk.new d d result
+        (leave_source manner source.now) }
 {
     match manner {
         Manner::Copy => Ok(()),
@@ -191,7 +197,8 @@ pub(crate) fn copy_node<V: View>(
     done: &mut Done,
 ) -> Result<(), OperandNo>
     ensures { Does is_free V.tells desk.old desk.new done.old done.new result
-        (copy_node utility.now (copy_beneath utility.now manner left) manner source.now target.now) }
+        (copy_node utility.now (copy_beneath utility.now manner left) manner
+        source.now target.now) }
 {
     match source.tried(alloc, desk.kind(&source.path))? {
         Kind::Absent => Err(source.told(alloc, FileNo::Absent)),
@@ -206,7 +213,8 @@ pub(crate) fn copy_node<V: View>(
     }
 }
 
-/// Copies or moves a directory: its target is made where nothing is, and then what stands in it follows.
+/// Copies or moves a directory: its target is made where nothing is, and then what stands in it
+/// follows.
 #[cycle(copying)]
 fn copy_tree<V: View>(
     alloc: Global,
@@ -219,7 +227,8 @@ fn copy_tree<V: View>(
     done: &mut Done,
 ) -> Result<(), OperandNo>
     ensures { Does is_free V.tells desk.old desk.new done.old done.new result
-        (copy_tree utility.now (copy_beneath utility.now manner left) manner source.now target.now) }
+        (copy_tree utility.now (copy_beneath utility.now manner left) manner
+        source.now target.now) }
 {
     make_missing(alloc, target.name.bytes(), &target.path, desk)?;
     let inside = source.there(alloc, desk.names(&source.path))?;
@@ -252,7 +261,8 @@ fn copy_each<V: View>(
 ) -> Result<(), ExecNo>
     requires { All IsComponent names.now }
     ensures { Does is_want V.tells desk.old desk.new done.old done.new result
-        (each utility.now (copy_child (copy_beneath utility.now manner left) source.now target.now) names.now) }
+        (each utility.now (copy_child (copy_beneath utility.now manner left)
+        source.now target.now) names.now) }
 {
     for name in names {
         let name = name.bytes();

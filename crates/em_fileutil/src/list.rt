@@ -99,7 +99,8 @@ fn print_names(
     inside: &NameList,
     done: &mut Done,
 ) -> Result<(), OperandNo>
-    ensures { Works is_free done.old done.new result (prints (list_text how operand.now.name inside.now)) }
+    ensures { Works is_free done.old done.new result (prints
+        (list_text how operand.now.name inside.now)) }
 {
     let text = list_text(alloc, how, operand.name.bytes(), inside.names())?;
     print(done, text)
@@ -112,7 +113,8 @@ fn list_directory<V: View>(
     desk: &mut Desk<V>,
     done: &mut Done,
 ) -> Result<(), OperandNo>
-    ensures { Does is_free V.tells desk.old desk.new done.old done.new result (list_directory how operand.now) }
+    ensures { Does is_free V.tells desk.old desk.new done.old done.new result
+        (list_directory how operand.now) }
 {
     let inside = operand.there(alloc, desk.names(&operand.path))?;
     print_names(alloc, how, operand, &inside, done)
@@ -126,7 +128,8 @@ pub(crate) fn list_operand<V: View>(
     desk: &mut Desk<V>,
     done: &mut Done,
 ) -> Result<(), OperandNo>
-    ensures { Does is_free V.tells desk.old desk.new done.old done.new result (list_operand how operand.now) }
+    ensures { Does is_free V.tells desk.old desk.new done.old done.new result
+        (list_operand how operand.now) }
 {
     match operand.tried(alloc, desk.kind(&operand.path))? {
         Kind::Absent => Err(operand.told(alloc, FileNo::Absent)),

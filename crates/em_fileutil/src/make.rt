@@ -21,7 +21,8 @@ pub(crate) fn make_missing<V: View>(
     path: &Path,
     desk: &mut Desk<V>,
 ) -> Result<(), OperandNo>
-    ensures { (d : Done) → Does is_free V.tells desk.old desk.new d d result (make_missing name.now path.now) }
+    ensures { (d : Done) → Does is_free V.tells desk.old desk.new d d result
+        (make_missing name.now path.now) }
 {
     match named(alloc, name, desk.kind(path))? {
         Kind::Absent => named(alloc, name, desk.make_dir(path)),
@@ -48,7 +49,8 @@ fn make_all<V: View>(
     path: &Path,
     desk: &mut Desk<V>,
 ) -> Result<(), OperandNo>
-    ensures { (d : Done) → Does is_free V.tells desk.old desk.new d d result (make_all left name.now path.now) }
+    ensures { (d : Done) → Does is_free V.tells desk.old desk.new d d result
+        (make_all left name.now path.now) }
 {
     if left == 0 {
         return Ok(());
@@ -67,7 +69,8 @@ pub(crate) fn make_directory<V: View>(
     operand: &Operand,
     desk: &mut Desk<V>,
 ) -> Result<(), OperandNo>
-    ensures { (d : Done) → Does is_free V.tells desk.old desk.new d d result (make_directory parents operand.now) }
+    ensures { (d : Done) → Does is_free V.tells desk.old desk.new d d result
+        (make_directory parents operand.now) }
 {
     if parents {
         make_all(alloc, LEVELS, operand.name.bytes(), &operand.path, desk)
@@ -82,7 +85,8 @@ pub(crate) fn remove_directory<V: View>(
     operand: &Operand,
     desk: &mut Desk<V>,
 ) -> Result<(), OperandNo>
-    ensures { (d : Done) → Does is_free V.tells desk.old desk.new d d result (remove_directory operand.now) }
+    ensures { (d : Done) → Does is_free V.tells desk.old desk.new d d result
+        (remove_directory operand.now) }
 {
     match operand.tried(alloc, desk.kind(&operand.path))? {
         Kind::Absent => operand.tried(alloc, desk.remove(&operand.path)),
@@ -98,7 +102,8 @@ fn touch_absent<V: View>(
     operand: &Operand,
     desk: &mut Desk<V>,
 ) -> Result<(), OperandNo>
-    ensures { (d : Done) → Does is_free V.tells desk.old desk.new d d result (touch_absent create operand.now) }
+    ensures { (d : Done) → Does is_free V.tells desk.old desk.new d d result
+        (touch_absent create operand.now) }
 {
     if create {
         operand.tried(alloc, desk.put(&operand.path, b""))
@@ -114,7 +119,8 @@ pub(crate) fn touch_operand<V: View>(
     operand: &Operand,
     desk: &mut Desk<V>,
 ) -> Result<(), OperandNo>
-    ensures { (d : Done) → Does is_free V.tells desk.old desk.new d d result (touch_operand create operand.now) }
+    ensures { (d : Done) → Does is_free V.tells desk.old desk.new d d result
+        (touch_operand create operand.now) }
 {
     match operand.tried(alloc, desk.kind(&operand.path))? {
         Kind::Absent => touch_absent(alloc, create, operand, desk),

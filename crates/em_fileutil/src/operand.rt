@@ -61,7 +61,8 @@ impl Operand {
 
     /// What a desk's call gave; a refusal is a fault of this operand.
     pub(crate) fn tried<T>(&self, alloc: Global, given: Result<T, DeskNo>) -> Result<T, OperandNo>
-        ensures { free_in is_free result ≡ false → result ≡ renamed (refused self.now.name) given }
+        ensures { free_in is_free result ≡ false →
+            result ≡ renamed (refused self.now.name) given }
     {
         named(alloc, self.name.bytes(), given)
     }

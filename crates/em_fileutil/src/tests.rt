@@ -1,6 +1,7 @@
-//! Commands over a small tree. A script is commands with `;` between them, each of words with a blank between them. Its transcript has
-//! for each command its status, and each piece that it wrote behind the number of its stream; `-` for what is no file utility, `!` and
-//! the letter for an option that is refused, `$` for spent fuel; and then `;`.
+//! Commands over a small tree. A script is commands with `;` between them, each of words with a
+//! blank between them. Its transcript has for each command its status, and each piece that it wrote
+//! behind the number of its stream; `-` for what is no file utility, `!` and the letter for an
+//! option that is refused, `$` for spent fuel; and then `;`.
 ghost use Rattle.std.specs.Prelude.{◌≡◌, Some};
 ghost use Rattle.std.specs.FinMap as map;
 ghost use Rattle.em_path.specs.Paths.{IsPath, parent_text};
@@ -94,7 +95,8 @@ fn run<V: View>(alloc: Global, script: &str, desk: &mut Desk<V>) -> Result<Text,
     Ok(log)
 }
 
-/// What a script writes where a file `b`, a directory `d` with `x` and `.h`, and an empty directory `e` are.
+/// What a script writes where a file `b`, a directory `d` with `x` and `.h`, and an empty directory
+/// `e` are.
 fn transcript(alloc: Global, script: &str) -> Result<Text, Fail> {
     let state = alone(alloc)?;
     let mut desk = Desk::new(alloc, PlainView::new(&state), 1, 0, Fuel::new(1000));

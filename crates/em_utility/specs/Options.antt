@@ -54,7 +54,9 @@ goes_on Operand = false
 abbrev pub gathered : List ℕ → List ℕ → Options → List (List ℕ) → Options
 gathered listed valued o [] = o
 gathered listed valued o (w ∷ words) =
-    if goes_on (role_of listed o.lacks w) then gathered listed valued (with_word valued o w (role_of listed o.lacks w)) words else with_word valued o w (role_of listed o.lacks w)
+    if goes_on (role_of listed o.lacks w)
+    then gathered listed valued (with_word valued o w (role_of listed o.lacks w)) words
+    else with_word valued o w (role_of listed o.lacks w)
 
 abbrev pub options_of : List ℕ → List ℕ → List (List ℕ) → Options
 options_of listed valued words = gathered listed valued no_options words

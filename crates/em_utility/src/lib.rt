@@ -1,4 +1,5 @@
-//! What the utilities share: options, reasons and error lines, what a command writes, and the reading of a file operand.
+//! What the utilities share: options, reasons and error lines, what a command writes, and the
+//! reading of a file operand.
 #![tactic(auto)]
 
 mod operand;

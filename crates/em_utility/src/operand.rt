@@ -20,7 +20,8 @@ use thiserror::Error;
 /// Why no more is done for an operand. What was done for it before stands.
 #[derive(Debug, Drop, PartialEq, Eq, Error)]
 pub enum OperandNo {
-    /// The operand, or one that came of it, has a fault, of which a line is written; the next operand is tried.
+    /// The operand, or one that came of it, has a fault, of which a line is written; the next
+    /// operand is tried.
     #[error("a fault of an operand")]
     Fault(Text, Reason),
     /// The command doesn't come to its end.
@@ -91,7 +92,8 @@ pub fn named<T>(alloc: Global, operand: &[u8], given: Result<T, DeskNo>) -> Resu
     }
 }
 
-/// The path that an operand says, read against the working directory. It is a bad path exactly where it says none.
+/// The path that an operand says, read against the working directory. It is a bad path exactly
+/// where it says none.
 pub fn located(alloc: Global, cwd: &Path, name: &[u8]) -> Result<Path, OperandNo>
     ensures { free_in is_free result ≡ false → result ≡ located cwd.now name.now }
 {
@@ -139,8 +141,9 @@ fn read_path<V: View>(
     }
 }
 
-/// The bytes of a file operand. Where it has none, its kind is asked: it is a directory, or else absent. A name that is no path is a
-/// bad path and asks nothing. It costs what the desk takes. The bytes are those of the tree, not copied.
+/// The bytes of a file operand. Where it has none, its kind is asked: it is a directory, or else
+/// absent. A name that is no path is a bad path and asks nothing. It costs what the desk takes. The
+/// bytes are those of the tree, not copied.
 pub fn read<V: View>(
     alloc: Global,
     cwd: &Path,
@@ -153,7 +156,8 @@ pub fn read<V: View>(
     read_path(alloc, name, &path, desk)
 }
 
-/// Goes on after what was done for an operand: writes its fault, if it had one. The error is the command's.
+/// Goes on after what was done for an operand: writes its fault, if it had one. The error is the
+/// command's.
 pub fn settle(
     alloc: Global,
     utility: &[u8],

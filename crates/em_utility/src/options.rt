@@ -182,11 +182,13 @@ fn letter(alloc: Global, utility: &[u8], letter: u8) -> Result<Construct, NoMemo
     Ok(Construct::Letter(Text::from_slice(alloc, utility)?, letter))
 }
 
-/// The options of a utility's words, without its name: the words of a dash and ASCII letters before the first operand, or before `--`.
-/// A dash alone is an operand, and so is a word with another byte, unless that is listed. `listed` are the letters that the utility
-/// has, and `valued` those of them that take the next word as their value. The error is `Refused` by the first letter that isn't
-/// listed, and else want of memory. POSIX, Utility Syntax Guidelines 3 to 10, but that a value is a word of its own. Steps for each
-/// byte of the options, times the letters that are listed.
+/// The options of a utility's words, without its name: the words of a dash and ASCII letters before
+/// the first operand, or before `--`. A dash alone is an operand, and so is a word with another
+/// byte, unless that is listed. `listed` are the letters that the utility has, and `valued` those
+/// of them that take the next word as their value. The error is `Refused` by the first letter that
+/// isn't listed, and else want of memory. POSIX, Utility Syntax Guidelines 3 to 10, but that a
+/// value is a word of its own. Steps for each byte of the options, times the letters that are
+/// listed.
 pub fn read_options(
     alloc: Global,
     utility: &[u8],

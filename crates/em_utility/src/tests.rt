@@ -15,8 +15,8 @@ fn words(alloc: Global, line: &str) -> Result<Vec<Text>, Fail> {
     Ok(words)
 }
 
-/// Letters, a slash, the value of `n`, where one is there, a slash, and the operands, each behind a blank; `?` where a value is
-/// wanted at the end; `!` for a letter that is refused.
+/// Letters, a slash, the value of `n`, where one is there, a slash, and the operands, each behind a
+/// blank; `?` where a value is wanted at the end; `!` for a letter that is refused.
 fn show(words: &[Text], given: Result<Options, ExecNo>, log: &mut Text) -> Result<(), NoMemory> {
     let Ok(options) = given else {
         return log.add(b"!");

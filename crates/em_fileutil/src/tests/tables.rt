@@ -1,6 +1,6 @@
 //! Scripts, and what they write by the pages of POSIX.
 
-pub static SCRIPTS: [(&str, &str); 70] = [
+pub static SCRIPTS: [(&str, &str); 79] = [
     ("cat b", "-;"),
     ("", "-;"),
     // cp
@@ -30,6 +30,7 @@ pub static SCRIPTS: [(&str, &str); 70] = [
     ("mv -- b a", "0;"),
     ("mv -r b a", "!r;"),
     ("mv b", "22emake: mv: : missing operand\n;"),
+    ("mv  e", "12emake: mv: : bad path\n;"),
     ("mv q b e;ls e", "12emake: mv: q: absent\n;01b\n;"),
     ("mv d d/y", "12emake: mv: d: same file\n;"),
     (
@@ -45,6 +46,7 @@ pub static SCRIPTS: [(&str, &str); 70] = [
     ("rm -f q", "0;"),
     ("rm -f", "0;"),
     ("rm", "22emake: rm: : missing operand\n;"),
+    ("rm  b;ls", "12emake: rm: : bad path\n;01d\ne\n;"),
     ("rm -r /", "12emake: rm: /: root\n;"),
     ("rm -x b", "!x;"),
     ("rm -- -f", "12emake: rm: -f: absent\n;"),
@@ -58,6 +60,7 @@ pub static SCRIPTS: [(&str, &str); 70] = [
     ("mkdir -- -p;ls -d -- -p", "0;01-p\n;"),
     ("mkdir -p /", "0;"),
     ("mkdir", "22emake: mkdir: : missing operand\n;"),
+    ("mkdir  n;ls -d n", "12emake: mkdir: : bad path\n;01n\n;"),
     ("mkdir -m n", "!m;"),
     // rmdir
     ("rmdir e;ls", "0;01b\nd\n;"),
@@ -65,12 +68,16 @@ pub static SCRIPTS: [(&str, &str); 70] = [
     ("rmdir b", "12emake: rmdir: b: not a directory\n;"),
     ("rmdir q", "12emake: rmdir: q: absent\n;"),
     ("rmdir", "22emake: rmdir: : missing operand\n;"),
+    ("rmdir  e", "12emake: rmdir: : bad path\n;"),
+    ("rmdir -- e", "0;"),
     ("rmdir -p e", "!p;"),
     // touch
     ("touch n;ls", "0;01b\nd\ne\nn\n;"),
     ("touch -c n;ls -d n", "0;12emake: ls: n: absent\n;"),
     ("touch b d q/n", "12emake: touch: q/n: no parent\n;"),
     ("touch", "22emake: touch: : missing operand\n;"),
+    ("touch  n", "12emake: touch: : bad path\n;"),
+    ("touch -- b", "0;"),
     ("touch -a b", "!a;"),
     // ls
     ("ls -1 d;ls b", "01x\n;01b\n;"),
@@ -78,6 +85,8 @@ pub static SCRIPTS: [(&str, &str); 70] = [
     ("ls b d", "01b\n1d:\nx\n;"),
     ("ls e q d", "11e:\n2emake: ls: q: absent\n1d:\nx\n;"),
     ("ls e", "0;"),
+    ("ls  b", "12emake: ls: : bad path\n1b\n;"),
+    ("ls -- b", "01b\n;"),
     ("ls -l", "!l;"),
     ("ls -2", "12emake: ls: -2: absent\n;"),
     ("ls -d", "01.\n;"),
