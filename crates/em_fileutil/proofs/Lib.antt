@@ -1,0 +1,3 @@
+mod Spotting
+mod Levels
+mod Commands

@@ -1,0 +1,11 @@
+pub use Rattle.em_utility.specs.Options
+pub use Rattle.em_utility.specs.Writing
+pub use Rattle.em_utility.specs.Operands
+pub mod Spots
+pub mod Making
+pub mod Removing
+pub mod Copying
+pub mod Listing
+pub mod Acts
+pub mod Table
+pub mod Utilities

@@ -1,0 +1,16 @@
+//! The utilities that work on files: cp, mv, rm, mkdir, rmdir, touch, ls.
+#![tactic(auto)]
+
+mod act;
+mod command;
+mod copy;
+mod list;
+mod make;
+mod operand;
+mod remove;
+mod table;
+
+pub use command::utility;
+
+#[cfg(test)]
+mod tests;
