@@ -1,0 +1,1 @@
+//! Laws of the definitions: each function's contract is the law, and its body is empty.

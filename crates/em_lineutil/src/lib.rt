@@ -1,0 +1,26 @@
+//! What the text utilities make of bytes: lines, counts, order, formats, names and the forms of `test`.
+#![tactic(auto)]
+
+mod difference;
+mod count;
+mod format;
+pub mod laws;
+mod line;
+mod name;
+mod search;
+mod sort;
+mod test;
+mod uniq;
+
+pub use difference::{Comparison, compare};
+pub use count::{Asked, count_line};
+pub use format::Part;
+pub use line::{head, tail};
+pub use name::{base_name, dir_name, without_suffix};
+pub use search::{Search, prefixed, selected};
+pub use sort::{Order, sort_text};
+
+pub use uniq::uniq_text;
+
+#[cfg(test)]
+mod tests;
