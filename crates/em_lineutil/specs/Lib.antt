@@ -4,6 +4,6 @@ pub mod Lines
 pub mod Sorting
 pub mod Runs
 pub mod Searching
-
+pub mod Formats
 pub mod Names
-
+pub mod Tests

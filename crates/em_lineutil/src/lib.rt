@@ -19,7 +19,7 @@ pub use line::{head, tail};
 pub use name::{base_name, dir_name, without_suffix};
 pub use search::{Search, prefixed, selected};
 pub use sort::{Order, sort_text};
-
+pub use test::{Binary, Form, Relation, Unary, form_of, is_related, stripped};
 pub use uniq::uniq_text;
 
 #[cfg(test)]

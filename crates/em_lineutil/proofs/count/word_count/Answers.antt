@@ -6,5 +6,5 @@ use Rattle.em_lineutil.proofs.count.word_count.Goals as goal
 
 pub returns : goal.returns
 returns c =
-    let parts = YieldsList-from_slice_split _ is_space c.args.text.now c.split.ensures.rest c.split.ensures.done c.split.ensures.closure (λ x r q k. search (rules, tests)) in
-    count_from_yields_List c.filter.result c.count.result c.count.ensures.ran (YieldsList-from_filter _ (λ w. nat_lt 0 (length w)) parts c.filter.ensures.closure (λ x b q k. search (rules, tests)))
+    count_from_yields_List c.filter.result c.count.result c.count.ensures.ran
+      (YieldsList-from_filter _ (λ w. nat_lt 0 (length w)) (YieldsList-from_slice_split _ is_space c.args.text.now c.split.ensures.rest c.split.ensures.done c.split.ensures.closure (λ x r q k. search (rules, tests))) c.filter.ensures.closure (λ x b q k. search (rules, tests)))
