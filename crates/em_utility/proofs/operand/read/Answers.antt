@@ -1,0 +1,13 @@
+use Rattle.std.proofs.Common.{sym}
+use Rattle.em_view.proofs.Performing.{then, leave}
+use Rattle.em_utility.specs.Operands.{read}
+use Rattle.em_utility.proofs.Trying.{gave_by, gave_none}
+use Rattle.em_utility.proofs.operand.read.Goals as goal
+
+pub returns-in_err-path : goal.returns-in_err-path
+unfolding read
+returns-in_err-path g c = leave _ c.from_residual.ensures.1 (gave_none c.in_err-path.ensures)
+
+pub returns : goal.returns
+unfolding read
+returns g c = then _ (gave_by c.in_ok-path.ensures) c.read_path.ensures

@@ -1,0 +1,10 @@
+pub use Rattle.em_view.specs.Actions
+pub use Rattle.em_view.specs.Performs
+pub use Rattle.em_view.specs.Rows
+pub use Rattle.em_view.specs.Steps
+pub use Rattle.em_view.specs.Do
+pub use Rattle.em_view.specs.Ends
+pub mod Reasons
+pub mod Options
+pub mod Writing
+pub mod Operands
