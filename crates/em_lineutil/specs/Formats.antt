@@ -1,13 +1,16 @@
 -- `printf`: what a format says, and what it writes of the words.
 --     format_of text       the format's parts; the first directive that isn't `%s`, `%d` or `%%` is refused, by its byte
---     repeats ps ws        how often the format is written: as often as the words fill, once at least
 --     shown ps ws          what it writes of the words; a missing one is empty, or 0
 --     strange ps ws        the words that should be numbers and aren't, in order
-use Rattle.std.specs.Prelude.{ℕ, zero, suc, max, drop, ◌+◌, ◌-◌, ◌*◌, ◌/◌, ◌==◌, ◌&&◌, Bool, true, false, nat_lt, nat_le, List, [], ◌∷◌, ◌++◌, length, count_by, Option, Some, None, Result, Ok, Err, if◌then◌else◌, ℤ, replicate}
-use Rattle.std.specs.List.{list_all, flat_map}
+--     repeats ps ws        how often the format is written: as often as the words fill, once at least
+--     printed, faults      both of all words
+use Rattle.std.specs.Prelude.{ℕ, zero, suc, drop, ◌+◌, ◌-◌, ◌/◌, ◌==◌, ◌&&◌, ◌||◌, Bool, true, false, nat_lt, nat_le, List, [], ◌∷◌, ◌++◌, length, count_by, Option, Some, None, Result, Ok, Err, if◌then◌else◌, ℤ}
+use Rattle.std.specs.List.{list_all}
 use Rattle.std.specs.Char.{is_ascii_digit}
 use Rattle.std.specs.Fmt.{signed_decimal}
 use Rattle.std.specs.Str.Parse.{without_leading_sign, signed_digits_value}
+use Rattle.em_lineutil.specs.declared.format.FormatNo.{FormatNo}
+use Rattle.em_lineutil.specs.declared.format.FormatNo.TheVariants.{Refused, NoMemory}
 use Rattle.em_lineutil.specs.declared.format.Part.{Part}
 use Rattle.em_lineutil.specs.declared.format.Part.TheVariants.{Byte, Word, Number}
 
@@ -41,14 +44,17 @@ format_of (b ∷ c ∷ rest) =
     else if b == 37 then directed (directive c) c (format_of rest)
     else before (Byte b ∷ []) (format_of (c ∷ rest))
 
+abbrev pub refused : FormatNo → Result (List Part) (Option ℕ)
+refused (Refused byte) = Err byte
+refused NoMemory = Err None
+
 abbrev pub takes : Part → Bool
 takes (Byte b) = false
 takes _ = true
 
--- n words, of which each time so many are taken
+-- how often a format that takes so many words is written, of so many
 abbrev pub repeats_by : ℕ → ℕ → ℕ
-repeats_by zero n = 1
-repeats_by (suc taken) n = max 1 ((n + taken) / suc taken)
+repeats_by taken n = if taken == 0 || n == 0 then 1 else (n - 1) / taken + 1
 
 -- a number as it is written in full; nothing of a word that is none
 abbrev pub written : Option ℤ → List ℕ
@@ -88,16 +94,25 @@ abbrev pub strange : List Part → List (List ℕ) → List (List ℕ)
 strange [] ws = []
 strange (p ∷ ps) ws = strange_part p ws ++ strange ps (behind p ws)
 
--- the parts over and over
-abbrev pub repeated : ℕ → List Part → List Part
-repeated n ps = flat_map (λ qs. qs) (replicate n ps)
+abbrev pub left : List Part → List (List ℕ) → List (List ℕ)
+left [] ws = ws
+left (p ∷ ps) ws = left ps (behind p ws)
+
+-- the format over and over, each time with the words that are left
+abbrev pub shown_times : ℕ → List Part → List (List ℕ) → List ℕ
+shown_times zero ps ws = []
+shown_times (suc n) ps ws = shown ps ws ++ shown_times n ps (left ps ws)
+
+abbrev pub strange_times : ℕ → List Part → List (List ℕ) → List (List ℕ)
+strange_times zero ps ws = []
+strange_times (suc n) ps ws = strange ps ws ++ strange_times n ps (left ps ws)
 
 abbrev pub repeats : List Part → List (List ℕ) → ℕ
 repeats ps ws = repeats_by (count_by takes ps) (length ws)
 
--- what the format writes of all words, and which words are no numbers
+-- what the format writes of all words, and which words should be numbers and aren't
 unfoldable pub printed : List Part → List (List ℕ) → List ℕ
-printed ps ws = shown (repeated (repeats ps ws) ps) ws
+printed ps ws = shown_times (repeats ps ws) ps ws
 
 unfoldable pub faults : List Part → List (List ℕ) → List (List ℕ)
-faults ps ws = strange (repeated (repeats ps ws) ps) ws
+faults ps ws = strange_times (repeats ps ws) ps ws

@@ -14,7 +14,7 @@ mod uniq;
 
 pub use difference::{Comparison, compare};
 pub use count::{Asked, count_line};
-pub use format::Part;
+pub use format::{FormatNo, Part, faults, format_of, number, printed};
 pub use line::{head, tail};
 pub use name::{base_name, dir_name, without_suffix};
 pub use search::{Search, prefixed, selected};

@@ -3,7 +3,7 @@ use Rattle.std.specs.Result.{OnOk}
 use Rattle.em_lineutil.specs.Runs.{in_seven}
 use Rattle.em_lineutil.proofs.uniq.add_in_seven.Goals as goal
 
-taken : (n : ℕ) → n ≤ 7 → take n (32 ∷ 32 ∷ 32 ∷ 32 ∷ 32 ∷ 32 ∷ 32 ∷ []) ≡ replicate n 32
+taken : (n : ℕ) → n ≤ 7 → take {A = ℕ} n (32 ∷ 32 ∷ 32 ∷ 32 ∷ 32 ∷ 32 ∷ 32 ∷ []) ≡ replicate n 32
 taken zero le = refl
 taken (suc zero) le = refl
 taken (suc (suc zero)) le = refl

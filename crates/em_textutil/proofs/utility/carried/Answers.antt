@@ -1,0 +1,23 @@
+use Rattle.std.proofs.Common.{refl}
+use Rattle.em_view.proofs.Performing.{then, leave, finish, ran_out}
+use Rattle.em_textutil.specs.Utilities.{carried}
+use Rattle.em_textutil.proofs.utility.carried.Goals as goal
+
+pub returns-in_err-wrong_done : goal.returns-in_err-wrong_done
+returns-in_err-wrong_done g c = ran_out _ refl c.from_residual.ensures.1
+
+pub returns-in-Wrong : goal.returns-in-Wrong
+unfolding carried
+returns-in-Wrong g c = rw (c.in-Wrong.is, c.in_ok-wrong_done.ensures) finish
+
+pub returns-in_err-sources : goal.returns-in_err-sources
+unfolding carried
+returns-in_err-sources g c = rw c.in-Read.is (leave _ c.from_residual.ensures.1 (rw (c.is_dashed.ensures, c.files_of-files.ensures) at c.in_err-sources.ensures))
+
+pub returns-in_err-job_done : goal.returns-in_err-job_done
+unfolding carried
+returns-in_err-job_done g c = rw c.in-Read.is (then _ (rw (c.is_dashed.ensures, c.files_of-files.ensures) at c.in_ok-sources.ensures) (ran_out _ refl c.from_residual-in_err-job_done.ensures.1))
+
+pub returns-in-Read : goal.returns-in-Read
+unfolding carried
+returns-in-Read g c = rw c.in-Read.is (then _ (rw (c.is_dashed.ensures, c.files_of-files.ensures) at c.in_ok-sources.ensures) (rw (c.in_ok-job_done.ensures, c.name_of.ensures, c.items.ensures) finish))

@@ -1,0 +1,11 @@
+use Rattle.em_view.proofs.Performing.{then, leave, finish}
+use Rattle.em_textutil.proofs.utility.run_by.Goals as goal
+
+pub returns-in-None : goal.returns-in-None
+returns-in-None g c = rw c.in-None.is finish
+
+pub returns-in_err-run : goal.returns-in_err-run
+returns-in_err-run g c = rw c.in-Some.is (leave _ c.from_residual.ensures.1 c.in_err-run.ensures)
+
+pub returns-in-Some : goal.returns-in-Some
+returns-in-Some g c = rw c.in-Some.is (then _ c.in_ok-run.ensures finish)
