@@ -12,7 +12,7 @@ use Rattle.std.specs.Cmp.{IsTotalOrder, IsStrictWeakOrder}
 use Rattle.std.specs.Cmp.Lexicographic.{slice_cmp, nat_list_cmp_total}
 use Rattle.std.specs.List.{AllByRecursion, sum_by}
 use Rattle.std.specs.List.Sorted.{IsSortedBy, IsSorted, IsPermutation}
-use Rattle.std.proofs.lemmas.List.Sorted.{ranks_by, sorted_far, sum_by-IsPermutation, IsPermutation-map}
+use Rattle.std.proofs.lemmas.List.Sorted.{ranks_by, sorted_far, sum_by-IsPermutation, IsPermutation-map, IsPermutation-refl, IsPermutation-trans, IsPermutation-swap, IsPermutation-cons}
 use Rattle.std.proofs.lemmas.List.Sums.{sum_by-cons}
 use Rattle.em_base.proofs.Lemmas.{by_cases, exact}
 use Rattle.em_lineutil.specs.Sorting.{placed, sorted}
@@ -157,3 +157,28 @@ module _ {B : Type 0} (key : B → Line) where
   pub sorted_is : (xs ys : List B) → IsPermutation xs ys → IsSorted (λ x y. slice_cmp nat_cmp (key x) (key y)) ys → map key ys ≡ sorted (map key xs)
   sorted_is xs ys moved up = only_order (map key ys) (sorted (map key xs)) (rises_from_sort ys up) (rises-sorted (map key xs)) (λ q.
       count-moved q (map key xs) (map key ys) (IsPermutation-map key xs ys moved) ∙ sym (count-sorted q (map key xs)))
+
+-- ---- the law: a rearrangement in rising order
+
+permutation-placed : (l : Line) (ls : List Line) → IsPermutation (l ∷ ls) (placed l ls)
+permutation-placed l [] = IsPermutation-refl (l ∷ [])
+permutation-placed l (m ∷ ms) = by_cases (below m l) (λ b. IsPermutation (l ∷ m ∷ ms) (cond b (m ∷ placed l ms) (l ∷ m ∷ ms)))
+    (λ _. IsPermutation-trans (l ∷ m ∷ ms) (m ∷ l ∷ ms) (m ∷ placed l ms) (IsPermutation-swap (l ∷ m ∷ ms) (m ∷ l ∷ ms) 0 1 (omega arith) (omega arith) refl) (IsPermutation-cons m (l ∷ ms) (placed l ms) (permutation-placed l ms)))
+    (λ _. IsPermutation-refl (l ∷ m ∷ ms))
+
+pub permutation-sorted : (ls : List Line) → IsPermutation ls (sorted ls)
+permutation-sorted [] = IsPermutation-refl []
+permutation-sorted (l ∷ ls) = IsPermutation-trans (l ∷ ls) (l ∷ sorted ls) (sorted (l ∷ ls)) (IsPermutation-cons l ls (sorted ls) (permutation-sorted ls)) (permutation-placed l (sorted ls))
+
+-- what rises in this sense is sorted
+above_first : (x : Line) (ls : List Line) (d : Line) → Above x ls → 0 < length ls → below (get_or ls 0 d) x ≡ false
+above_first x [] d all low = absurd (omega arith)
+above_first x (l ∷ ls) d all low = all.0
+
+steps_up : (ls : List Line) (k : ℕ) (d : Line) → Rises ls → k + 1 < length ls → below (get_or ls (k + 1) d) (get_or ls k d) ≡ false
+steps_up [] k d up high = absurd (omega arith)
+steps_up (l ∷ ls) zero d up high = above_first l ls d up.0 (omega arith)
+steps_up (l ∷ ls) (suc k) d up high = let n : suc k + 1 ≡ suc (k + 1) = omega arith in rw n (steps_up ls k d up.1 (omega arith))
+
+pub sorted-rises : (ls : List Line) → IsSorted (slice_cmp nat_cmp) (sorted ls)
+sorted-rises ls = λ k d low high. steps_up (sorted ls) k d (rises-sorted ls) high

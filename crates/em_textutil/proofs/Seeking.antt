@@ -24,7 +24,7 @@ still_free (Ok bytes) h = refl
 still_free (Err (Fault operand reason)) h = refl
 still_free (Err (End e)) h = h
 
-module _ {V : Type 0} {tells : V → Told} {old new : DeskState V} {r : Result (List ℕ) OperandNo} {cwd name : List ℕ} where
+module _ {V : Type 0} {tells : V → Told} {old new : DeskState V} {r : Result (List ℕ) OperandNo} (cwd name : List ℕ) where
   pub found_by : Performs is_free tells old new r (read cwd name) → Performs is_want tells old new (kept r) (found cwd name)
   unfolding found
   found_by p = record {

@@ -93,15 +93,15 @@ grep_plan o (p ∷ files) = Read (job.Grep (record {
 abbrev pub grep_refused : Construct
 grep_refused = Command (codes "grep")
 
-abbrev pub plan : Reading → Options → List (List ℕ) → Result Plan ExecNo
-plan reading.Cat o os = Ok (Read (job.Each filter.Cat))
-plan reading.Head o os = Ok (counted_plan o false os)
-plan reading.Tail o os = Ok (counted_plan o true os)
-plan reading.Wc o os = Ok (at_most_one (filter.Count (asked_of o)) os)
-plan reading.Sort o os = Ok (Read (job.Sort (record { backwards = has o 114; unique = has o 117 })))
-plan reading.Uniq o os = Ok (at_most_one (filter.Uniq (has o 99)) os)
-plan reading.Cmp o os = Ok (pair_plan o os)
-plan reading.Grep o os = if has o 70 then Ok (grep_plan o os) else Err (Refused grep_refused)
+abbrev pub planned : Reading → Options → List (List ℕ) → Result Plan ExecNo
+planned reading.Cat o os = Ok (Read (job.Each filter.Cat))
+planned reading.Head o os = Ok (counted_plan o false os)
+planned reading.Tail o os = Ok (counted_plan o true os)
+planned reading.Wc o os = Ok (at_most_one (filter.Count (asked_of o)) os)
+planned reading.Sort o os = Ok (Read (job.Sort (record { backwards = has o 114; unique = has o 117 })))
+planned reading.Uniq o os = Ok (at_most_one (filter.Uniq (has o 99)) os)
+planned reading.Cmp o os = Ok (pair_plan o os)
+planned reading.Grep o os = if has o 70 then Ok (grep_plan o os) else Err (Refused grep_refused)
 
 abbrev pub given_options : Reading → List (List ℕ) → Result Options ExecNo
 given_options r words = read_options (name_of r) (letters_of r) (valued_of r) words

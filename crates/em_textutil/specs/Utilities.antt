@@ -14,36 +14,36 @@ use Rattle.em_textutil.specs.declared.name.Plain.TheVariants as plain
 use Rattle.em_textutil.specs.declared.name.Reading.{Reading}
 use Rattle.em_textutil.specs.declared.name.Reading.TheVariants as reading
 use Rattle.em_textutil.specs.declared.name.Utility.{Utility}
-use Rattle.em_textutil.specs.declared.name.Utility.TheVariants.{Plain, Reading, Test, Bracket}
+use Rattle.em_textutil.specs.declared.name.Utility.TheVariants as named
 use Rattle.em_textutil.specs.declared.job.Job.{Job}
 use Rattle.em_textutil.specs.declared.plan.Plan.{Plan}
 use Rattle.em_textutil.specs.declared.plan.Plan.TheVariants.{Read, Wrong}
 use Rattle.em_textutil.specs.Sources.{read_all}
 use Rattle.em_textutil.specs.Jobs.{job_done, muted}
-use Rattle.em_textutil.specs.Plans.{name_of, given_options, plan, files_of, is_silent}
+use Rattle.em_textutil.specs.Plans.{name_of, given_options, planned, files_of, is_silent}
 use Rattle.em_textutil.specs.Plain.{plain_done}
 use Rattle.em_textutil.specs.declared.expression.Verdict.TheVariants.{Syntax}
 use Rattle.em_textutil.specs.Expressions.{test_words, answer}
 
 abbrev pub utility_of : List ℕ → Option Utility
 utility_of name =
-    if bytes_eq name (codes "cat") then Some (Reading reading.Cat)
-    else if bytes_eq name (codes "echo") then Some (Plain plain.Echo)
-    else if bytes_eq name (codes "printf") then Some (Plain plain.Printf)
-    else if bytes_eq name (codes "head") then Some (Reading reading.Head)
-    else if bytes_eq name (codes "tail") then Some (Reading reading.Tail)
-    else if bytes_eq name (codes "wc") then Some (Reading reading.Wc)
-    else if bytes_eq name (codes "sort") then Some (Reading reading.Sort)
-    else if bytes_eq name (codes "uniq") then Some (Reading reading.Uniq)
-    else if bytes_eq name (codes "cmp") then Some (Reading reading.Cmp)
-    else if bytes_eq name (codes "grep") then Some (Reading reading.Grep)
-    else if bytes_eq name (codes "basename") then Some (Plain plain.Basename)
-    else if bytes_eq name (codes "dirname") then Some (Plain plain.Dirname)
-    else if bytes_eq name (codes "test") then Some Test
-    else if bytes_eq name (codes "[") then Some Bracket
-    else if bytes_eq name (codes "true") then Some (Plain plain.True)
-    else if bytes_eq name (codes "false") then Some (Plain plain.False)
-    else if bytes_eq name (codes ":") then Some (Plain plain.True)
+    if bytes_eq name (codes "cat") then Some (named.Reading reading.Cat)
+    else if bytes_eq name (codes "echo") then Some (named.Plain plain.Echo)
+    else if bytes_eq name (codes "printf") then Some (named.Plain plain.Printf)
+    else if bytes_eq name (codes "head") then Some (named.Reading reading.Head)
+    else if bytes_eq name (codes "tail") then Some (named.Reading reading.Tail)
+    else if bytes_eq name (codes "wc") then Some (named.Reading reading.Wc)
+    else if bytes_eq name (codes "sort") then Some (named.Reading reading.Sort)
+    else if bytes_eq name (codes "uniq") then Some (named.Reading reading.Uniq)
+    else if bytes_eq name (codes "cmp") then Some (named.Reading reading.Cmp)
+    else if bytes_eq name (codes "grep") then Some (named.Reading reading.Grep)
+    else if bytes_eq name (codes "basename") then Some (named.Plain plain.Basename)
+    else if bytes_eq name (codes "dirname") then Some (named.Plain plain.Dirname)
+    else if bytes_eq name (codes "test") then Some named.Test
+    else if bytes_eq name (codes "[") then Some named.Bracket
+    else if bytes_eq name (codes "true") then Some (named.Plain plain.True)
+    else if bytes_eq name (codes "false") then Some (named.Plain plain.False)
+    else if bytes_eq name (codes ":") then Some (named.Plain plain.True)
     else None
 
 -- a `-` is the input for `cat` alone
@@ -62,7 +62,7 @@ carried cwd r o input os (Read job) = do
 
 unfoldable pub with_options : List ℕ → Reading → List ℕ → List (List ℕ) → Options → Action ExecNo Done
 with_options cwd r input words o = do
-  p ← gives (plan r o (drop o.taken words))
+  p ← gives (planned r o (drop o.taken words))
   carried cwd r o input (drop o.taken words) p
 
 unfoldable pub reads : List ℕ → Reading → List ℕ → List (List ℕ) → Action ExecNo Done
@@ -76,10 +76,10 @@ bracketed cwd ws None = done (answer false Syntax)
 bracketed cwd ws (Some last) = if bytes_eq last (codes "]") then test_words cwd (take (length ws - 1) ws) else done (answer false Syntax)
 
 abbrev pub run : List ℕ → Utility → List ℕ → List (List ℕ) → Action ExecNo Done
-run cwd (Plain p) input words = gives (plain_done p words)
-run cwd (Reading r) input words = reads cwd r input words
-run cwd Test input words = test_words cwd words
-run cwd Bracket input words = bracketed cwd words (slice_get words (length words - 1))
+run cwd (named.Plain p) input words = gives (plain_done p words)
+run cwd (named.Reading r) input words = reads cwd r input words
+run cwd named.Test input words = test_words cwd words
+run cwd named.Bracket input words = bracketed cwd words (slice_get words (length words - 1))
 
 abbrev pub ran : Done → Action ExecNo (Option Done)
 ran d = done (Some d)

@@ -68,7 +68,7 @@ fn found_in<V: View>(
 }
 
 fn source(alloc: Global, name: &[u8], found: Found) -> Result<Source, NoMemory>
-    ensures { IfOk result (λ s. (s.name ≡ name.now) × (s.found ≡ found)) }
+    ensures { IfOk result (λ s. s ≡ record { name = name.now; found = found }) }
 {
     Ok(Source {
         name: Text::from_slice(alloc, name)?,

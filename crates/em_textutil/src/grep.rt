@@ -1,5 +1,6 @@
 //! `grep -F`
-ghost use Rattle.std.specs.Prelude.{◌≡◌, map, IfOk, OnOk};
+ghost use Rattle.std.specs.Prelude.{◌≡◌, ◌||◌, false, codes, map, IfOk, OnOk};
+ghost use Rattle.em_utility.specs.Writing.{faulted};
 ghost use Rattle.em_textutil.specs.Jobs as jobs;
 ghost use Rattle.em_textutil.specs.Jobs.{front_of, shown_lines, grep_found, grep_each, has_line, grep_status};
 
@@ -7,7 +8,7 @@ use crate::job::Grep;
 use crate::source::{Found, Source};
 use em_base::{NoMemory, Text};
 use em_lineutil::{prefixed, selected};
-use em_utility::{begun, fail, write};
+use em_utility::{Reason, begun, fail, write};
 use em_view::Done;
 use itoa::Buffer;
 use std::alloc::Global;
@@ -54,6 +55,37 @@ fn shown_lines(
     }
 }
 
+/// Writes what is shown of the bytes, and tells whether some line was selected.
+fn grep_bytes(
+    alloc: Global,
+    grep: &Grep,
+    name: &Text,
+    bytes: &[u8],
+    done: &mut Done,
+) -> Result<bool, NoMemory>
+    ensures done { OnOk result (done.new ≡ grep_found grep.now name.now (Found.Bytes bytes.now) done.old) }
+    ensures some { IfOk result (λ some. some ≡ has_line grep.now (Found.Bytes bytes.now)) }
+{
+    let lines = selected(alloc, &grep.search, grep.pattern.bytes(), bytes)?;
+    let text = shown_lines(alloc, grep, name, &lines)?;
+    write(done, 1, text)?;
+    Ok(!lines.is_empty())
+}
+
+/// Writes the fault of a file.
+fn grep_fault(
+    alloc: Global,
+    name: &Text,
+    reason: Reason,
+    done: &mut Done,
+) -> Result<bool, NoMemory>
+    ensures done { OnOk result (done.new ≡ faulted (codes "grep") name.now reason done.old) }
+    ensures some { IfOk result (λ some. some ≡ false) }
+{
+    fail(alloc, done, b"grep", name.bytes(), reason)?;
+    Ok(false)
+}
+
 /// Writes what was found, or the fault, and tells whether some line was selected.
 fn grep_found(
     alloc: Global,
@@ -65,16 +97,15 @@ fn grep_found(
     ensures some { IfOk result (λ some. some ≡ has_line grep.now source.now.found) }
 {
     match &source.found {
-        Found::Bytes(body) => {
-            let lines = selected(alloc, &grep.search, grep.pattern.bytes(), body.bytes())?;
-            write(done, 1, shown_lines(alloc, grep, &source.name, &lines)?)?;
-            Ok(!lines.is_empty())
-        }
-        Found::No(reason) => {
-            fail(alloc, done, b"grep", source.name.bytes(), *reason)?;
-            Ok(false)
-        }
+        Found::Bytes(body) => grep_bytes(alloc, grep, &source.name, body.bytes(), done),
+        Found::No(reason) => grep_fault(alloc, &source.name, *reason, done),
     }
+}
+
+fn either(one: bool, other: bool) -> bool
+    ensures { result ≡ (one || other) }
+{
+    one || other
 }
 
 /// Writes one file after another, and tells whether some line was selected.
@@ -89,7 +120,8 @@ fn grep_each(
 {
     let mut some = false;
     for source in sources {
-        some = grep_found(alloc, grep, source, done)? || some;
+        let here = grep_found(alloc, grep, source, done)?;
+        some = either(some, here);
     }
     Ok(some)
 }

@@ -2,6 +2,7 @@
 #![tactic(auto)]
 
 mod bracket;
+mod command;
 mod expression;
 mod gather;
 mod grep;
@@ -12,14 +13,8 @@ mod plain;
 mod plan;
 mod source;
 mod texts;
-mod utility;
 
-pub use expression::Verdict;
-pub use job::{Filter, Grep, Job};
-pub use name::{Plain, Reading, Utility};
-pub use plan::Plan;
-pub use source::{Found, Source};
-pub use utility::utility;
+pub use command::utility;
 
 #[cfg(test)]
 mod tests;

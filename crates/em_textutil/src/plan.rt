@@ -131,13 +131,13 @@ fn grep_refused(alloc: Global) -> Result<Construct, NoMemory>
 }
 
 /// What the operands ask for, with these options.
-pub(crate) fn plan(
+pub(crate) fn planned(
     alloc: Global,
     reading: Reading,
     options: &Options,
     operands: &[Text],
 ) -> Result<Plan, ExecNo>
-    ensures { is_free is_want result ≡ false → result ≡ plans.plan reading options.now operands.now }
+    ensures { is_free is_want result ≡ false → result ≡ plans.planned reading options.now operands.now }
 {
     match reading {
         Reading::Cat => Ok(Plan::Read(Job::Each(Filter::Cat))),

@@ -1,9 +1,9 @@
 //! Each file for itself, and the lines of all files.
-ghost use Rattle.std.specs.Prelude.{◌≡◌, [], map, IfOk, OnOk};
+ghost use Rattle.std.specs.Prelude.{◌≡◌, ◌++◌, map, IfOk, OnOk};
 ghost use Rattle.std.specs.Option.{option_to_list};
 ghost use Rattle.em_utility.specs.Writing.{nothing, written};
 ghost use Rattle.em_lineutil.specs.Sorting.{sort_text};
-ghost use Rattle.em_textutil.specs.Jobs.{names_of, shown_by, by_found, each_done, texts_of, with_fault, faults_done};
+ghost use Rattle.em_textutil.specs.Jobs.{names_of, shown_by, by_found, each_done, text_of, texts_of, with_fault, faults_done};
 
 use crate::job::Filter;
 use crate::source::{Found, Source};
@@ -77,15 +77,25 @@ pub(crate) fn each_done(
     Ok(done)
 }
 
+fn push_text<'a>(texts: &mut Vec<&'a [u8]>, found: &'a Found) -> Result<(), NoMemory>
+    ensures { OnOk result (map (λ t. t.now) texts.new.items ≡ map (λ t. t.now) texts.old.items ++ text_of found.now) }
+{
+    match found {
+        Found::Bytes(body) => {
+            texts.push(body.bytes())?;
+            Ok(())
+        }
+        Found::No(_) => Ok(()),
+    }
+}
+
 /// The texts that were found.
 fn texts_of(alloc: Global, sources: &[Source]) -> Result<Vec<&[u8]>, NoMemory>
     ensures { IfOk result (λ v. map (λ t. t.now) v.items ≡ texts_of sources.now) }
 {
     let mut texts = Vec::new(alloc);
     for source in sources {
-        if let Found::Bytes(body) = &source.found {
-            texts.push(body.bytes())?;
-        }
+        push_text(&mut texts, &source.found)?;
     }
     Ok(texts)
 }

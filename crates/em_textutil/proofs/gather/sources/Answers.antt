@@ -19,7 +19,9 @@ returns-in_err-push g c =
     end (rw left at c.loop-name.invariant) (then _ (rw c.bytes.ensures at c.in_ok-what.ensures) (ran_out _ refl c.from_residual-in_err-push.ensures.1))
 
 pub loop-name-preserved : goal.loop-name-preserved
-loop-name-preserved g c = ?
+loop-name-preserved g c =
+    let left = left_at c.args.names.now c.loop-name.name-index c.name-item.result c.loop-name-test.true c.name-item.is in
+    rw (c.in_ok-push.ensures.ok, c.in_ok-source.ensures, c.bytes-in-loop-name.ensures) (more _ (rw left at c.loop-name.invariant) (rw c.bytes.ensures at c.in_ok-what.ensures))
 
 pub returns : goal.returns
 returns g c =

@@ -1,6 +1,6 @@
 use Rattle.em_view.proofs.Performing.{finish}
 use Rattle.em_textutil.specs.Utilities.{utility}
-use Rattle.em_textutil.proofs.utility.utility.Goals as goal
+use Rattle.em_textutil.proofs.command.utility.Goals as goal
 
 pub returns-in-Some : goal.returns-in-Some
 unfolding utility

@@ -1,7 +1,7 @@
 use Rattle.em_view.proofs.Performing.{then, leave}
 use Rattle.em_textutil.specs.Utilities.{reads}
 use Rattle.em_textutil.proofs.Seeking.{gave_by, gave_none}
-use Rattle.em_textutil.proofs.utility.reads.Goals as goal
+use Rattle.em_textutil.proofs.command.reads.Goals as goal
 
 pub returns-in_err-options : goal.returns-in_err-options
 unfolding reads

@@ -1,7 +1,7 @@
 use Rattle.std.proofs.Common.{refl}
 use Rattle.em_view.proofs.Performing.{then, leave, finish, ran_out}
 use Rattle.em_textutil.specs.Utilities.{carried}
-use Rattle.em_textutil.proofs.utility.carried.Goals as goal
+use Rattle.em_textutil.proofs.command.carried.Goals as goal
 
 pub returns-in_err-wrong_done : goal.returns-in_err-wrong_done
 returns-in_err-wrong_done g c = ran_out _ refl c.from_residual.ensures.1

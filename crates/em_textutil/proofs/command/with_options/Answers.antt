@@ -1,7 +1,7 @@
 use Rattle.em_view.proofs.Performing.{then, leave}
 use Rattle.em_textutil.specs.Utilities.{with_options}
 use Rattle.em_textutil.proofs.Seeking.{gave_by, gave_none}
-use Rattle.em_textutil.proofs.utility.with_options.Goals as goal
+use Rattle.em_textutil.proofs.command.with_options.Goals as goal
 
 pub returns-in_err-plan : goal.returns-in_err-plan
 unfolding with_options

@@ -1,5 +1,5 @@
 use Rattle.em_view.proofs.Performing.{then, leave, finish}
-use Rattle.em_textutil.proofs.utility.run_by.Goals as goal
+use Rattle.em_textutil.proofs.command.run_by.Goals as goal
 
 pub returns-in-None : goal.returns-in-None
 returns-in-None g c = rw c.in-None.is finish

@@ -14,7 +14,7 @@ use crate::job::Job;
 use crate::name::{Reading, Utility, is_dashed, name_of, utility_of};
 use crate::pair::{compare_done, muted};
 use crate::plain::plain_done;
-use crate::plan::{Plan, files_of, given_options, is_silent, plan};
+use crate::plan::{Plan, files_of, given_options, is_silent, planned};
 use crate::source::Source;
 use crate::texts::{each_done, sort_done};
 use em_base::{NoMemory, Text};
@@ -91,7 +91,7 @@ fn with_options<V: View>(
     ensures { Performs is_want V.tells desk.old desk.new result (with_options cwd.now reading input.now words.now options.now) }
 {
     let operands = options.operands(words);
-    let plan = plan(alloc, reading, options, operands)?;
+    let plan = planned(alloc, reading, options, operands)?;
     carried(alloc, cwd, reading, options, input, operands, &plan, desk)
 }
 
