@@ -1,7 +1,7 @@
 -- The text utilities by their names.
 --     utility_of name       the utility of this name
 --     utility ..            what a command does whose first word is this name: none of these, or what it leaves
-use Rattle.std.specs.Prelude.{ℕ, ◌-◌, true, false, Bool, List, [], ◌∷◌, ◌++◌, length, take, drop, codes, Option, Some, None, Result, Ok, Err, slice_get, if◌then◌else◌}
+use Rattle.std.specs.Prelude.{ℕ, ◌-◌, true, false, not, Bool, List, [], ◌∷◌, ◌++◌, length, take, drop, codes, Option, Some, None, Result, Ok, Err, slice_get, if◌then◌else◌}
 use Rattle.std.specs.Str.{bytes_eq}
 use Rattle.em_view.specs.declared.done.Done.{Done}
 use Rattle.em_view.specs.declared.done.ExecNo.{ExecNo}
@@ -71,15 +71,21 @@ reads cwd r input words = do
   with_options cwd r input words o
 
 -- the last word is to be a `]`
-abbrev pub bracketed : List ℕ → List (List ℕ) → Option (List ℕ) → Action ExecNo Done
-bracketed cwd ws None = done (answer false Syntax)
-bracketed cwd ws (Some last) = if bytes_eq last (codes "]") then test_words cwd (take (length ws - 1) ws) else done (answer false Syntax)
+abbrev pub isnt_end : Option (List ℕ) → Bool
+isnt_end None = true
+isnt_end (Some last) = not (bytes_eq last (codes "]"))
+
+abbrev pub lacks_end : List (List ℕ) → Bool
+lacks_end ws = isnt_end (slice_get ws (length ws - 1))
+
+unfoldable pub bracketed : List ℕ → List (List ℕ) → Action ExecNo Done
+bracketed cwd ws = if lacks_end ws then done (answer false Syntax) else test_words cwd (take (length ws - 1) ws)
 
 abbrev pub run : List ℕ → Utility → List ℕ → List (List ℕ) → Action ExecNo Done
 run cwd (named.Plain p) input words = gives (plain_done p words)
 run cwd (named.Reading r) input words = reads cwd r input words
 run cwd named.Test input words = test_words cwd words
-run cwd named.Bracket input words = bracketed cwd words (slice_get words (length words - 1))
+run cwd named.Bracket input words = bracketed cwd words
 
 abbrev pub ran : Done → Action ExecNo (Option Done)
 ran d = done (Some d)

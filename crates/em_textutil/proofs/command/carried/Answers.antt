@@ -3,21 +3,21 @@ use Rattle.em_view.proofs.Performing.{then, leave, finish, ran_out}
 use Rattle.em_textutil.specs.Utilities.{carried}
 use Rattle.em_textutil.proofs.command.carried.Goals as goal
 
-pub returns-in_err-wrong_done : goal.returns-in_err-wrong_done
-returns-in_err-wrong_done g c = ran_out _ refl c.from_residual.ensures.1
+pub returns-in_err-wrong_done-in-Wrong : goal.returns-in_err-wrong_done-in-Wrong
+returns-in_err-wrong_done-in-Wrong g c = ran_out _ refl c.from_residual.ensures.1
 
-pub returns-in-Wrong : goal.returns-in-Wrong
+pub returns-in_ok-wrong_done-in-Wrong : goal.returns-in_ok-wrong_done-in-Wrong
 unfolding carried
-returns-in-Wrong g c = rw (c.in-Wrong.is, c.in_ok-wrong_done.ensures) finish
+returns-in_ok-wrong_done-in-Wrong g c = rw (c.in-Wrong.is, c.in_ok-wrong_done.ensures) finish
 
-pub returns-in_err-sources : goal.returns-in_err-sources
+pub returns-in_err-sources-in-Read : goal.returns-in_err-sources-in-Read
 unfolding carried
-returns-in_err-sources g c = rw c.in-Read.is (leave _ c.from_residual.ensures.1 (rw (c.is_dashed.ensures, c.files_of-files.ensures) at c.in_err-sources.ensures))
+returns-in_err-sources-in-Read g c = rw c.in-Read.is (leave _ c.from_residual-in_err-sources.ensures.1 (rw (c.is_dashed.ensures, c.files_of-files.ensures) at c.in_err-sources.ensures))
 
-pub returns-in_err-job_done : goal.returns-in_err-job_done
+pub returns-in_err-job_done-in-Read : goal.returns-in_err-job_done-in-Read
 unfolding carried
-returns-in_err-job_done g c = rw c.in-Read.is (then _ (rw (c.is_dashed.ensures, c.files_of-files.ensures) at c.in_ok-sources.ensures) (ran_out _ refl c.from_residual-in_err-job_done.ensures.1))
+returns-in_err-job_done-in-Read g c = rw c.in-Read.is (then _ (rw (c.is_dashed.ensures, c.files_of-files.ensures) at c.in_ok-sources.ensures) (ran_out _ refl c.from_residual-in_err-job_done.ensures.1))
 
-pub returns-in-Read : goal.returns-in-Read
+pub returns-in_ok-job_done-in-Read : goal.returns-in_ok-job_done-in-Read
 unfolding carried
-returns-in-Read g c = rw c.in-Read.is (then _ (rw (c.is_dashed.ensures, c.files_of-files.ensures) at c.in_ok-sources.ensures) (rw (c.in_ok-job_done.ensures, c.name_of.ensures, c.items.ensures) finish))
+returns-in_ok-job_done-in-Read g c = rw c.in-Read.is (then _ (rw (c.is_dashed.ensures, c.files_of-files.ensures) at c.in_ok-sources.ensures) (rw (c.in_ok-job_done.ensures, c.name_of.ensures, c.items.ensures) finish))

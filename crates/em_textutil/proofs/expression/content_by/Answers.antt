@@ -5,8 +5,8 @@ use Rattle.em_textutil.proofs.expression.content_by.Goals as goal
 pub returns-in-None : goal.returns-in-None
 returns-in-None g c = rw c.in-None.is finish
 
-pub returns-in_err-content : goal.returns-in_err-content
-returns-in_err-content g c = rw c.in-Some.is (asked_err c.from_residual.ensures.1 c.in_err-content.ensures.performs)
+pub returns-in_err-content-in-Some : goal.returns-in_err-content-in-Some
+returns-in_err-content-in-Some g c = rw c.in-Some.is (asked_err c.from_residual.ensures.1 c.in_err-content.ensures.performs)
 
-pub returns-in-Some : goal.returns-in-Some
-returns-in-Some g c = rw c.in-Some.is (asked_ok c.in_ok-content.ensures.performs)
+pub returns-in_ok-content-in-Some : goal.returns-in_ok-content-in-Some
+returns-in_ok-content-in-Some g c = rw c.in-Some.is (asked_ok c.in_ok-content.ensures.performs)

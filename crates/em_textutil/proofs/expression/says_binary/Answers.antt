@@ -8,8 +8,8 @@ returns-in-Same g c = rw (c.in-Same.is, c.eq.ensures) finish
 pub returns-in-Other : goal.returns-in-Other
 returns-in-Other g c = rw (c.in-Other.is, c.ne.ensures) finish
 
-pub returns-in_err-numbers_say : goal.returns-in_err-numbers_say
-returns-in_err-numbers_say g c = ran_out _ refl c.from_residual.ensures.1
+pub returns-in_err-numbers_say-in-Number : goal.returns-in_err-numbers_say-in-Number
+returns-in_err-numbers_say-in-Number g c = ran_out _ refl c.from_residual.ensures.1
 
-pub returns-in-Number : goal.returns-in-Number
-returns-in-Number g c = rw (c.in-Number.is, c.in_ok-numbers_say.ensures) finish
+pub returns-in_ok-numbers_say-in-Number : goal.returns-in_ok-numbers_say-in-Number
+returns-in_ok-numbers_say-in-Number g c = rw (c.in-Number.is, c.in_ok-numbers_say.ensures) finish

@@ -5,4 +5,4 @@ pub returns-in-Filled : goal.returns-in-Filled
 returns-in-Filled g c = rw (c.in-Filled.is, c.is_filled.ensures) finish
 
 pub returns-in-Empty : goal.returns-in-Empty
-returns-in-Empty g c = rw (c.in-Empty.is, c.is_filled.ensures) finish
+returns-in-Empty g c = rw (c.in-Empty.is, c.is_filled-in-Empty.ensures) finish

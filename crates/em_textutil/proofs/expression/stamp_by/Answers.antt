@@ -5,8 +5,8 @@ use Rattle.em_textutil.proofs.expression.stamp_by.Goals as goal
 pub returns-in-None : goal.returns-in-None
 returns-in-None g c = rw c.in-None.is finish
 
-pub returns-in_err-stamp : goal.returns-in_err-stamp
-returns-in_err-stamp g c = rw c.in-Some.is (asked_err c.from_residual.ensures.1 c.in_err-stamp.ensures.performs)
+pub returns-in_err-stamp-in-Some : goal.returns-in_err-stamp-in-Some
+returns-in_err-stamp-in-Some g c = rw c.in-Some.is (asked_err c.from_residual.ensures.1 c.in_err-stamp.ensures.performs)
 
-pub returns-in-Some : goal.returns-in-Some
-returns-in-Some g c = rw c.in-Some.is (asked_ok c.in_ok-stamp.ensures.performs)
+pub returns-in_ok-stamp-in-Some : goal.returns-in_ok-stamp-in-Some
+returns-in_ok-stamp-in-Some g c = rw c.in-Some.is (asked_ok c.in_ok-stamp.ensures.performs)

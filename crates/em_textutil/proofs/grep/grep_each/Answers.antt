@@ -1,5 +1,6 @@
-use Rattle.std.proofs.Common.{◌≡◌, ◌∙◌, ◌||◌, Bool, true, false, refl, sym, ap}
+use Rattle.std.proofs.Common.{◌≡◌, ◌∙◌, ◌||◌, ◌+◌, drop, Bool, true, false, refl, sym}
 use Rattle.em_base.proofs.Lemmas.{left_at, none_at}
+use Rattle.em_textutil.specs.Jobs.{has_line, some_line}
 use Rattle.em_textutil.proofs.grep.grep_each.Goals as goal
 
 or_assoc : (a b c : Bool) → ((a || b) || c) ≡ (a || (b || c))
@@ -14,7 +15,7 @@ pub loop-source-preserved : goal.loop-source-preserved
 loop-source-preserved c =
     let left = left_at c.args.sources.now c.loop-source.source-index c.source-item.result c.loop-source-test.true c.source-item.is in
     let inv = rw left at c.loop-source.invariant in
-    (rw c.in_ok-here.ensures.done inv.0, rw (c.either-some.ensures, c.in_ok-here.ensures.some) (or_assoc _ _ _ ∙ inv.1))
+    (rw c.in_ok-here.ensures.done inv.0, rw (c.either-some.ensures, c.in_ok-here.ensures.some) (or_assoc c.loop-source.some (has_line c.args.grep.now c.source-item.result.found) (some_line c.args.grep.now (drop (c.loop-source.source-index + 1) c.args.sources.now)) ∙ inv.1))
 
 pub returns-clause-done : goal.returns-clause-done
 returns-clause-done c =
