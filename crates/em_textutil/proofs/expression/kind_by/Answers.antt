@@ -6,7 +6,7 @@ pub returns-in-None : goal.returns-in-None
 returns-in-None g c = rw c.in-None.is finish
 
 pub returns-in_err-kind-in-Some : goal.returns-in_err-kind-in-Some
-returns-in_err-kind-in-Some g c = rw c.in-Some.is (asked_err c.from_residual.ensures.1 c.in_err-kind.ensures.performs)
+returns-in_err-kind-in-Some g c = rw c.in-Some.is (asked_err c.from_residual.ensures.1 c.in_err-kind-in-Some.ensures.performs)
 
 pub returns-in_ok-kind-in-Some : goal.returns-in_ok-kind-in-Some
-returns-in_ok-kind-in-Some g c = rw c.in-Some.is (asked_ok c.in_ok-kind.ensures.performs)
+returns-in_ok-kind-in-Some g c = rw c.in-Some.is (asked_ok c.in_ok-kind-in-Some.ensures.performs)

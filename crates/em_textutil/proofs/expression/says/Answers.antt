@@ -15,7 +15,7 @@ pub returns-in_err-letter-in-Letter : goal.returns-in_err-letter-in-Letter
 returns-in_err-letter-in-Letter g c = ran_out _ refl c.from_residual.ensures.1
 
 pub returns-in_ok-letter-in-Letter : goal.returns-in_ok-letter-in-Letter
-returns-in_ok-letter-in-Letter g c = rw (c.in-Letter.is, c.in_ok-letter.ensures) refused
+returns-in_ok-letter-in-Letter g c = rw (c.in-Letter.is, c.in_ok-letter-in-Letter.ensures) refused
 
 pub returns-in-Syntax : goal.returns-in-Syntax
 returns-in-Syntax g c = rw c.in-Syntax.is finish

@@ -12,4 +12,4 @@ pub returns-in_err-numbers_say-in-Number : goal.returns-in_err-numbers_say-in-Nu
 returns-in_err-numbers_say-in-Number g c = ran_out _ refl c.from_residual.ensures.1
 
 pub returns-in_ok-numbers_say-in-Number : goal.returns-in_ok-numbers_say-in-Number
-returns-in_ok-numbers_say-in-Number g c = rw (c.in-Number.is, c.in_ok-numbers_say.ensures) finish
+returns-in_ok-numbers_say-in-Number g c = rw (c.in-Number.is, c.in_ok-numbers_say-in-Number.ensures) finish
