@@ -34,7 +34,9 @@ fn is_space(byte: u8) -> bool
 fn word_count(text: &[u8]) -> usize
     ensures { result ≡ lines.word_count text.now }
 {
-    text.split(|b| is_space(*b)).filter(|word| !word.is_empty()).count()
+    text.split(|b| is_space(*b))
+        .filter(|word| !word.is_empty())
+        .count()
 }
 
 fn push_if(words: &mut Vec<Text>, alloc: Global, asked: bool, n: usize) -> Result<(), NoMemory>

@@ -173,11 +173,7 @@ fn push_escape<'a>(parts: &mut Vec<Part>, behind: &'a [u8]) -> Result<&'a [u8], 
 }
 
 /// Appends the first part of a text, and gives what stands behind it.
-fn push_part<'a>(
-    parts: &mut Vec<Part>,
-    byte: u8,
-    behind: &'a [u8],
-) -> Result<&'a [u8], FormatNo>
+fn push_part<'a>(parts: &mut Vec<Part>, byte: u8, behind: &'a [u8]) -> Result<&'a [u8], FormatNo>
     ensures ok { IfOk result (λ r. before parts.new.items (format_of r.now)
         ≡ before parts.old.items (format_of (byte ∷ behind.now))) }
     ensures shorter { IfOk result (λ r. length r.now ≤ length behind.now) }
@@ -272,11 +268,7 @@ fn add_part(out: &mut Text, part: Part, words: &[Text]) -> Result<(), NoMemory>
 }
 
 /// Appends what the format writes once, and gives the words that are left.
-fn add_parts<'a>(
-    out: &mut Text,
-    parts: &[Part],
-    words: &'a [Text],
-) -> Result<&'a [Text], NoMemory>
+fn add_parts<'a>(out: &mut Text, parts: &[Part], words: &'a [Text]) -> Result<&'a [Text], NoMemory>
     ensures { IfOk result (λ ws. (out.new ≡ out.old ++ shown parts.now words.now) × (ws.now ≡ left parts.now words.now)) }
 {
     let mut rest = words;

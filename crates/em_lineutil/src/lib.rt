@@ -1,8 +1,8 @@
 //! What the text utilities make of bytes: lines, counts, order, formats, names and the forms of `test`.
 #![tactic(auto)]
 
-mod difference;
 mod count;
+mod difference;
 mod format;
 pub mod laws;
 mod line;
@@ -12,8 +12,8 @@ mod sort;
 mod test;
 mod uniq;
 
-pub use difference::{Comparison, compare};
 pub use count::{Asked, count_line};
+pub use difference::{Comparison, compare};
 pub use format::{FormatNo, Part, faults, format_of, number, printed};
 pub use line::{head, tail};
 pub use name::{base_name, dir_name, without_suffix};

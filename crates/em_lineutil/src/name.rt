@@ -68,7 +68,11 @@ fn or_root(name: &[u8]) -> &[u8]
 fn above(front: &[u8]) -> &[u8]
     ensures { result.now ≡ above front.now }
 {
-    if front.is_empty() { b"." } else { or_root(trimmed(front)) }
+    if front.is_empty() {
+        b"."
+    } else {
+        or_root(trimmed(front))
+    }
 }
 
 /// What stands before the last part of a name: `.` where there is no slash before it, `/` where there are slashes alone. A step for

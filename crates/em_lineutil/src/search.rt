@@ -27,7 +27,11 @@ fn holds(text: &[u8], line: &[u8]) -> bool
 fn fits(whole: bool, text: &[u8], line: &[u8]) -> bool
     ensures { result ≡ fits whole text.now line.now }
 {
-    if whole { line == text } else { holds(text, line) }
+    if whole {
+        line == text
+    } else {
+        holds(text, line)
+    }
 }
 
 fn is_selected(search: &Search, text: &[u8], line: &[u8]) -> bool

@@ -5,7 +5,6 @@ ghost use Rattle.em_lineutil.specs.Tests.{unary_of, binary_of, mode_letter, is_c
 
 use em_base::Text;
 
-
 /// An operator before a word.
 #[derive(Clone, Copy, Debug, PartialEq, Eq)]
 pub enum Unary {

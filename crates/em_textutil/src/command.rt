@@ -25,12 +25,7 @@ use std::alloc::Global;
 
 /// What the job writes of what was read.
 #[tactic(auto, unfolding(crate::specs::Jobs::job_done))]
-fn job_done(
-    alloc: Global,
-    utility: &[u8],
-    job: &Job,
-    sources: &[Source],
-) -> Result<Done, NoMemory>
+fn job_done(alloc: Global, utility: &[u8], job: &Job, sources: &[Source]) -> Result<Done, NoMemory>
     ensures { IfOk result (λ d. d ≡ jobs.job_done utility.now job.now sources.now) }
 {
     match job {

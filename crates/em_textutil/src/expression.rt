@@ -54,10 +54,7 @@ fn stamp_by<V: View>(path: Option<Path>, desk: &mut Desk<V>) -> Result<Option<u6
     }
 }
 
-fn content_by<V: View>(
-    path: Option<Path>,
-    desk: &mut Desk<V>,
-) -> Result<Option<Body>, ExecNo>
+fn content_by<V: View>(path: Option<Path>, desk: &mut Desk<V>) -> Result<Option<Body>, ExecNo>
     ensures { Performs is_want V.tells desk.old desk.new result (content_by path) }
 {
     match path {
@@ -149,12 +146,7 @@ fn says_unary<V: View>(
     }
 }
 
-fn numbers_say(
-    alloc: Global,
-    relation: Relation,
-    a: &[u8],
-    b: &[u8],
-) -> Result<Verdict, NoMemory>
+fn numbers_say(alloc: Global, relation: Relation, a: &[u8], b: &[u8]) -> Result<Verdict, NoMemory>
     ensures { IfOk result (λ v. v ≡ numbers_say relation (number_of a.now) (number_of b.now) a.now b.now) }
 {
     match number(a) {
@@ -183,7 +175,11 @@ fn is_above(s: Option<u64>, t: Option<u64>) -> bool
 fn is_newest(first: bool, s: Option<u64>, t: Option<u64>) -> bool
     ensures { result ≡ expressions.is_newest first s t }
 {
-    if first { is_above(s, t) } else { is_above(t, s) }
+    if first {
+        is_above(s, t)
+    } else {
+        is_above(t, s)
+    }
 }
 
 fn says_stamps<V: View>(
@@ -243,7 +239,14 @@ fn says<V: View>(
         Form::Word => Ok(Verdict::Is(is_filled(word_at(words, 0)))),
         Form::Unary(unary) => says_unary(alloc, cwd, unary, word_at(words, 1), desk),
         Form::Binary(binary) => {
-            says_binary(alloc, cwd, binary, word_at(words, 0), word_at(words, 2), desk)
+            says_binary(
+                alloc,
+                cwd,
+                binary,
+                word_at(words, 0),
+                word_at(words, 2),
+                desk,
+            )
         }
         Form::Letter(byte) => Err(ExecNo::Refused(letter(alloc, byte)?)),
         Form::Syntax => Ok(Verdict::Syntax),
@@ -267,7 +270,11 @@ pub(crate) fn answer(alloc: Global, negated: bool, verdict: Verdict) -> Result<D
             fail(alloc, &mut done, b"test", word.bytes(), Reason::NotANumber)?;
         }
         Verdict::Syntax => {
-            write(&mut done, 2, Text::from_slice(alloc, b"emake: test: syntax error\n")?)?;
+            write(
+                &mut done,
+                2,
+                Text::from_slice(alloc, b"emake: test: syntax error\n")?,
+            )?;
             done.status = 2;
         }
     }

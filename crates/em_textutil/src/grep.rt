@@ -36,12 +36,7 @@ fn count(alloc: Global, front: Text, lines: usize) -> Result<Text, NoMemory>
 }
 
 /// What is written of the lines that were selected.
-fn shown_lines(
-    alloc: Global,
-    grep: &Grep,
-    name: &Text,
-    lines: &[&[u8]],
-) -> Result<Text, NoMemory>
+fn shown_lines(alloc: Global, grep: &Grep, name: &Text, lines: &[&[u8]]) -> Result<Text, NoMemory>
     ensures { IfOk result (λ t. t ≡ shown_lines grep.now name.now (map (λ l. l.now) lines.now)) }
 {
     if grep.quiet {
@@ -73,12 +68,7 @@ fn grep_bytes(
 }
 
 /// Writes the fault of a file.
-fn grep_fault(
-    alloc: Global,
-    name: &Text,
-    reason: Reason,
-    done: &mut Done,
-) -> Result<bool, NoMemory>
+fn grep_fault(alloc: Global, name: &Text, reason: Reason, done: &mut Done) -> Result<bool, NoMemory>
     ensures done { OnOk result (done.new ≡ faulted (codes "grep") name.now reason done.old) }
     ensures some { IfOk result (λ some. some ≡ false) }
 {
@@ -139,11 +129,7 @@ fn grep_status(some: bool, status: u8) -> u8
 }
 
 /// The lines that are selected, of one file after another.
-pub(crate) fn grep_done(
-    alloc: Global,
-    grep: &Grep,
-    sources: &[Source],
-) -> Result<Done, NoMemory>
+pub(crate) fn grep_done(alloc: Global, grep: &Grep, sources: &[Source]) -> Result<Done, NoMemory>
     ensures { IfOk result (λ d. d ≡ jobs.grep_done grep.now sources.now) }
 {
     let mut done = begun(alloc);

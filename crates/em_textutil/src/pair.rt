@@ -43,12 +43,7 @@ fn said(alloc: Global, stream: u8, text: Text) -> Result<Done, NoMemory>
     Ok(done)
 }
 
-fn compared(
-    alloc: Global,
-    a: &Text,
-    b: &Text,
-    comparison: Comparison,
-) -> Result<Done, NoMemory>
+fn compared(alloc: Global, a: &Text, b: &Text, comparison: Comparison) -> Result<Done, NoMemory>
     ensures { IfOk result (λ d. d ≡ compared a.now b.now comparison) }
 {
     match comparison {

@@ -9,9 +9,7 @@ ghost use Rattle.em_textutil.specs.Plain.{line, strange_words, print_words, base
 
 use crate::name::Plain;
 use em_base::{Construct, NoMemory, Text};
-use em_lineutil::{
-    FormatNo, base_name, dir_name, faults, format_of, printed, without_suffix,
-};
+use em_lineutil::{FormatNo, base_name, dir_name, faults, format_of, printed, without_suffix};
 use em_utility::{Reason, begun, fail, read_options, write};
 use em_view::{Done, ExecNo};
 use em_wordlist::join_texts;
@@ -47,11 +45,7 @@ fn strange_words(alloc: Global, done: &mut Done, words: &[Text]) -> Result<(), N
     Ok(())
 }
 
-fn print_parts(
-    alloc: Global,
-    parts: &[em_lineutil::Part],
-    words: &[Text],
-) -> Result<Done, NoMemory>
+fn print_parts(alloc: Global, parts: &[em_lineutil::Part], words: &[Text]) -> Result<Done, NoMemory>
     ensures { IfOk result (λ d. d ≡ plain.printed_done parts.now words.now) }
 {
     let mut done = begun(alloc);
@@ -81,7 +75,10 @@ fn base_words(alloc: Global, words: &[Text]) -> Result<Done, NoMemory>
     match words {
         [] => wrong(alloc, b"basename", Reason::MissingOperand),
         [name] => line(alloc, base_name(name.bytes())),
-        [name, suffix] => line(alloc, without_suffix(base_name(name.bytes()), suffix.bytes())),
+        [name, suffix] => line(
+            alloc,
+            without_suffix(base_name(name.bytes()), suffix.bytes()),
+        ),
         _ => wrong(alloc, b"basename", Reason::ExtraOperand),
     }
 }

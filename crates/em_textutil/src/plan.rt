@@ -36,15 +36,14 @@ fn at_most_one(alloc: Global, filter: Filter, operands: &[Text]) -> Plan
 fn lines_of(tail: bool, n: u64) -> Filter
     ensures { result ≡ plans.lines_of tail n }
 {
-    if tail { Filter::Tail(n) } else { Filter::Head(n) }
+    if tail {
+        Filter::Tail(n)
+    } else {
+        Filter::Head(n)
+    }
 }
 
-fn by_number(
-    alloc: Global,
-    tail: bool,
-    word: &Text,
-    operands: &[Text],
-) -> Result<Plan, NoMemory>
+fn by_number(alloc: Global, tail: bool, word: &Text, operands: &[Text]) -> Result<Plan, NoMemory>
     ensures { IfOk result (λ p. p ≡ by_number (plans.count_of word.now) tail word.now operands.now) }
 {
     match number(u64::MAX, word.bytes()) {
@@ -106,20 +105,16 @@ fn grep_plan(alloc: Global, options: &Options, operands: &[Text]) -> Result<Plan
 {
     match operands.split_first() {
         None => Ok(Plan::Wrong(Text::new(alloc), Reason::MissingOperand)),
-        Some((pattern, files)) => Ok(
-            Plan::Read(
-                Job::Grep(Grep {
-                    search: Search {
-                        whole: options.has(b'x'),
-                        inverted: options.has(b'v'),
-                    },
-                    counted: options.has(b'c'),
-                    quiet: options.has(b'q'),
-                    several: files.len() > 1,
-                    pattern: pattern.copy(alloc)?,
-                }),
-            ),
-        ),
+        Some((pattern, files)) => Ok(Plan::Read(Job::Grep(Grep {
+            search: Search {
+                whole: options.has(b'x'),
+                inverted: options.has(b'v'),
+            },
+            counted: options.has(b'c'),
+            quiet: options.has(b'q'),
+            several: files.len() > 1,
+            pattern: pattern.copy(alloc)?,
+        }))),
     }
 }
 
@@ -144,14 +139,10 @@ pub(crate) fn planned(
         Reading::Head => Ok(counted_plan(alloc, options, false, operands)?),
         Reading::Tail => Ok(counted_plan(alloc, options, true, operands)?),
         Reading::Wc => Ok(at_most_one(alloc, Filter::Count(asked_of(options)), operands)),
-        Reading::Sort => Ok(
-            Plan::Read(
-                Job::Sort(Order {
-                    backwards: options.has(b'r'),
-                    unique: options.has(b'u'),
-                }),
-            ),
-        ),
+        Reading::Sort => Ok(Plan::Read(Job::Sort(Order {
+            backwards: options.has(b'r'),
+            unique: options.has(b'u'),
+        }))),
         Reading::Uniq => Ok(at_most_one(alloc, Filter::Uniq(options.has(b'c')), operands)),
         Reading::Cmp => Ok(pair_plan(alloc, options, operands)),
         Reading::Grep => {
@@ -172,7 +163,13 @@ pub(crate) fn given_options(
 ) -> Result<Options, ExecNo>
     ensures { is_free is_want result ≡ false → result ≡ given_options reading words.now }
 {
-    read_options(alloc, name_of(reading), letters_of(reading), valued_of(reading), words)
+    read_options(
+        alloc,
+        name_of(reading),
+        letters_of(reading),
+        valued_of(reading),
+        words,
+    )
 }
 
 /// The files among the operands.

@@ -25,12 +25,7 @@ fn name_given(alloc: Global, name: &Text) -> Result<Option<Text>, NoMemory>
 }
 
 /// What the filter writes of the bytes.
-fn shown_by(
-    alloc: Global,
-    filter: &Filter,
-    name: &Text,
-    bytes: &[u8],
-) -> Result<Text, NoMemory>
+fn shown_by(alloc: Global, filter: &Filter, name: &Text, bytes: &[u8]) -> Result<Text, NoMemory>
     ensures { IfOk result (λ t. t ≡ shown_by filter.now name.now bytes.now) }
 {
     match filter {

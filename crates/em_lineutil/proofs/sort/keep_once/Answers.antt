@@ -10,7 +10,7 @@ kept : (k : Bor (List ℕ)) (ls : List (Bor (List ℕ))) → map (λ (l : Bor (L
 kept k [] = refl
 kept k (l ∷ ls) = by_cases (pointwise nat_eq l.now k.now)
     (λ b. map (λ (l : Bor (List ℕ)). l.now) (cond b (dedup_from (λ x y. pointwise nat_eq x.now y.now) k ls) (k ∷ dedup_from (λ x y. pointwise nat_eq x.now y.now) l ls))
-      ≡ cond b (dedup_from (pointwise nat_eq) k.now (map (λ l. l.now) ls)) (k.now ∷ dedup_from (pointwise nat_eq) l.now (map (λ l. l.now) ls)))
+    ≡ cond b (dedup_from (pointwise nat_eq) k.now (map (λ l. l.now) ls)) (k.now ∷ dedup_from (pointwise nat_eq) l.now (map (λ l. l.now) ls)))
     (λ _. kept k ls)
     (λ _. ap (λ (ms : List (List ℕ)). k.now ∷ ms) (kept l ls))
 
