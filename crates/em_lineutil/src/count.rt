@@ -67,8 +67,8 @@ fn push_name(words: &mut Vec<Text>, name: Option<Text>) -> Result<(), NoMemory>
     Ok(())
 }
 
-/// The counts that are asked for and then the name, if there is one, with a space between each two and a newline behind. A step for
-/// each byte and count.
+/// The counts that are asked for and then the name, if there is one, with a space between each two
+/// and a newline behind. A step for each byte and count.
 #[tactic(auto, unfolding(crate::specs::Lines::count_line))]
 pub fn count_line(
     alloc: Global,

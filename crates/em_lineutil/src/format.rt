@@ -75,8 +75,8 @@ fn signed(text: &[u8], value: u64) -> i64
     }
 }
 
-/// The number that the text is, with a sign or none and 1 to 18 digits, of which the first ones may be zeros; `None` exactly where it is
-/// none.
+/// The number that the text is, with a sign or none and 1 to 18 digits, of which the first ones may
+/// be zeros; `None` exactly where it is none.
 pub fn number(text: &[u8]) -> Option<i64>
     ensures { result ≡ number_of text.now }
 {
@@ -157,7 +157,8 @@ fn push_directive<'a>(parts: &mut Vec<Part>, behind: &'a [u8]) -> Result<&'a [u8
     Ok(rest)
 }
 
-/// Appends a backslash, or what it stands for with the byte behind it, and gives what stands behind.
+/// Appends a backslash, or what it stands for with the byte behind it, and gives what stands
+/// behind.
 fn push_escape<'a>(parts: &mut Vec<Part>, behind: &'a [u8]) -> Result<&'a [u8], FormatNo>
     ensures ok { IfOk result (λ r. before parts.new.items (format_of r.now)
         ≡ before parts.old.items (format_of (92 ∷ behind.now))) }
@@ -190,9 +191,10 @@ fn push_part<'a>(parts: &mut Vec<Part>, byte: u8, behind: &'a [u8]) -> Result<&'
     Ok(behind)
 }
 
-/// The parts of a format: `%s`, `%d`, and bytes. `%%` is a `%`; `\n`, `\t` and `\\` are a newline, a tab and a backslash, and a
-/// backslash before another byte stays as both. `Refused` comes exactly where another byte or none stands behind a `%`, with the first
-/// such byte. A step for each byte.
+/// The parts of a format: `%s`, `%d`, and bytes. `%%` is a `%`; `\n`, `\t` and `\\` are a newline,
+/// a tab and a backslash, and a backslash before another byte stays as both. `Refused` comes
+/// exactly where another byte or none stands behind a `%`, with the first such byte. A step for
+/// each byte.
 pub fn format_of(alloc: Global, text: &[u8]) -> Result<Seq<Part>, FormatNo>
     ensures ok { IfOk result (λ ps. Ok ps ≡ format_of text.now) }
     ensures err { IfErr result (λ e. (e ≡ FormatNo.NoMemory) ⊎ (refused e ≡ format_of text.now)) }
@@ -279,9 +281,9 @@ fn add_parts<'a>(out: &mut Text, parts: &[Part], words: &'a [Text]) -> Result<&'
     Ok(rest)
 }
 
-/// What the format writes of the words: it is written again as long as words are left, if it takes any. A word that is missing is empty,
-/// or 0; of one that should be a number and isn't nothing is written. A step for each byte that is written, and for each part of the
-/// format each time.
+/// What the format writes of the words: it is written again as long as words are left, if it takes
+/// any. A word that is missing is empty, or 0; of one that should be a number and isn't nothing is
+/// written. A step for each byte that is written, and for each part of the format each time.
 #[tactic(auto, unfolding(crate::specs::Formats::printed))]
 pub fn printed(alloc: Global, parts: &[Part], words: &[Text]) -> Result<Text, NoMemory>
     ensures { IfOk result (λ t. t ≡ formats.printed parts.now words.now) }
@@ -332,8 +334,8 @@ fn push_all_strange<'a>(
     Ok(rest)
 }
 
-/// The words that should be numbers and aren't, in the order in which the format takes them. A step for each byte of the words, and for
-/// each part of the format each time.
+/// The words that should be numbers and aren't, in the order in which the format takes them. A step
+/// for each byte of the words, and for each part of the format each time.
 #[tactic(auto, unfolding(crate::specs::Formats::faults))]
 pub fn faults(alloc: Global, parts: &[Part], words: &[Text]) -> Result<Seq<Text>, NoMemory>
     ensures { IfOk result (λ ws. ws ≡ formats.faults parts.now words.now) }

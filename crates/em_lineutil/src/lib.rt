@@ -1,4 +1,5 @@
-//! What the text utilities make of bytes: lines, counts, order, formats, names and the forms of `test`.
+//! What the text utilities make of bytes: lines, counts, order, formats, names and the forms of
+//! `test`.
 #![tactic(auto)]
 
 mod count;

@@ -26,8 +26,8 @@ fn trimmed(name: &[u8]) -> &[u8]
     &name[..name.len() - slashes_behind(name)]
 }
 
-/// The last part of a name: what stands behind the last slash that isn't at its end. Of slashes alone one is left, and the empty
-/// name stays. A step for each byte; takes no memory.
+/// The last part of a name: what stands behind the last slash that isn't at its end. Of slashes
+/// alone one is left, and the empty name stays. A step for each byte; takes no memory.
 #[tactic(auto, unfolding(crate::specs::Names::base_name))]
 pub fn base_name(name: &[u8]) -> &[u8]
     ensures { result.now ≡ names.base_name name.now }
@@ -47,7 +47,8 @@ fn has_suffix(name: &[u8], suffix: &[u8]) -> bool
     name.ends_with(suffix) && name != suffix
 }
 
-/// The name without the suffix, if it ends with it and is longer. A step for each byte of the suffix; takes no memory.
+/// The name without the suffix, if it ends with it and is longer. A step for each byte of the
+/// suffix; takes no memory.
 #[tactic(auto, unfolding(crate::specs::Names::without_suffix))]
 pub fn without_suffix<'a>(name: &'a [u8], suffix: &[u8]) -> &'a [u8]
     ensures { result.now ≡ names.without_suffix suffix.now name.now }
@@ -75,8 +76,8 @@ fn above(front: &[u8]) -> &[u8]
     }
 }
 
-/// What stands before the last part of a name: `.` where there is no slash before it, `/` where there are slashes alone. A step for
-/// each byte; takes no memory.
+/// What stands before the last part of a name: `.` where there is no slash before it, `/` where
+/// there are slashes alone. A step for each byte; takes no memory.
 #[tactic(auto, unfolding(crate::specs::Names::dir_name))]
 pub fn dir_name(name: &[u8]) -> &[u8]
     ensures { result.now ≡ names.dir_name name.now }

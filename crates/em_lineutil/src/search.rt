@@ -44,8 +44,8 @@ fn is_selected(search: &Search, text: &[u8], line: &[u8]) -> bool
     }
 }
 
-/// The lines that hold the text, or are it, or don't, each with its newline. The newline is no part of what is searched. Steps for
-/// each byte.
+/// The lines that hold the text, or are it, or don't, each with its newline. The newline is no part
+/// of what is searched. Steps for each byte.
 pub fn selected<'a>(
     alloc: Global,
     search: &Search,

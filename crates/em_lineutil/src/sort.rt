@@ -73,8 +73,8 @@ fn with_newlines(alloc: Global, lines: &[&[u8]]) -> Result<Text, NoMemory>
     Ok(text)
 }
 
-/// The lines of all texts in byte order, each with a newline. The order looks at a line without its newline. Steps: n log n
-/// comparisons of n lines, and one for each byte.
+/// The lines of all texts in byte order, each with a newline. The order looks at a line without its
+/// newline. Steps: n log n comparisons of n lines, and one for each byte.
 #[tactic(auto, unfolding(crate::specs::Sorting::sort_text))]
 pub fn sort_text(alloc: Global, order: &Order, texts: &[&[u8]]) -> Result<Text, NoMemory>
     ensures { IfOk result (λ t. t ≡ sorting.sort_text order.now (map (λ t. t.now) texts.now)) }

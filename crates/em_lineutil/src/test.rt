@@ -165,8 +165,8 @@ fn binary_form(operator: &[u8]) -> Form
     }
 }
 
-/// The form of an expression without a `!` before it, by the number of its words; of two words the first is the operator, of three the
-/// second.
+/// The form of an expression without a `!` before it, by the number of its words; of two words the
+/// first is the operator, of three the second.
 pub fn form_of(words: &[Text]) -> Form
     ensures { result ≡ tests.form_of words.now }
 {

@@ -28,8 +28,9 @@ fn add_run(out: &mut Text, counted: bool, first: &[u8], count: usize) -> Result<
     out.add(first)
 }
 
-/// Of adjacent lines that are equal the first one; where they are counted, behind their number, which is right in seven places, and a
-/// space. A last line without a newline is equal to one with it. A step for each byte.
+/// Of adjacent lines that are equal the first one; where they are counted, behind their number,
+/// which is right in seven places, and a space. A last line without a newline is equal to one with
+/// it. A step for each byte.
 #[tactic(auto, unfolding(crate::specs::Runs::uniq_text))]
 pub fn uniq_text(alloc: Global, counted: bool, text: &[u8]) -> Result<Text, NoMemory>
     ensures { IfOk result (λ t. t ≡ runs.uniq_text counted text.now) }

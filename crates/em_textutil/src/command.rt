@@ -139,14 +139,17 @@ fn run_by<V: View>(
     }
 }
 
-/// Does what the command says whose first word names a text utility: `cat`, `echo`, `printf`, `head`, `tail`, `wc`, `sort`, `uniq`, `cmp`,
-/// `grep`, `basename`, `dirname`, `test`, `[`, `true`, `false` or `:`; `None` exactly where it names none of them. Files are read
-/// against the working directory, and nothing is changed. What is left is the status and what was written, a piece for each file's
-/// output and each error line. POSIX.1-2017, Shell and Utilities; docs/FORMATS.md has the differences.
+/// Does what the command says whose first word names a text utility: `cat`, `echo`, `printf`,
+/// `head`, `tail`, `wc`, `sort`, `uniq`, `cmp`, `grep`, `basename`, `dirname`, `test`, `[`, `true`,
+/// `false` or `:`; `None` exactly where it names none of them. Files are read against the working
+/// directory, and nothing is changed. What is left is the status and what was written, a piece for
+/// each file's output and each error line. POSIX.1-2017, Shell and Utilities; docs/FORMATS.md has
+/// the differences.
 ///
-/// Errors: `Refused` for an option that isn't listed, for `grep` without `-F`, for `-r`, `-w` and `-x` of `test`, and for a directive of
-/// `printf` but `%s`, `%d` and `%%`; `Spent`, where the fuel doesn't suffice for a question; `NoMemory`. It costs what the desk takes
-/// for each question. Steps for each byte that is read or written, times log n for the n lines of `sort`.
+/// Errors: `Refused` for an option that isn't listed, for `grep` without `-F`, for `-r`, `-w` and
+/// `-x` of `test`, and for a directive of `printf` but `%s`, `%d` and `%%`; `Spent`, where the fuel
+/// doesn't suffice for a question; `NoMemory`. It costs what the desk takes for each question.
+/// Steps for each byte that is read or written, times log n for the n lines of `sort`.
 pub fn utility<V: View>(
     alloc: Global,
     words: &[Text],

@@ -105,7 +105,8 @@ fn input_alone(alloc: Global, input: &[u8]) -> Result<Seq<Source>, NoMemory>
     Ok(all)
 }
 
-/// What the utility reads: each operand, or the input where there is none; where a dash is the input, also for a `-`.
+/// What the utility reads: each operand, or the input where there is none; where a dash is the
+/// input, also for a `-`.
 pub(crate) fn read_all<V: View>(
     alloc: Global,
     cwd: &Path,

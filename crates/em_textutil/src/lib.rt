@@ -1,4 +1,5 @@
-//! The text utilities: cat, echo, printf, head, tail, wc, sort, uniq, cmp, grep -F, basename, dirname, test, `[`, true, false and `:`.
+//! The text utilities: cat, echo, printf, head, tail, wc, sort, uniq, cmp, grep -F, basename,
+//! dirname, test, `[`, true, false and `:`.
 #![tactic(auto)]
 
 mod bracket;

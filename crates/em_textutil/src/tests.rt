@@ -61,7 +61,8 @@ fn add(alloc: Global, tree: &mut Tree, text: &[u8], node: Node) -> Result<(), Fa
     Ok(())
 }
 
-/// The tree: `/f` holds lines, `/g` others and is newer, `/e` nothing, `/l` a line without a newline behind it; `/d` is a directory.
+/// The tree: `/f` holds lines, `/g` others and is newer, `/e` nothing, `/l` a line without a
+/// newline behind it; `/d` is a directory.
 fn state(alloc: Global) -> Result<State, Fail> {
     let mut tree = Tree::new(alloc, 1)?;
     for (name, bytes, stamp) in [
@@ -185,7 +186,8 @@ static CASES: [Case; 83] = [
     (": x", "", "0"),
 ];
 
-/// Expected bytes: POSIX's pages, and the GNU utilities run by hand, but for the messages and what docs/FORMATS.md lists.
+/// Expected bytes: POSIX's pages, and the GNU utilities run by hand, but for the messages and what
+/// docs/FORMATS.md lists.
 #[test]
 fn commands_leave(rt: HostRuntime) -> Result<(), Fail> {
     let alloc = rt.alloc();
