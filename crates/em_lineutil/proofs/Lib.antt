@@ -1,0 +1,4 @@
+mod Passing
+mod Places
+mod Digits
+mod Parting

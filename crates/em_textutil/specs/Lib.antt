@@ -1,0 +1,17 @@
+pub use Rattle.em_utility.specs.Operands
+pub use Rattle.em_utility.specs.Options
+pub use Rattle.em_utility.specs.Writing
+pub use Rattle.em_utility.specs.Reasons
+pub use Rattle.em_lineutil.specs.Lines
+pub use Rattle.em_lineutil.specs.Sorting
+pub use Rattle.em_lineutil.specs.Runs
+pub use Rattle.em_lineutil.specs.Searching
+pub use Rattle.em_lineutil.specs.Formats
+pub use Rattle.em_lineutil.specs.Names
+pub use Rattle.em_lineutil.specs.Tests
+pub mod Sources
+pub mod Jobs
+pub mod Plans
+pub mod Plain
+pub mod Expressions
+pub mod Utilities
