@@ -15,7 +15,8 @@ pub fn law_quoted()
 pub fn law_bare()
     ensures { (b : ℕ) (bytes : List ℕ) → b ≢ 35 → All (λ c. is_plain c ≡ true) (b ∷ bytes)
         → is_assigning (whole_start (reserved (b ∷ bytes)) (b ∷ bytes)) ≡ false
-        → lexed (b ∷ bytes) ≡ bare_word (whole_start (reserved (b ∷ bytes)) (b ∷ bytes)) (b ∷ bytes) }
+        → lexed (b ∷ bytes)
+        ≡ bare_word (whole_start (reserved (b ∷ bytes)) (b ∷ bytes)) (b ∷ bytes) }
 {}
 
 /// Where a line has a fault, every lexeme ends at its place or before.

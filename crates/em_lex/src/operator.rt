@@ -279,7 +279,8 @@ impl Lexer {
 
     /// Puts the `)` that closes the innermost of what is open.
     fn close_by(&mut self, b: Byte) -> Result<(), NoMemory>
-        ensures { OnOk result (self.new ≡ operators.closed_by (slice_get self.old.frames 0) self.old b) }
+        ensures { OnOk result
+            (self.new ≡ operators.closed_by (slice_get self.old.frames 0) self.old b) }
     {
         match self.top() {
             Some(Frame::Substitution(_, spot)) => {

@@ -53,7 +53,8 @@ fn add_moved(
     places: &[usize],
     close: usize,
 ) -> Result<(), NoMemory>
-    ensures { OnOk result (items.new ≡ items.old ++ map (lexing.moved places.now close) inner.items) }
+    ensures { OnOk result
+        (items.new ≡ items.old ++ map (lexing.moved places.now close) inner.items) }
 {
     for lexeme in inner {
         items.push(moved(places, close, lexeme))?;

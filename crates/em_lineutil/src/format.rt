@@ -271,7 +271,8 @@ fn add_part(out: &mut Text, part: Part, words: &[Text]) -> Result<(), NoMemory>
 
 /// Appends what the format writes once, and gives the words that are left.
 fn add_parts<'a>(out: &mut Text, parts: &[Part], words: &'a [Text]) -> Result<&'a [Text], NoMemory>
-    ensures { IfOk result (λ ws. (out.new ≡ out.old ++ shown parts.now words.now) × (ws.now ≡ left parts.now words.now)) }
+    ensures { IfOk result (λ ws. (out.new ≡ out.old ++ shown parts.now words.now)
+        × (ws.now ≡ left parts.now words.now)) }
 {
     let mut rest = words;
     for part in parts {
@@ -324,7 +325,8 @@ fn push_all_strange<'a>(
     parts: &[Part],
     words: &'a [Text],
 ) -> Result<&'a [Text], NoMemory>
-    ensures { IfOk result (λ ws. (all.new ≡ all.old ++ strange parts.now words.now) × (ws.now ≡ left parts.now words.now)) }
+    ensures { IfOk result (λ ws. (all.new ≡ all.old ++ strange parts.now words.now)
+        × (ws.now ≡ left parts.now words.now)) }
 {
     let mut rest = words;
     for part in parts {

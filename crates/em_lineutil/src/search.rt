@@ -52,7 +52,8 @@ pub fn selected<'a>(
     text: &[u8],
     file: &'a [u8],
 ) -> Result<Vec<&'a [u8]>, NoMemory>
-    ensures { IfOk result (λ v. map (λ l. l.now) v.items ≡ searching.selected search.now text.now file.now) }
+    ensures { IfOk result
+        (λ v. map (λ l. l.now) v.items ≡ searching.selected search.now text.now file.now) }
 {
     let mut lines = lines(alloc, file)?;
     lines.retain(|line| is_selected(search, text, line));

@@ -20,7 +20,8 @@ pub struct Order {
 
 /// Appends the text's lines, without their newlines.
 fn push_lines<'a>(all: &mut Vec<&'a [u8]>, text: &'a [u8]) -> Result<(), NoMemory>
-    ensures { OnOk result (map (λ l. l.now) all.new.items ≡ map (λ l. l.now) all.old.items ++ bare_lines text.now) }
+    ensures { OnOk result
+        (map (λ l. l.now) all.new.items ≡ map (λ l. l.now) all.old.items ++ bare_lines text.now) }
 {
     for line in text.lines_with_terminator() {
         all.push(bare(line))?;
@@ -30,7 +31,8 @@ fn push_lines<'a>(all: &mut Vec<&'a [u8]>, text: &'a [u8]) -> Result<(), NoMemor
 
 /// The lines of all texts, without their newlines.
 fn all_lines<'a>(alloc: Global, texts: &[&'a [u8]]) -> Result<Vec<&'a [u8]>, NoMemory>
-    ensures { IfOk result (λ v. map (λ l. l.now) v.items ≡ flat_map bare_lines (map (λ t. t.now) texts.now)) }
+    ensures { IfOk result
+        (λ v. map (λ l. l.now) v.items ≡ flat_map bare_lines (map (λ t. t.now) texts.now)) }
 {
     let mut all = Vec::new(alloc);
     for text in texts {
@@ -54,7 +56,8 @@ fn keep_once(lines: &mut Vec<&[u8]>, unique: bool)
 }
 
 fn turn(lines: &mut Vec<&[u8]>, backwards: bool)
-    ensures { map (λ l. l.now) lines.new.items ≡ turned backwards (map (λ l. l.now) lines.old.items) }
+    ensures { map (λ l. l.now) lines.new.items
+        ≡ turned backwards (map (λ l. l.now) lines.old.items) }
 {
     if backwards {
         lines.reverse();

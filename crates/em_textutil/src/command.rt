@@ -62,7 +62,8 @@ fn carried<V: View>(
     plan: &Plan,
     desk: &mut Desk<V>,
 ) -> Result<Done, ExecNo>
-    ensures { Performs is_want V.tells desk.old desk.new result (carried cwd.now reading options.now input.now operands.now plan.now) }
+    ensures { Performs is_want V.tells desk.old desk.new result
+        (carried cwd.now reading options.now input.now operands.now plan.now) }
 {
     match plan {
         Plan::Wrong(word, reason) => Ok(wrong_done(alloc, reading, options, word, *reason)?),
@@ -83,7 +84,8 @@ fn with_options<V: View>(
     options: &Options,
     desk: &mut Desk<V>,
 ) -> Result<Done, ExecNo>
-    ensures { Performs is_want V.tells desk.old desk.new result (with_options cwd.now reading input.now words.now options.now) }
+    ensures { Performs is_want V.tells desk.old desk.new result
+        (with_options cwd.now reading input.now words.now options.now) }
 {
     let operands = options.operands(words);
     let plan = planned(alloc, reading, options, operands)?;
@@ -99,7 +101,8 @@ fn reads<V: View>(
     words: &[Text],
     desk: &mut Desk<V>,
 ) -> Result<Done, ExecNo>
-    ensures { Performs is_want V.tells desk.old desk.new result (reads cwd.now reading input.now words.now) }
+    ensures { Performs is_want V.tells desk.old desk.new result
+        (reads cwd.now reading input.now words.now) }
 {
     let options = given_options(alloc, reading, words)?;
     with_options(alloc, cwd, reading, input, words, &options, desk)
@@ -113,7 +116,8 @@ fn run<V: View>(
     words: &[Text],
     desk: &mut Desk<V>,
 ) -> Result<Done, ExecNo>
-    ensures { Performs is_want V.tells desk.old desk.new result (run cwd.now utility input.now words.now) }
+    ensures { Performs is_want V.tells desk.old desk.new result
+        (run cwd.now utility input.now words.now) }
 {
     match utility {
         Utility::Plain(plain) => plain_done(alloc, plain, words),
@@ -131,7 +135,8 @@ fn run_by<V: View>(
     words: &[Text],
     desk: &mut Desk<V>,
 ) -> Result<Option<Done>, ExecNo>
-    ensures { Performs is_want V.tells desk.old desk.new result (run_by utility cwd.now input.now words.now) }
+    ensures { Performs is_want V.tells desk.old desk.new result
+        (run_by utility cwd.now input.now words.now) }
 {
     match utility {
         None => Ok(None),
@@ -157,7 +162,8 @@ pub fn utility<V: View>(
     cwd: &Path,
     desk: &mut Desk<V>,
 ) -> Result<Option<Done>, ExecNo>
-    ensures { Performs is_want V.tells desk.old desk.new result (utilities.utility words.now input.now cwd.now) }
+    ensures { Performs is_want V.tells desk.old desk.new result
+        (utilities.utility words.now input.now cwd.now) }
 {
     match words.split_first() {
         None => Ok(None),

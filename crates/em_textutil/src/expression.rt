@@ -134,7 +134,8 @@ fn says_unary<V: View>(
     word: &[u8],
     desk: &mut Desk<V>,
 ) -> Result<Verdict, ExecNo>
-    ensures { Performs is_want V.tells desk.old desk.new result (says_unary cwd.now unary word.now) }
+    ensures { Performs is_want V.tells desk.old desk.new result
+        (says_unary cwd.now unary word.now) }
 {
     match unary {
         Unary::Filled => Ok(Verdict::Is(is_filled(word))),
@@ -147,7 +148,8 @@ fn says_unary<V: View>(
 }
 
 fn numbers_say(alloc: Global, relation: Relation, a: &[u8], b: &[u8]) -> Result<Verdict, NoMemory>
-    ensures { IfOk result (λ v. v ≡ numbers_say relation (number_of a.now) (number_of b.now) a.now b.now) }
+    ensures { IfOk result
+        (λ v. v ≡ numbers_say relation (number_of a.now) (number_of b.now) a.now b.now) }
 {
     match number(a) {
         None => Ok(Verdict::Strange(Text::from_slice(alloc, a)?)),
@@ -190,7 +192,8 @@ fn says_stamps<V: View>(
     b: &[u8],
     desk: &mut Desk<V>,
 ) -> Result<Verdict, ExecNo>
-    ensures { Performs is_want V.tells desk.old desk.new result (says_stamps cwd.now first a.now b.now) }
+    ensures { Performs is_want V.tells desk.old desk.new result
+        (says_stamps cwd.now first a.now b.now) }
 {
     let path = path_of(alloc, cwd, a)?;
     let other = path_of(alloc, cwd, b)?;
@@ -207,7 +210,8 @@ fn says_binary<V: View>(
     b: &[u8],
     desk: &mut Desk<V>,
 ) -> Result<Verdict, ExecNo>
-    ensures { Performs is_want V.tells desk.old desk.new result (says_binary cwd.now binary a.now b.now) }
+    ensures { Performs is_want V.tells desk.old desk.new result
+        (says_binary cwd.now binary a.now b.now) }
 {
     match binary {
         Binary::Same => Ok(Verdict::Is(a == b)),

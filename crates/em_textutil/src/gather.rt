@@ -58,7 +58,8 @@ fn found_in<V: View>(
     name: &[u8],
     desk: &mut Desk<V>,
 ) -> Result<Found, ExecNo>
-    ensures { Performs is_want V.tells desk.old desk.new result (found_in cwd.now dashed input.now name.now) }
+    ensures { Performs is_want V.tells desk.old desk.new result
+        (found_in cwd.now dashed input.now name.now) }
 {
     if is_input(dashed, name) {
         Ok(input_found(alloc, input)?)
@@ -85,7 +86,8 @@ fn sources<V: View>(
     names: &[Text],
     desk: &mut Desk<V>,
 ) -> Result<Seq<Source>, ExecNo>
-    ensures { Performs is_want V.tells desk.old desk.new result (sources.sources cwd.now dashed input.now [] names.now) }
+    ensures { Performs is_want V.tells desk.old desk.new result
+        (sources.sources cwd.now dashed input.now [] names.now) }
 {
     let mut all = Seq::new(alloc);
     for name in names {
@@ -115,7 +117,8 @@ pub(crate) fn read_all<V: View>(
     names: &[Text],
     desk: &mut Desk<V>,
 ) -> Result<Seq<Source>, ExecNo>
-    ensures { Performs is_want V.tells desk.old desk.new result (read_all cwd.now dashed input.now names.now) }
+    ensures { Performs is_want V.tells desk.old desk.new result
+        (read_all cwd.now dashed input.now names.now) }
 {
     if names.is_empty() {
         return Ok(input_alone(alloc, input)?);

@@ -58,7 +58,8 @@ fn grep_bytes(
     bytes: &[u8],
     done: &mut Done,
 ) -> Result<bool, NoMemory>
-    ensures done { OnOk result (done.new ≡ grep_found grep.now name.now (Found.Bytes bytes.now) done.old) }
+    ensures done { OnOk result
+        (done.new ≡ grep_found grep.now name.now (Found.Bytes bytes.now) done.old) }
     ensures some { IfOk result (λ some. some ≡ has_line grep.now (Found.Bytes bytes.now)) }
 {
     let lines = selected(alloc, &grep.search, grep.pattern.bytes(), bytes)?;
@@ -83,7 +84,8 @@ fn grep_found(
     source: &Source,
     done: &mut Done,
 ) -> Result<bool, NoMemory>
-    ensures done { OnOk result (done.new ≡ grep_found grep.now source.now.name source.now.found done.old) }
+    ensures done { OnOk result
+        (done.new ≡ grep_found grep.now source.now.name source.now.found done.old) }
     ensures some { IfOk result (λ some. some ≡ has_line grep.now source.now.found) }
 {
     match &source.found {

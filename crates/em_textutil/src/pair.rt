@@ -70,7 +70,8 @@ fn failed(done: Done) -> Done
 }
 
 fn compared_by(alloc: Global, s: &Source, t: &Source, faults: Done) -> Result<Done, NoMemory>
-    ensures { IfOk result (λ d. d ≡ compared_by s.now.name s.now.found t.now.name t.now.found faults) }
+    ensures { IfOk result
+        (λ d. d ≡ compared_by s.now.name s.now.found t.now.name t.now.found faults) }
 {
     match &s.found {
         Found::Bytes(x) => match &t.found {

@@ -44,7 +44,8 @@ fn lines_of(tail: bool, n: u64) -> Filter
 }
 
 fn by_number(alloc: Global, tail: bool, word: &Text, operands: &[Text]) -> Result<Plan, NoMemory>
-    ensures { IfOk result (λ p. p ≡ by_number (plans.count_of word.now) tail word.now operands.now) }
+    ensures { IfOk result
+        (λ p. p ≡ by_number (plans.count_of word.now) tail word.now operands.now) }
 {
     match number(u64::MAX, word.bytes()) {
         Some(n) => Ok(at_most_one(alloc, lines_of(tail, n), operands)),
@@ -132,7 +133,8 @@ pub(crate) fn planned(
     options: &Options,
     operands: &[Text],
 ) -> Result<Plan, ExecNo>
-    ensures { is_free is_want result ≡ false → result ≡ plans.planned reading options.now operands.now }
+    ensures { is_free is_want result ≡ false → result
+        ≡ plans.planned reading options.now operands.now }
 {
     match reading {
         Reading::Cat => Ok(Plan::Read(Job::Each(Filter::Cat))),

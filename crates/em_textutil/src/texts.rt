@@ -45,7 +45,8 @@ fn write_found(
     source: &Source,
     done: &mut Done,
 ) -> Result<(), NoMemory>
-    ensures { OnOk result (done.new ≡ by_found utility.now filter.now source.now.name source.now.found done.old) }
+    ensures { OnOk result
+        (done.new ≡ by_found utility.now filter.now source.now.name source.now.found done.old) }
 {
     match &source.found {
         Found::Bytes(body) => {
@@ -73,7 +74,8 @@ pub(crate) fn each_done(
 }
 
 fn push_text<'a>(texts: &mut Vec<&'a [u8]>, found: &'a Found) -> Result<(), NoMemory>
-    ensures { OnOk result (map (λ t. t.now) texts.new.items ≡ map (λ t. t.now) texts.old.items ++ text_of found.now) }
+    ensures { OnOk result
+        (map (λ t. t.now) texts.new.items ≡ map (λ t. t.now) texts.old.items ++ text_of found.now) }
 {
     match found {
         Found::Bytes(body) => {
@@ -101,7 +103,8 @@ fn write_fault(
     source: &Source,
     done: &mut Done,
 ) -> Result<(), NoMemory>
-    ensures { OnOk result (done.new ≡ with_fault utility.now source.now.name source.now.found done.old) }
+    ensures { OnOk result
+        (done.new ≡ with_fault utility.now source.now.name source.now.found done.old) }
 {
     match &source.found {
         Found::Bytes(_) => Ok(()),
@@ -131,7 +134,8 @@ pub(crate) fn sort_done(
     order: &Order,
     sources: &[Source],
 ) -> Result<Done, NoMemory>
-    ensures { IfOk result (λ d. d ≡ written 1 (sort_text order.now (texts_of sources.now)) (faults_done utility.now sources.now nothing)) }
+    ensures { IfOk result (λ d. d ≡ written 1 (sort_text order.now (texts_of sources.now))
+        (faults_done utility.now sources.now nothing)) }
 {
     let mut done = faults_done(alloc, utility, sources)?;
     let texts = texts_of(alloc, sources)?;
