@@ -3,14 +3,12 @@
 --     gave_by, gave_none, gave_error     a value, or an error, that was found without the desk
 --     caught_by                  an operand's fault is written
 --     command_ok, command_err    what the command leaves
-use Rattle.std.proofs.Common.{◌≡◌, ℕ, Bool, true, false, List, Result, Ok, Err, refl, sym, ap, subst, ◌∙◌, arith}
-use Rattle.std.specs.Prelude.{IsErrAnd}
+use Rattle.std.proofs.Common.{◌≡◌, ℕ, false, List, Result, Ok, Err, refl, sym, ap, subst, ◌∙◌, arith}
 use Rattle.em_view.specs.declared.no.DeskNo.{DeskNo}
 use Rattle.em_view.specs.declared.no.DeskNo.TheVariants as no
 use Rattle.em_view.specs.declared.done.Done.{Done}
 use Rattle.em_view.specs.declared.done.ExecNo.{ExecNo}
-use Rattle.em_view.specs.declared.done.ExecNo.TheVariants as exec
-use Rattle.em_view.specs.Actions.{Workspace, Action, ◌>>=◌, fail, done, renamed, lift}
+use Rattle.em_view.specs.Actions.{Workspace, Action, fail, done, renamed, lift}
 use Rattle.em_view.specs.Performs.{DeskState, Told, Performs}
 use Rattle.em_view.specs.Performs as performs
 use Rattle.em_view.specs.Rows.{is_memory}

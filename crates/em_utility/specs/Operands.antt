@@ -6,7 +6,7 @@
 --     caught utility m       an operand's fault is written, and what comes behind it is done
 --     each utility act os    what is done for one operand after another, whatever faults they have
 --     command m              what a command leaves
-use Rattle.std.specs.Prelude.{ℕ, Bool, true, false, List, [], ◌∷◌, Option, Some, None, Result, Ok, Err}
+use Rattle.std.specs.Prelude.{ℕ, Bool, false, List, [], ◌∷◌, Option, Some, None, Result, Ok, Err}
 use Rattle.em_path.specs.declared.path.PathNo.{PathNo}
 use Rattle.em_path.specs.Reading.{read_fault, resolved_text}
 use Rattle.em_tree.specs.declared.node.Kind.{Kind}

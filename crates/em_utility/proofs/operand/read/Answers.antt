@@ -1,4 +1,3 @@
-use Rattle.std.proofs.Common.{sym}
 use Rattle.em_view.proofs.Performing.{then, leave}
 use Rattle.em_utility.specs.Operands.{read}
 use Rattle.em_utility.proofs.Trying.{gave_by, gave_none}

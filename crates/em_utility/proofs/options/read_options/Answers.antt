@@ -1,5 +1,5 @@
 use Rattle.std.proofs.Common.{refl}
-use Rattle.em_utility.specs.Options.{read_options, listed_only, unlisted}
+use Rattle.em_utility.specs.Options.{read_options}
 use Rattle.em_utility.proofs.options.read_options.Goals as goal
 
 pub returns-in_ok-letter-in-Some : goal.returns-in_ok-letter-in-Some
