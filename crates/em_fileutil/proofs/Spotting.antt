@@ -1,20 +1,19 @@
 -- What the steps of the file utilities come to.
-use Rattle.std.proofs.Common.{◌≡◌, ◌≢◌, ◌<◌, ◌≤◌, ◌+◌, ◌-◌, ℕ, zero, suc, Bool, true, false, List, [], ◌∷◌, drop, length, get_or, All, Option, Some, None, Result, Ok, Err, refl, sym, ap, subst, ◌∙◌, arith}
+use Rattle.std.proofs.Common.{◌≡◌, ◌≢◌, ◌+◌, ◌-◌, ℕ, zero, suc, Bool, true, false, List, [], ◌∷◌, drop, Option, Some, None, Result, Ok, Err, refl, sym, ap, subst, ◌∙◌, arith}
 use Rattle.std.specs.Prelude.{IsErrAnd, if◌then◌else◌}
 use Rattle.em_view.specs.declared.no.DeskNo.{DeskNo}
-use Rattle.em_view.specs.declared.no.DeskNo.TheVariants as no
 use Rattle.em_view.specs.declared.done.Done.{Done}
 use Rattle.em_view.specs.declared.done.ExecNo.{ExecNo}
 use Rattle.em_view.specs.Actions.{Workspace, Action}
 use Rattle.em_view.specs.Performs.{DeskState, Told, Performs}
 use Rattle.em_view.specs.Performs as performs
 use Rattle.em_view.specs.Rows.{is_memory}
-use Rattle.em_view.specs.Steps.{with_state, Does, and_then}
+use Rattle.em_view.specs.Steps.{with_state, Does}
 use Rattle.em_view.specs.Ends.{is_want}
-use Rattle.em_view.proofs.Doing.{Goes, then_s, leave_s, owned_s, within_ok, within_err, more_s, stop_s, end_s, finish_s}
+use Rattle.em_view.proofs.Doing.{Goes, owned_s, within_ok, within_err, more_s, stop_s, end_s, finish_s}
 use Rattle.em_utility.specs.declared.operand.OperandNo.{OperandNo}
 use Rattle.em_utility.specs.declared.operand.OperandNo.TheVariants.{End}
-use Rattle.em_utility.specs.Operands.{is_free, Tries, Runs, settled, caught, each}
+use Rattle.em_utility.specs.Operands.{is_free, Tries, Runs, settled, each}
 use Rattle.em_utility.proofs.Trying.{free_no, caught_by}
 use Rattle.em_fileutil.specs.declared.operand.Operand.{Operand}
 use Rattle.em_fileutil.specs.Spots.{gives, there_by, there, same_done, new_done, ending}

@@ -1,5 +1,5 @@
 -- ls [-1] [-a] [-d], of one operand.
-use Rattle.std.specs.Prelude.{◌==◌, ◌||◌, ℕ, Bool, true, false, not, List, [], ◌∷◌, ◌++◌, codes, Result, Ok, if◌then◌else◌}
+use Rattle.std.specs.Prelude.{◌==◌, ◌||◌, ℕ, Bool, false, not, List, [], ◌∷◌, ◌++◌, codes, Result, Ok, if◌then◌else◌}
 use Rattle.std.specs.List.{flat_map}
 use Rattle.em_tree.specs.declared.node.Kind.{Kind}
 use Rattle.em_tree.specs.declared.node.Kind.TheVariants as kind

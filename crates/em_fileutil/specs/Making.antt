@@ -1,5 +1,5 @@
 -- mkdir, rmdir and touch, of one operand.
-use Rattle.std.specs.Prelude.{ℕ, zero, suc, Bool, true, false, List, [], ◌∷◌, Option, Some, None, if◌then◌else◌}
+use Rattle.std.specs.Prelude.{ℕ, zero, suc, Bool, List, [], Option, Some, None, if◌then◌else◌}
 use Rattle.em_path.specs.Paths.{parent_text}
 use Rattle.em_tree.specs.declared.node.Kind.{Kind}
 use Rattle.em_tree.specs.declared.node.Kind.TheVariants as kind

@@ -4,7 +4,7 @@ use Rattle.em_tree.specs.declared.node.Kind.{Kind}
 use Rattle.em_tree.specs.declared.node.Kind.TheVariants as kind
 use Rattle.em_view.specs.declared.no.FileNo.TheVariants as file
 use Rattle.em_view.specs.Rows.{kind_at, names, remove}
-use Rattle.em_view.specs.Steps.{done, refuse}
+use Rattle.em_view.specs.Steps.{refuse}
 use Rattle.em_view.specs.Do.{◌>>=◌}
 use Rattle.em_utility.specs.declared.reason.Reason.TheVariants as reason
 use Rattle.em_utility.specs.declared.operand.OperandNo.{OperandNo}

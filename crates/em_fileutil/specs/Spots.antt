@@ -14,9 +14,8 @@ use Rattle.em_view.specs.declared.no.FileNo.{FileNo}
 use Rattle.em_view.specs.declared.no.FileNo.TheVariants as file
 use Rattle.em_view.specs.declared.no.DeskNo.{DeskNo}
 use Rattle.em_view.specs.declared.done.Done.{Done}
-use Rattle.em_view.specs.declared.done.ExecNo.{ExecNo}
 use Rattle.em_view.specs.Actions.{Action}
-use Rattle.em_view.specs.Steps.{Steps, with_state, own, refuse, within}
+use Rattle.em_view.specs.Steps.{Steps, with_state, own, within}
 use Rattle.em_utility.specs.declared.reason.Reason.{Reason}
 use Rattle.em_utility.specs.declared.reason.Reason.TheVariants as reason
 use Rattle.em_utility.specs.declared.operand.OperandNo.{OperandNo}

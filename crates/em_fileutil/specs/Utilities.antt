@@ -8,7 +8,6 @@ use Rattle.em_view.specs.Actions as action
 use Rattle.em_view.specs.Actions.{Action}
 use Rattle.em_view.specs.Steps.{own}
 use Rattle.em_view.specs.Do.{◌>>=◌}
-use Rattle.em_utility.specs.declared.options.Options.{Options}
 use Rattle.em_utility.specs.declared.reason.Reason.TheVariants.{MissingOperand}
 use Rattle.em_utility.specs.Options.{is_in, read_options}
 use Rattle.em_utility.specs.Writing.{faulted}

@@ -2,7 +2,7 @@
 //! blank between them. Its transcript has for each command its status, and each piece that it wrote
 //! behind the number of its stream; `-` for what is no file utility, `!` and the letter for an
 //! option that is refused, `$` for spent fuel; and then `;`.
-ghost use Rattle.std.specs.Prelude.{◌≡◌, Some};
+ghost use Rattle.std.specs.Prelude.{◌≡◌, ◌≤◌, Some};
 ghost use Rattle.std.specs.FinMap as map;
 ghost use Rattle.em_path.specs.Paths.{IsPath, parent_text};
 ghost use Rattle.em_tree.specs.declared.node.Kind.TheVariants as kind;
@@ -11,7 +11,7 @@ ghost use Rattle.em_tree.specs.Trees.{IsTree, kind_of};
 use super::*;
 use em_base::{Construct, Fuel, NoMemory, Text};
 use em_path::Path;
-use em_tree::{Body, Kind, Node, Outcomes, Question, State, Tree};
+use em_tree::{Answer, Body, Entry, Kind, Node, Outcomes, Question, State, Tree};
 use em_view::{Desk, Done, ExecNo, PlainView, ScriptView, View};
 use std::alloc::Global;
 use std::process::Abort;
@@ -62,7 +62,8 @@ fn words(alloc: Global, command: &str) -> Result<Vec<Text>, Fail> {
     Ok(words)
 }
 
-fn show_pieces(done: &Done, log: &mut Text) -> Result<(), NoMemory> {
+fn show_done(done: &Done, log: &mut Text) -> Result<(), NoMemory> {
+    log.add(&[b'0' | (done.status & 7)])?;
     for piece in done.pieces.items() {
         log.add(&[b'0' | (piece.stream & 7)])?;
         log.add(piece.text.bytes())?;
@@ -70,27 +71,41 @@ fn show_pieces(done: &Done, log: &mut Text) -> Result<(), NoMemory> {
     Ok(())
 }
 
-fn show(end: Result<Option<Done>, ExecNo>, log: &mut Text) -> Result<(), NoMemory> {
-    match end {
-        Ok(Some(done)) => {
-            log.add(&[b'0' | (done.status & 7)])?;
-            show_pieces(&done, log)?;
-        }
-        Ok(None) => log.add(b"-")?,
-        Err(ExecNo::Refused(Construct::Letter(_, letter))) => log.add(&[b'!', letter])?,
-        Err(ExecNo::Spent) => log.add(b"$")?,
-        Err(_) => log.add(b"?")?,
+fn show_no(no: &ExecNo, log: &mut Text) -> Result<(), NoMemory> {
+    match no {
+        ExecNo::Refused(Construct::Letter(_, letter)) => log.add(&[b'!', *letter]),
+        ExecNo::Spent => log.add(b"$"),
+        _ => log.add(b"?"),
     }
-    log.add(b";")
+}
+
+fn show(end: &Result<Option<Done>, ExecNo>, log: &mut Text) -> Result<(), NoMemory> {
+    match end {
+        Ok(Some(done)) => show_done(done, log),
+        Ok(None) => log.add(b"-"),
+        Err(no) => show_no(no, log),
+    }
+}
+
+/// Runs a command over a desk.
+fn run_command<V: View>(
+    alloc: Global,
+    command: &str,
+    desk: &mut Desk<V>,
+    log: &mut Text,
+) -> Result<(), Fail> {
+    let words = words(alloc, command)?;
+    let end = utility(alloc, &words, b"", &Path::root(), desk);
+    show(&end, log)?;
+    log.add(b";")?;
+    Ok(())
 }
 
 /// Runs a script over a desk.
 fn run<V: View>(alloc: Global, script: &str, desk: &mut Desk<V>) -> Result<Text, Fail> {
     let mut log = Text::new(alloc);
-    let root = Path::root();
     for command in script.split(';') {
-        let words = words(alloc, command)?;
-        show(utility(alloc, &words, b"", &root, desk), &mut log)?;
+        run_command(alloc, command, desk, &mut log)?;
     }
     Ok(log)
 }
@@ -121,50 +136,73 @@ fn beside_b(alloc: Global) -> Result<State, Fail> {
     Ok(state)
 }
 
-fn path(alloc: Global, name: &[u8]) -> Result<Path, Fail> {
-    Ok(Path::read(alloc, &Path::root(), name)?)
+fn show_path(letter: u8, path: &Path, log: &mut Text) -> Result<(), NoMemory> {
+    log.add(&[letter])?;
+    log.add(path.text())
 }
 
-#[test]
-fn cp_asks_for_the_target_then_for_the_source(rt: HostRuntime) -> Result<(), Fail> {
-    let alloc = rt.alloc();
-    let state = beside_b(alloc)?;
-    let mut desk = Desk::new(alloc, PlainView::new(&state), 1, 0, Fuel::new(6));
-    assert!(rt; run(alloc, "cp b a", &mut desk)?.bytes() == b"0;".as_slice());
-    let (usage, _changes, fuel) = desk.close();
-    assert!(rt; fuel == 6);
-    let a = path(alloc, b"a")?;
-    let b = path(alloc, b"b")?;
-    let mut wanted = Vec::new(alloc);
-    wanted.push(Question::Kind(a.copy()?))?;
-    wanted.push(Question::Kind(b.copy()?))?;
-    wanted.push(Question::Content(b))?;
-    wanted.push(Question::Kind(a))?;
-    wanted.push(Question::Kind(Path::root()))?;
-    assert!(rt; usage.len() == 5);
-    for (entry, question) in usage.iter().zip(wanted.iter()) {
-        assert!(rt; entry.question == *question);
+fn show_question(question: &Question, log: &mut Text) -> Result<(), NoMemory> {
+    match question {
+        Question::Kind(path) => show_path(b'K', path, log),
+        Question::Stamp(path) => show_path(b'S', path, log),
+        Question::Content(path) => show_path(b'C', path, log),
+        Question::Names(path) => show_path(b'N', path, log),
+        Question::Outcome(_) => log.add(b"O"),
+    }
+}
+
+fn show_answer(answer: &Answer, log: &mut Text) -> Result<(), NoMemory> {
+    match answer {
+        Answer::Kind(Kind::Absent) => log.add(b"=absent "),
+        Answer::Kind(Kind::File) => log.add(b"=file "),
+        Answer::Kind(Kind::Dir) => log.add(b"=directory "),
+        _ => log.add(b" "),
+    }
+}
+
+fn show_usage(usage: &[Entry], log: &mut Text) -> Result<(), NoMemory> {
+    for entry in usage {
+        show_question(&entry.question, log)?;
+        show_answer(&entry.answer, log)?;
     }
     Ok(())
 }
 
-#[test]
-fn fuel_that_does_not_suffice_ends_a_command(rt: HostRuntime) -> Result<(), Fail> {
-    let alloc = rt.alloc();
+/// What a script writes beside `b`, and what it asks, with so many units.
+fn asked(alloc: Global, script: &str, units: u64) -> Result<Text, Fail>
+    requires { units ≤ 1000 }
+{
     let state = beside_b(alloc)?;
-    let mut desk = Desk::new(alloc, PlainView::new(&state), 1, 0, Fuel::new(5));
-    assert!(rt; run(alloc, "cp b a", &mut desk)?.bytes() == b"$;".as_slice());
+    let mut desk = Desk::new(alloc, PlainView::new(&state), 1, 0, Fuel::new(units));
+    let mut log = run(alloc, script, &mut desk)?;
+    let (usage, _changes, _fuel) = desk.close();
+    show_usage(&usage, &mut log)?;
+    Ok(log)
+}
+
+/// The target's kind, the source's kind and bytes, and what `put` asks: 1 + 1 + 2 + 2 units.
+#[test]
+fn cp_asks_for_the_target_then_for_the_source(rt: HostRuntime) -> Result<(), Fail> {
+    let asks = "K/a=absent K/b=file C/b K/a=absent K/=directory ";
+    let done = asked(rt.alloc(), "cp b a", 6)?;
+    assert!(rt; done.bytes().strip_prefix(b"0;".as_slice()) == Some(asks.as_bytes()));
+    let spent = asked(rt.alloc(), "cp b a", 5)?;
+    assert!(rt; spent.bytes().strip_prefix(b"$;".as_slice()) == Some(asks.as_bytes()));
     Ok(())
+}
+
+/// The stamp of `a` after `b` was moved there.
+fn stamp_of_a(alloc: Global) -> Result<Option<u64>, Fail> {
+    let state = beside_b(alloc)?;
+    let mut desk = Desk::new(alloc, PlainView::new(&state), 100, 0, Fuel::new(20));
+    let _log = run(alloc, "mv b a", &mut desk)?;
+    let a = Path::read(alloc, &Path::root(), b"a")?;
+    Ok(desk.stamp(&a)?)
 }
 
 #[test]
 fn a_file_that_is_moved_keeps_its_stamp(rt: HostRuntime) -> Result<(), Fail> {
-    let alloc = rt.alloc();
-    let state = beside_b(alloc)?;
-    let mut desk = Desk::new(alloc, PlainView::new(&state), 100, 0, Fuel::new(20));
-    assert!(rt; run(alloc, "mv b a", &mut desk)?.bytes() == b"0;".as_slice());
-    assert!(rt; desk.stamp(&path(alloc, b"a")?)? == Some(1));
-    assert!(rt; desk.kind(&path(alloc, b"b")?)? == Kind::Absent);
+    assert!(rt; stamp_of_a(rt.alloc())? == Some(1));
     Ok(())
 }
 
@@ -184,15 +222,24 @@ fn with_d(alloc: Global, filled: bool) -> Result<State, Fail> {
     Ok(state)
 }
 
-#[test]
-fn what_was_listed_and_is_absent_then_is_a_fault(rt: HostRuntime) -> Result<(), Fail> {
-    let alloc = rt.alloc();
+fn keep(states: &mut Vec<State>, state: State) -> Result<(), NoMemory> {
+    states.push(state)?;
+    Ok(())
+}
+
+/// `x` is there when `d` is listed, and is gone then.
+fn removed_meanwhile(alloc: Global) -> Result<Text, Fail> {
     let mut states = Vec::new(alloc);
-    states.push(with_d(alloc, true)?)?;
-    states.push(with_d(alloc, true)?)?;
+    keep(&mut states, with_d(alloc, true)?)?;
+    keep(&mut states, with_d(alloc, true)?)?;
     states.push(with_d(alloc, false)?)?;
     let mut desk = Desk::new(alloc, ScriptView::new(states), 1, 0, Fuel::new(20));
-    let given = run(alloc, "rm -r d", &mut desk)?;
+    run(alloc, "rm -r d", &mut desk)
+}
+
+#[test]
+fn what_was_listed_and_is_absent_then_is_a_fault(rt: HostRuntime) -> Result<(), Fail> {
+    let given = removed_meanwhile(rt.alloc())?;
     assert!(rt; given.bytes() == b"12emake: rm: d/x: absent\n;".as_slice());
     Ok(())
 }

@@ -1,4 +1,4 @@
-use Rattle.std.proofs.Common.{◌≡◌, ◌∙◌, ◌++◌, ◌+◌, List, ℕ, ap, sym, drop, append_assoc, append-nil}
+use Rattle.std.proofs.Common.{◌∙◌, ◌++◌, ◌+◌, List, ℕ, ap, sym, drop, append_assoc, append-nil}
 use Rattle.em_base.proofs.Lemmas.{left_at, none_at}
 use Rattle.em_fileutil.specs.Listing.{lines, shown}
 use Rattle.em_fileutil.proofs.list.list_text.Goals as goal
