@@ -16,3 +16,6 @@ mod source;
 mod texts;
 
 pub use command::utility;
+
+#[cfg(test)]
+mod tests;
