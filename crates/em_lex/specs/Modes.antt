@@ -3,20 +3,22 @@ use Rattle.std.specs.Prelude.{ℕ, ◌==◌, ◌&&◌, ◌||◌, Bool, List, [],
 use Rattle.em_base.specs.Blanks.{is_blank}
 use Rattle.em_base.specs.declared.construct.Construct.{Construct}
 use Rattle.em_base.specs.declared.construct.Construct.TheVariants.{Arithmetic, Positional}
-use Rattle.em_lex.specs.declared.lexeme.What.{What}
-use Rattle.em_lex.specs.declared.lexeme.What.TheVariants.{Newline, Bytes, ArgumentEnd, WordEnd}
+use Rattle.em_lexeme.specs.declared.lexeme.What.{What}
+use Rattle.em_lexeme.specs.declared.lexeme.What.TheVariants.{Newline, Bytes, ArgumentEnd, WordEnd}
 use Rattle.em_lex.specs.declared.state.Byte.{Byte}
-use Rattle.em_lex.specs.declared.state.Frame.{Frame}
-use Rattle.em_lex.specs.declared.state.Frame.TheVariants.{Single, Double, Backquotes}
+use Rattle.em_lexeme.specs.declared.frame.Frame.{Frame}
+use Rattle.em_lexeme.specs.declared.frame.Frame.TheVariants.{Single, Double, Backquotes}
 use Rattle.em_lex.specs.declared.state.Lexer.{Lexer}
-use Rattle.em_lex.specs.declared.state.Spot.TheVariants.{Operand}
+use Rattle.em_lexeme.specs.declared.spot.Spot.TheVariants.{Operand}
 use Rattle.em_lex.specs.declared.state.Mode.{Mode}
 use Rattle.em_lex.specs.declared.state.Mode.TheVariants.{Ready, Comment, Operating, Head, Gathering, Dollar, Naming, Opened, Brace, Status, Length, Parameter, Colon, Trim}
-use Rattle.em_lex.specs.Bytes.{acts, begins_name, is_in_name, begins_operator, ends_word, is_special, takes_word}
-use Rattle.em_lex.specs.Frames.{is_list, is_quoting, is_word, is_quoted, is_single, is_double, is_ordinary}
+use Rattle.em_lexeme.specs.Bytes.{acts, begins_name, is_in_name, begins_operator, ends_word, is_special, takes_word}
+use Rattle.em_lexeme.specs.Frames.{is_list, is_quoting, is_word, is_quoted, is_single, is_double, is_ordinary}
 use Rattle.em_lex.specs.Steps.{emitted, refused, top, pushed, popped, begun, turned, gathered, spent}
-use Rattle.em_lex.specs.Operators.{pair, refused_pair, single, spot_behind, operated, round_opened, round_closed}
-use Rattle.em_lex.specs.Words.{told, fronted, entered}
+use Rattle.em_lexeme.specs.Operators.{pair, refused_pair, single}
+use Rattle.em_lexeme.specs.Spots.{spot_behind}
+use Rattle.em_lex.specs.Brackets.{operated, round_opened, round_closed}
+use Rattle.em_lex.specs.Heads.{told, fronted, entered}
 use Rattle.em_lex.specs.Values.{valued, with_word, with_pattern, spoiled, positional, substituted}
 
 -- a newline outside of words

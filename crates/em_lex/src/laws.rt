@@ -1,9 +1,10 @@
 //! Laws of the definitions: each function's contract is the law, and its body is empty.
 ghost use Rattle.std.specs.Prelude.{◌≡◌, ◌≢◌, ◌≤◌, ◌∷◌, ◌++◌, [], ℕ, List, All, IfSome, true, false};
 ghost use Rattle.em_lex.specs.Alone.{quoted_word, bare_word};
-ghost use Rattle.em_lex.specs.Frames.{is_plain};
-ghost use Rattle.em_lex.specs.Lexing.{lexed, place_of};
-ghost use Rattle.em_lex.specs.Words.{reserved, whole_start, is_assigning};
+ghost use Rattle.em_lexeme.specs.Frames.{is_plain};
+ghost use Rattle.em_lexeme.specs.Faults.{place_of};
+ghost use Rattle.em_lex.specs.Lexing.{lexed};
+ghost use Rattle.em_lexeme.specs.Words.{reserved, whole_start, is_assigning};
 
 /// What stands between single quotes is one word of these bytes, whatever they are.
 pub fn law_quoted()

@@ -1,7 +1,7 @@
 use Rattle.std.proofs.Common.{◌≡◌, length}
 use Rattle.std.specs.Prelude.{None}
-use Rattle.em_lex.specs.Frames.{outermost}
-use Rattle.em_lex.proofs.read.outermost_of.Given as goal
+use Rattle.em_lexeme.specs.Frames.{outermost}
+use Rattle.em_lexeme.proofs.frame.outermost_of.Given as goal
 
 abbrev pub invariant-loop-frame : goal.invariant-loop-frame
 invariant-loop-frame l = outermost l.initial.frames None ≡ outermost l.frames l.found

@@ -1,6 +1,6 @@
 use Rattle.std.proofs.Common.{◌≡◌, ◌≤◌, ◌++◌, drop}
-use Rattle.em_lex.specs.Tokens.{tokens_from}
-use Rattle.em_lex.proofs.outer.tokens_in.Given as goal
+use Rattle.em_lexeme.specs.Outer.{tokens_from}
+use Rattle.em_lexeme.proofs.token.tokens_in.Given as goal
 
 -- the tokens so far, and those of the rest
 abbrev pub invariant-loop-lexeme : goal.invariant-loop-lexeme

@@ -32,3 +32,7 @@ is_special b = is_ascii_digit b || (b == 64) || (b == 42) || (b == 35) || (b == 
 -- `-` `=` `+` `?`, which a word follows in `${name-word}`
 abbrev pub takes_word : ℕ → Bool
 takes_word b = (b == 45) || (b == 61) || (b == 43) || (b == 63)
+
+-- before a backslash, `$` and a backquote a backslash is dropped, in double quotes also before `"`
+abbrev pub is_dropped : Bool → ℕ → Bool
+is_dropped quoting b = (b == 92) || (b == 36) || (b == 96) || (quoting && (b == 34))

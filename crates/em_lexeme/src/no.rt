@@ -1,6 +1,6 @@
 //! Why a line has no tokens.
 ghost use Rattle.std.specs.Prelude.{◌≡◌};
-ghost use Rattle.em_lex.specs.declared.no.LexNo.TheVariants.{NoMemory};
+ghost use Rattle.em_lexeme.specs.declared.no.LexNo.TheVariants.{NoMemory};
 
 use em_base::Construct;
 use thiserror::Error;

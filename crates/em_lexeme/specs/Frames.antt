@@ -1,8 +1,8 @@
 -- What is open at a place of the text.
 use Rattle.std.specs.Prelude.{ℕ, ◌==◌, ◌||◌, not, Bool, true, false, List, [], ◌∷◌, Option, Some, None, if◌then◌else◌}
-use Rattle.em_lex.specs.declared.state.Frame.{Frame}
-use Rattle.em_lex.specs.declared.state.Frame.TheVariants.{Round, Cases, InWord, Single, Double, Backquotes, Argument, Substitution}
-use Rattle.em_lex.specs.Bytes.{acts, acts_quoted, ends_word}
+use Rattle.em_lexeme.specs.declared.frame.Frame.{Frame}
+use Rattle.em_lexeme.specs.declared.frame.Frame.TheVariants.{Round, Cases, InWord, Single, Double, Backquotes, Argument, Substitution}
+use Rattle.em_lexeme.specs.Bytes.{acts, acts_quoted, ends_word}
 
 -- a place in a list, not in a word of it
 abbrev pub is_list : Option Frame → Bool
