@@ -54,7 +54,7 @@ ended : (t : List ℕ) (at n : ℕ) → outcome (finished (behind_quotes t at) n
 unfolding finished settled
 ended t at n = refl
 
-level : (left : ℕ) (text : List ℕ) → lexed_in (suc left) text ≡ outcome (read_through (lexed_in left) at_first text)
+pub level : (left : ℕ) (text : List ℕ) → lexed_in (suc left) text ≡ outcome (read_through (lexed_in left) at_first text)
 unfolding lexed_in
 level left text = refl
 

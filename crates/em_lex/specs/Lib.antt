@@ -8,4 +8,5 @@ pub mod Modes
 pub mod Quotes
 pub mod Lexing
 pub mod Tokens
+pub mod Standing
 pub mod Alone

@@ -1,0 +1,8 @@
+use Rattle.em_lex.proofs.Puts.{substituted_fits}
+use Rattle.em_lex.proofs.Backquoted.{fault_there}
+use Rattle.em_lex.proofs.Embedded.{embedded_fits}
+use Rattle.em_lex.proofs.Outcomes.{line_lexes}
+use Rattle.em_lex.proofs.laws.law_stands.Goals as goal
+
+pub returns : goal.returns
+returns c = λ line. (line_lexes line).stop
