@@ -1,10 +1,7 @@
 -- What stands in backquotes: each of its bytes has its place in the text around.
-use Rattle.std.proofs.Common.{◌≡◌, ℕ, zero, suc, ◌+◌, ◌-◌, ◌<◌, ◌≤◌, ◌==◌, ◌&&◌, min, Bool, true, false, cond, List, [], ◌∷◌, ◌++◌, map, drop, slice_get, length, refl, sym, ap, subst, ◌∙◌, arith, ◌⊎◌, inl, inr}
-use Rattle.std.specs.Prelude.{Option, None, Some, IfSome, slice_index, unwrap_or}
-use Rattle.std.specs.List.{AllByRecursion}
-use Rattle.em_base.proofs.Lemmas.{by_cases}
+use Rattle.std.proofs.Common.{◌≡◌, ℕ, zero, suc, ◌+◌, ◌<◌, ◌≤◌, true, List, [], ◌∷◌, ◌++◌, map, length, refl, sym, ap, subst, ◌∙◌, arith, ◌⊎◌, inl, inr}
+use Rattle.std.specs.Prelude.{slice_index}
 use Rattle.em_lexeme.specs.declared.lexeme.Lexeme.{Lexeme}
-use Rattle.em_lexeme.specs.declared.lexeme.Lexed.{Lexed}
 use Rattle.em_lexeme.specs.declared.lexeme.What.{What}
 use Rattle.em_lexeme.specs.declared.lexeme.What.TheVariants.{WordStart, WordEnd}
 use Rattle.em_lexeme.specs.declared.no.LexNo.{LexNo}
@@ -22,7 +19,8 @@ passed_join t a b c h more = λ k from to. grind arith
 pub passed_one : (t : List ℕ) (a b : ℕ) → a + 1 ≡ b → is_passed (slice_index t a) ≡ true → Passed t a b
 passed_one t a b next is = λ k from to. let same : k ≡ a = omega arith in subst (λ i. is_passed (slice_index t i) ≡ true) (sym same) is
 
--- the bytes of a text stand at these places, from lo on and before hi, with passed bytes between them
+-- the bytes of a text stand at these places, from lo on and before hi, with passed bytes between
+-- them
 abbrev pub Aligned : List ℕ → ℕ → List ℕ → List ℕ → ℕ → Type 0
 Aligned t lo [] [] hi = (lo ≤ hi) × Passed t lo hi
 Aligned t lo (b ∷ bs) (p ∷ ps) hi = (lo ≤ p) × Passed t lo p × (slice_index t p ≡ b) × Aligned t (p + 1) bs ps hi
@@ -139,7 +137,8 @@ opens_there t bs ps lo hi at h most is =
       ];
     }
 
--- a fault of the text in backquotes; too many levels of them are refused at the begin of an empty text, too
+-- a fault of the text in backquotes; too many levels of them are refused at the begin of an empty
+-- text, too
 abbrev pub Begins : List ℕ → LexNo → Type 0
 Begins t (Unclosed at) = Opens t at
 Begins t (Refused construct at) = Unit {0}

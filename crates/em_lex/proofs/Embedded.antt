@@ -1,9 +1,8 @@
 -- Reading in backquotes, and what is put where they close.
-use Rattle.std.proofs.Common.{◌≡◌, ℕ, suc, ◌+◌, ◌-◌, ◌<◌, ◌≤◌, ◌==◌, ◌&&◌, min, Bool, true, false, cond, List, [], ◌∷◌, ◌++◌, map, drop, slice_get, length, refl, sym, ap, subst, ◌∙◌, arith, ◌⊎◌, inl, inr}
+use Rattle.std.proofs.Common.{◌≡◌, ℕ, ◌+◌, ◌-◌, ◌<◌, ◌==◌, min, Bool, true, false, List, [], ◌∷◌, ◌++◌, map, drop, slice_get, length, refl, sym, ap, subst, ◌∙◌, arith, ◌⊎◌, inl, inr}
 use Rattle.std.specs.Prelude.{Option, None, Some, IfSome, slice_index, option_map}
 use Rattle.std.specs.List.{AllByRecursion}
 use Rattle.std.proofs.lemmas.Bool.{eqb-true}
-use Rattle.em_lexeme.specs.declared.lexeme.Lexeme.{Lexeme}
 use Rattle.em_lexeme.specs.declared.lexeme.Lexed.{Lexed}
 use Rattle.em_lexeme.specs.declared.lexeme.What.TheVariants.{SubstitutionStart, SubstitutionEnd}
 use Rattle.em_lexeme.specs.declared.frame.Frame.{Frame}
@@ -12,16 +11,16 @@ use Rattle.em_lexeme.specs.declared.no.LexNo.{LexNo}
 use Rattle.em_lexeme.specs.Bytes.{is_dropped}
 use Rattle.em_lexeme.specs.Frames.{is_backquotes_quoted, is_quoted}
 use Rattle.em_lexeme.specs.Operators.{zero_at}
-use Rattle.em_lexeme.specs.Places.{moved, moved_fault, place_in}
+use Rattle.em_lexeme.specs.Places.{moved, moved_fault}
 use Rattle.em_lex.specs.declared.state.Byte.{Byte}
 use Rattle.em_lex.specs.declared.state.Lexer.{Lexer}
 use Rattle.em_lex.specs.declared.state.Mode.TheVariants.{Ready, Gathering}
-use Rattle.em_lex.specs.Steps.{lexeme, emitted, popped, top}
-use Rattle.em_lex.specs.Quotes.{raw, kept, slashed}
+use Rattle.em_lex.specs.Steps.{lexeme, popped, top}
+use Rattle.em_lex.specs.Quotes.{raw}
 use Rattle.em_lex.specs.Lexing.{embedded, with_fault}
 use Rattle.em_lex.specs.Standing.{is_passed, Passed, Opens, Stands}
 use Rattle.em_lex.proofs.Fits.{decide, either, Fit, Laid, SpotFits, FrameFits, ZeroFits, laid_append, last_of, note}
-use Rattle.em_lex.proofs.Puts.{In, substitution_end}
+use Rattle.em_lex.proofs.Puts.{In}
 use Rattle.em_lex.proofs.Backquoted.{Aligned, Begins, aligned_add, aligned_size, passed_none, passed_one, place_low, laid_there, fault_there}
 
 -- in backquotes

@@ -1,5 +1,5 @@
 -- What reading keeps true of its state: where all that it holds stands in the text.
-use Rattle.std.proofs.Common.{◌≡◌, ℕ, suc, ◌+◌, ◌-◌, ◌<◌, ◌≤◌, Bool, true, false, cond, List, [], ◌∷◌, ◌++◌, drop, slice_get, length, refl, sym, ap, subst, ◌∙◌, length-append, arith}
+use Rattle.std.proofs.Common.{◌≡◌, ℕ, ◌+◌, ◌-◌, ◌<◌, ◌≤◌, Bool, true, false, cond, List, [], ◌∷◌, ◌++◌, drop, slice_get, length, refl, sym, ap, subst, ◌∙◌, length-append, arith}
 use Rattle.std.specs.Prelude.{Option, None, Some, IfSome}
 use Rattle.std.specs.List.{AllByRecursion}
 use Rattle.std.proofs.lemmas.Option.{slice_get-get_or}
@@ -10,7 +10,7 @@ use Rattle.em_lexeme.specs.declared.lexeme.Start.{Start}
 use Rattle.em_lexeme.specs.declared.lexeme.What.{What}
 use Rattle.em_lexeme.specs.declared.lexeme.What.TheVariants.{WordStart, WordEnd}
 use Rattle.em_lexeme.specs.declared.frame.Frame.{Frame}
-use Rattle.em_lexeme.specs.declared.frame.Frame.TheVariants.{Round, Cases, InWord, Single, Double, Backquotes, Argument, Substitution}
+use Rattle.em_lexeme.specs.declared.frame.Frame.TheVariants.{Single, Double, Backquotes, Argument, Substitution}
 use Rattle.em_lexeme.specs.declared.no.LexNo.{LexNo}
 use Rattle.em_lexeme.specs.declared.spot.Spot.{Spot}
 use Rattle.em_lexeme.specs.declared.spot.Spot.TheVariants.{Duplicate}
@@ -29,8 +29,8 @@ pub either : {A : Type 0} (P : A → Type 0) (b : Bool) (x y : A) → P x → P 
 either P true x y f g = f
 either P false x y f g = g
 
--- lexemes from a place on, one behind the other, up to another place. A word's end comes behind the last begin of a word:
--- at m or further on, and what follows them may go on with k
+-- lexemes from a place on, one behind the other, up to another place. A word's end comes behind the
+-- last begin of a word: at m or further on, and what follows them may go on with k
 abbrev pub Sized : What → ℕ → ℕ → ℕ → Type 0
 Sized (WordStart w) m from to = from ≡ to
 Sized WordEnd m from to = (from ≡ to) × (m ≤ from)

@@ -1,9 +1,8 @@
 -- The tokens of lexemes that stand one behind the other.
-use Rattle.std.proofs.Common.{◌≡◌, ◌≢◌, ℕ, zero, suc, ◌+◌, ◌-◌, ◌<◌, ◌≤◌, ◌==◌, Bool, true, false, cond, List, [], ◌∷◌, ◌++◌, length, refl, sym, ap, subst, ◌∙◌, arith}
+use Rattle.std.proofs.Common.{◌≡◌, ◌≢◌, ℕ, zero, suc, ◌+◌, ◌-◌, ◌<◌, ◌≤◌, ◌==◌, true, false, cond, List, [], ◌∷◌, ◌++◌, length, refl, sym, ◌∙◌, arith}
 use Rattle.std.specs.Prelude.{Option, None, Some, IfOk}
 use Rattle.std.proofs.lemmas.Bool.{eqb-true, eq-eqb}
 use Rattle.em_lexeme.specs.declared.lexeme.Lexeme.{Lexeme}
-use Rattle.em_lexeme.specs.declared.lexeme.Token.{Token}
 use Rattle.em_lexeme.specs.declared.lexeme.TokenKind.{TokenKind}
 use Rattle.em_lexeme.specs.declared.lexeme.TokenKind.TheVariants.{Word}
 use Rattle.em_lexeme.specs.declared.lexeme.What.{What}
@@ -16,8 +15,8 @@ use Rattle.em_lex.specs.Standing.{InOrder}
 use Rattle.em_lex.proofs.Fits.{decide, Sized, least, Laid}
 use Rattle.em_lex.proofs.Outcomes.{line_lexes}
 
--- before a lexeme at a or further on, with n words open: outside of words the last token ends at lo or before; else the
--- outermost word began at from, behind it
+-- before a lexeme at a or further on, with n words open: outside of words the last token ends at lo
+-- or before; else the outermost word began at from, behind it
 record Waiting (lo a m n from : ℕ) : Type 0 where
   outside : n ≡ 0 → lo ≤ a
   inside : n ≢ 0 → (lo ≤ from) × (from < m) × (from ≤ a)

@@ -1,6 +1,6 @@
 -- What a text is read to: its lexemes one behind the other, and a fault that stands in it.
-use Rattle.std.proofs.Common.{◌≡◌, ℕ, zero, suc, ◌+◌, ◌-◌, ◌<◌, ◌≤◌, leb, Bool, true, false, cond, List, [], ◌∷◌, ◌++◌, take, slice_get, length, refl, sym, ap, subst, ◌∙◌, arith, ◌⊎◌, inl, inr}
-use Rattle.std.specs.Prelude.{Option, None, Some, IfSome, slice_index}
+use Rattle.std.proofs.Common.{◌≡◌, ℕ, zero, suc, ◌+◌, ◌-◌, ◌<◌, ◌≤◌, leb, Bool, true, false, List, [], ◌∷◌, take, slice_get, length, refl, sym, ap, subst, arith, inl, inr}
+use Rattle.std.specs.Prelude.{Option, None, Some, IfSome}
 use Rattle.std.specs.List.{AllByRecursion}
 use Rattle.em_lexeme.specs.declared.lexeme.Lexeme.{Lexeme}
 use Rattle.em_lexeme.specs.declared.lexeme.Lexed.{Lexed}
@@ -13,23 +13,21 @@ use Rattle.em_lexeme.specs.declared.no.LexNo.TheVariants.{Unclosed, Refused, NoM
 use Rattle.em_lexeme.specs.Faults.{place_of, leftmost, count_until, up_to}
 use Rattle.em_lexeme.specs.Frames.{is_list, is_word, is_quoted, opener, or_else, outermost}
 use Rattle.em_lex.specs.declared.state.Lexer.{Lexer}
-use Rattle.em_lex.specs.declared.state.Mode.{Mode}
 use Rattle.em_lex.specs.declared.state.Mode.TheVariants.{Ready, Gathering}
 use Rattle.em_lex.specs.Steps.{lexeme, emitted, top}
-use Rattle.em_lex.specs.Heads.{fronted, entered}
 use Rattle.em_lex.specs.Modes.{settled, settled_in, left}
-use Rattle.em_lex.specs.Quotes.{is_head, piece_begun, entered_from, slashed}
-use Rattle.em_lex.specs.Lexing.{last_backslash, word_left, finished, outcome, too_deep, read_through, at_first, lexed_in, lexed}
+use Rattle.em_lex.specs.Quotes.{is_head, piece_begun, slashed}
+use Rattle.em_lex.specs.Lexing.{last_backslash, word_left, finished, outcome, read_through, at_first, lexed_in, lexed}
 use Rattle.em_lex.specs.Standing.{Opens, Stands}
 use Rattle.em_lex.proofs.Quoted.{level, top_level}
 use Rattle.em_lex.proofs.Fits.{decide, either, Sized, least, Laid, laid_after, laid_append, FrameFits, Fit, emit_plain}
 use Rattle.em_lex.proofs.Puts.{bytes_fit}
 use Rattle.em_lex.proofs.Backquoted.{Begins, aligned_size, laid_end}
 use Rattle.em_lex.proofs.Embedded.{InBackquotes, Inner}
-use Rattle.em_lex.proofs.Stepping.{Plain, Sound, settled_fits, left_fits}
+use Rattle.em_lex.proofs.Stepping.{settled_fits, left_fits}
 use Rattle.em_lex.proofs.Stepping.Plain.{at_rest}
 use Rattle.em_lex.proofs.Stepping.Sound.{plain, quoted}
-use Rattle.em_lex.proofs.Running.{State, Slashed, plain_backslash, piece_begun_fits, clash, text_state}
+use Rattle.em_lex.proofs.Running.{State, plain_backslash, piece_begun_fits, clash, text_state}
 use Rattle.em_lex.proofs.Running.State.{sound, behind}
 
 abbrev Opening : List ℕ → Frame → Type 0
@@ -123,6 +121,19 @@ open_emitted {t} {e} {s} kept text to h some = record {
   items = laid_append s.items (lexeme e to (Bytes kept text) ∷ []) 0 0 e to e to h.items (omega arith, some, (omega arith, omega arith));
 }
 
+-- the end of the text in backquotes, behind a backslash or not
+open_off : {t : List ℕ} {s : Lexer} → InBackquotes t (length t) s → s.backslash ≡ false → s.start < length t → Final t (word_left (settled (last_backslash s (length t)) (length t)) (length t))
+open_off {t} {s} h off some =
+    let n = length t in
+    decide (λ u. Final t (word_left (settled u n) n)) s.backslash _ _ (λ so. clash s.backslash so off) (λ _. open_final (open_settled s.backslash n h some))
+
+open_on : {t : List ℕ} {s : Lexer} → InBackquotes t (length t) s → s.backslash ≡ true → s.start + 1 < length t → Final t (word_left (settled (last_backslash s (length t)) (length t)) (length t))
+open_on {t} {s} h on some =
+    let n = length t in
+    decide (λ u. Final t (word_left (settled u n) n)) s.backslash _ _
+    (λ _. open_final (open_ready n (open_emitted true (92 ∷ []) n (open_begun (n - 1) h (omega arith)) (omega arith))))
+    (λ isnt. clash s.backslash on isnt)
+
 finished_final : {t : List ℕ} {s : Lexer} → State t (length t) s → Final t (finished s (length t))
 unfolding finished
 finished_final {t} {s} (sound (plain h)) =
@@ -138,13 +149,10 @@ finished_final {t} {s} (behind h) =
 finished_final {t} {s} (sound (quoted h)) =
     let n = length t in
     let size = aligned_size t s.text s.places (s.start + 1) h.edge h.text in
-    let off = λ (x : (s.backslash ≡ false) × (h.edge ≡ n)). (let edge = x.1 in
-    decide (λ u. Final t (word_left (settled u n) n)) s.backslash _ _ (λ so. clash s.backslash so x.0) (λ _. open_final (open_settled s.backslash n h (omega arith)))) in
-    let on = λ (x : (s.backslash ≡ true) × (h.edge + 1 ≡ n) × (slice_index t h.edge ≡ 92)). (let edge = x.1 in
-    decide (λ u. Final t (word_left (settled u n) n)) s.backslash _ _
-    (λ _. open_final (open_ready n (open_emitted true (92 ∷ []) n (open_begun (n - 1) h (omega arith)) (omega arith))))
-    (λ isnt. clash s.backslash x.0 isnt)) in
-    elim h.slash as (λ _. Final t (word_left (settled (last_backslash s n) n) n)) [ inl x ↦ off x | inr x ↦ on x ]
+    elim h.slash as (λ _. Final t (word_left (settled (last_backslash s n) n) n)) [
+      | inl x ↦ let edge = x.1 in open_off h x.0 (omega arith)
+      | inr x ↦ let edge = x.1 in open_on h x.0 (omega arith)
+    ]
 
 -- the leftmost fault, and what stands before it
 pub record Lexes (t : List ℕ) (l : Lexed) : Type 0 where

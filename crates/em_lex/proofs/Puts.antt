@@ -1,20 +1,20 @@
 -- Operators, brackets, words' begins and values are put where they stand.
-use Rattle.std.proofs.Common.{◌≡◌, ℕ, suc, ◌+◌, ◌-◌, ◌<◌, ◌≤◌, ◌==◌, ◌&&◌, ◌||◌, min, Bool, true, false, cond, List, [], ◌∷◌, ◌++◌, take, drop, slice_get, length, length-drop, refl, sym, ap, subst, ◌∙◌, arith}
+use Rattle.std.proofs.Common.{◌≡◌, ℕ, ◌+◌, ◌-◌, ◌<◌, ◌≤◌, ◌==◌, ◌&&◌, ◌||◌, min, Bool, false, cond, List, [], ◌∷◌, take, drop, slice_get, length, length-drop, refl, arith}
 use Rattle.std.specs.Prelude.{Option, None, Some, IfSome}
 use Rattle.std.specs.List.{AllByRecursion}
 use Rattle.em_base.specs.declared.construct.Construct.TheVariants.{Descriptor, Redirection, Positional}
 use Rattle.em_lexeme.specs.declared.lexeme.Start.{Start}
 use Rattle.em_lexeme.specs.declared.lexeme.Start.TheVariants.{Plain}
 use Rattle.em_lexeme.specs.declared.lexeme.What.{What}
-use Rattle.em_lexeme.specs.declared.lexeme.What.TheVariants.{Semicolon, CaseEnd, Ampersand, AndIf, OrIf, Pipe, LeftParen, RightParen, Number, Less, Great, DoubleGreat, GreatAnd, Newline, WordStart, WordEnd, Bytes, Value, ArgumentStart, ArgumentEnd, BadValue, SubstitutionStart, SubstitutionEnd}
+use Rattle.em_lexeme.specs.declared.lexeme.What.TheVariants.{Semicolon, CaseEnd, Ampersand, AndIf, OrIf, Pipe, LeftParen, RightParen, Number, Less, Great, DoubleGreat, GreatAnd, Newline, Bytes, Value, ArgumentStart, ArgumentEnd, BadValue, SubstitutionStart, SubstitutionEnd}
 use Rattle.em_lexeme.specs.declared.frame.Frame.{Frame}
 use Rattle.em_lexeme.specs.declared.frame.Frame.TheVariants.{Round, Cases, InWord, Argument, Substitution}
 use Rattle.em_lexeme.specs.declared.spot.Spot.{Spot}
 use Rattle.em_lexeme.specs.declared.spot.Spot.TheVariants.{Command, Operand, Duplicate, Subject, Inside, Item, Pattern}
 use Rattle.em_lexeme.specs.Frames.{is_cases, without_cases, is_quoted, is_quoting}
 use Rattle.em_lexeme.specs.Operators.{pair, single, zero_in, zero_at}
-use Rattle.em_lexeme.specs.Spots.{is_item, is_pattern, spot_behind, item_or_command, pattern_or_command, joins, is_case, is_esac, is_in, spot_in, spot_in_command, spot_in_inside, spot_in_item, cases_in, opens_cases, closes_cases}
-use Rattle.em_lexeme.specs.Words.{reserved, whole_start, front_start, is_assigning, assignment_length, name_length, descriptor, is_number, is_dash}
+use Rattle.em_lexeme.specs.Spots.{is_item, is_pattern, spot_behind, joins, is_case, is_esac, is_in, spot_in, cases_in, opens_cases, closes_cases}
+use Rattle.em_lexeme.specs.Words.{reserved, whole_start, front_start, is_assigning, assignment_length, descriptor, is_number, is_dash}
 use Rattle.em_lex.specs.declared.state.Byte.{Byte}
 use Rattle.em_lex.specs.declared.state.Lexer.{Lexer}
 use Rattle.em_lex.specs.declared.state.Mode.{Mode}
@@ -22,9 +22,9 @@ use Rattle.em_lex.specs.declared.state.Mode.TheVariants.{Ready, Opened}
 use Rattle.em_lex.specs.Brackets.{refused_zero, without_zero, operated, round_opened, closed_by, round_closed}
 use Rattle.em_lex.specs.Heads.{started, with_bytes, with_assignment, headed, numbered, worded, duplicated, told_at, told, fronted, entered}
 use Rattle.em_lex.specs.Values.{valued, in_argument, with_start, with_word, with_pattern, spoiled, positional, substituted}
-use Rattle.em_lex.specs.Steps.{lexeme, emitted, refused, spent, pushed, top}
+use Rattle.em_lex.specs.Steps.{top}
 use Rattle.em_lex.specs.Standing.{Opens}
-use Rattle.em_lex.proofs.Fits.{decide, either, Fit, SpotFits, FrameFits, ZeroFits, Ordinary, emit, emit_start, emit_end, emit_plain, widen, refuse, open_to, at_spot, push, turn, spend, pop, all_drop, top_fits}
+use Rattle.em_lex.proofs.Fits.{either, Fit, SpotFits, FrameFits, ZeroFits, Ordinary, emit, emit_start, emit_end, emit_plain, widen, refuse, open_to, at_spot, push, turn, spend, pop, all_drop, top_fits}
 
 -- the byte that is read
 pub record In (t : List ℕ) (b : Byte) : Type 0 where

@@ -1,10 +1,9 @@
 -- Reading a text keeps the state as it has to be.
-use Rattle.std.proofs.Common.{◌≡◌, ℕ, zero, suc, ◌+◌, ◌-◌, ◌<◌, ◌≤◌, ◌==◌, ◌&&◌, ◌||◌, not, Bool, true, false, cond, List, [], ◌∷◌, ◌++◌, drop, slice_get, length, refl, sym, ap, subst, ◌∙◌, arith, ◌⊎◌, inl, inr}
-use Rattle.std.specs.Prelude.{Option, None, Some, IfSome, slice_index}
+use Rattle.std.proofs.Common.{◌≡◌, ℕ, suc, ◌+◌, ◌-◌, ◌<◌, ◌≤◌, ◌==◌, ◌&&◌, not, Bool, true, false, List, [], ◌∷◌, slice_get, length, refl, sym, ap, subst, ◌∙◌, arith, inl, inr}
+use Rattle.std.specs.Prelude.{Some, slice_index}
 use Rattle.std.specs.List.{AllByRecursion}
 use Rattle.std.proofs.lemmas.Bool.{eqb-true}
 use Rattle.em_lexeme.specs.declared.lexeme.Lexed.{Lexed}
-use Rattle.em_lexeme.specs.declared.lexeme.What.TheVariants.{Bytes}
 use Rattle.em_lexeme.specs.declared.frame.Frame.{Frame}
 use Rattle.em_lexeme.specs.declared.frame.Frame.TheVariants.{Backquotes}
 use Rattle.em_lexeme.specs.Frames.{is_list, is_quoting, is_escaped_in, is_backquotes}
@@ -12,11 +11,10 @@ use Rattle.em_lex.specs.declared.state.Byte.{Byte}
 use Rattle.em_lex.specs.declared.state.Lexer.{Lexer}
 use Rattle.em_lex.specs.declared.state.Mode.{Mode}
 use Rattle.em_lex.specs.declared.state.Mode.TheVariants.{Ready, Head, Gathering}
-use Rattle.em_lex.specs.Steps.{emitted, top, begun, gathered}
-use Rattle.em_lex.specs.Heads.{fronted, entered}
-use Rattle.em_lex.specs.Modes.{settled, by_mode}
-use Rattle.em_lex.specs.Quotes.{is_head, is_gathering, entered_from, piece_begun, kept_escape, gathering_at, escaped_in, escaped, raw, slashed, heeds_backslash, step}
-use Rattle.em_lex.specs.Lexing.{embedded, closes_backquotes, next, byte_at, run, at_first}
+use Rattle.em_lex.specs.Steps.{top, begun}
+use Rattle.em_lex.specs.Modes.{settled}
+use Rattle.em_lex.specs.Quotes.{is_head, is_gathering, piece_begun, kept_escape, escaped_in, escaped, slashed, heeds_backslash, step}
+use Rattle.em_lex.specs.Lexing.{closes_backquotes, next, byte_at, run, at_first}
 use Rattle.em_lex.specs.Standing.{is_passed, Passed}
 use Rattle.em_lex.proofs.Fits.{decide, either, Fit, FrameFits, emit_plain, widen, begin}
 use Rattle.em_lex.proofs.Puts.{In, Held, Heading, bytes_fit, fronted_fits, entered_fits}

@@ -1,30 +1,26 @@
 -- Reading a byte keeps the state as it has to be.
-use Rattle.std.proofs.Common.{◌≡◌, ℕ, zero, suc, ◌+◌, ◌-◌, ◌<◌, ◌≤◌, ◌==◌, ◌&&◌, ◌||◌, not, Bool, true, false, cond, List, [], ◌∷◌, ◌++◌, drop, slice_get, length, length-append, refl, sym, ap, subst, ◌∙◌, arith, ◌⊎◌, inl, inr}
+use Rattle.std.proofs.Common.{◌≡◌, ℕ, ◌+◌, ◌<◌, ◌≤◌, ◌==◌, ◌&&◌, ◌||◌, Bool, true, false, List, [], ◌∷◌, ◌++◌, length, length-append, refl, sym, ap, subst, ◌∙◌, arith, inl, inr}
 use Rattle.std.specs.Prelude.{Option, None, Some, IfSome, slice_index}
-use Rattle.std.specs.List.{AllByRecursion}
 use Rattle.std.proofs.lemmas.Bool.{eqb-true}
 use Rattle.em_base.specs.Blanks.{is_blank}
 use Rattle.em_base.specs.declared.construct.Construct.{Construct}
 use Rattle.em_base.specs.declared.construct.Construct.TheVariants.{Arithmetic, Positional}
 use Rattle.em_lexeme.specs.declared.lexeme.What.{What}
-use Rattle.em_lexeme.specs.declared.lexeme.What.TheVariants.{Newline, Bytes, ArgumentEnd}
+use Rattle.em_lexeme.specs.declared.lexeme.What.TheVariants.{Newline, ArgumentEnd}
 use Rattle.em_lexeme.specs.declared.frame.Frame.{Frame}
-use Rattle.em_lexeme.specs.declared.frame.Frame.TheVariants.{Single, Double, Backquotes}
+use Rattle.em_lexeme.specs.declared.frame.Frame.TheVariants.{Single, Double}
 use Rattle.em_lexeme.specs.declared.spot.Spot.TheVariants.{Operand}
-use Rattle.em_lexeme.specs.Bytes.{acts, acts_quoted, begins_name, is_in_name, begins_operator, ends_word, is_special, takes_word}
-use Rattle.em_lexeme.specs.Frames.{is_list, is_quoting, is_word, is_quoted, is_single, is_double, is_ordinary, is_escaped_in, is_backquotes}
+use Rattle.em_lexeme.specs.Bytes.{acts, begins_name, is_in_name, begins_operator, ends_word, is_special, takes_word}
+use Rattle.em_lexeme.specs.Frames.{is_list, is_quoting, is_word, is_quoted, is_single, is_double, is_ordinary}
 use Rattle.em_lexeme.specs.Operators.{pair, refused_pair, single}
-use Rattle.em_lexeme.specs.Spots.{spot_behind}
 use Rattle.em_lex.specs.declared.state.Byte.{Byte}
 use Rattle.em_lex.specs.declared.state.Lexer.{Lexer}
 use Rattle.em_lex.specs.declared.state.Mode.{Mode}
 use Rattle.em_lex.specs.declared.state.Mode.TheVariants.{Ready, Comment, Operating, Head, Gathering, Dollar, Naming, Opened, Brace, Status, Length, Parameter, Colon, Trim}
-use Rattle.em_lex.specs.Steps.{emitted, refused, top, pushed, popped, begun, turned, gathered, spent}
-use Rattle.em_lex.specs.Brackets.{operated, round_opened, round_closed}
-use Rattle.em_lex.specs.Heads.{told, fronted, entered}
-use Rattle.em_lex.specs.Values.{valued, with_word, with_pattern, spoiled, positional, substituted}
-use Rattle.em_lex.specs.Modes.{broken, between, special, left, listed, ready, pieced, settled_length, settled_in, settled, refused_or, paired_or, operating, heading, is_none_yet, pieced_before, gathering, dollar, naming, behind_opened, spoiled_at, brace, status, first_of_length, more_of_length, in_length, parameter, colon, trim, comment, by_mode, quote_opened}
-use Rattle.em_lex.specs.Standing.{is_quote, is_bracket, is_passed, Passed, OpensValue, Opens}
+use Rattle.em_lex.specs.Steps.{top, pushed, popped, begun, turned, gathered}
+use Rattle.em_lex.specs.Values.{substituted}
+use Rattle.em_lex.specs.Modes.{broken, between, special, left, listed, ready, pieced, settled_length, settled_in, settled, refused_or, paired_or, operating, heading, is_none_yet, pieced_before, gathering, dollar, naming, behind_opened, spoiled_at, brace, status, in_length, parameter, colon, trim, comment, by_mode}
+use Rattle.em_lex.specs.Standing.{is_quote, is_bracket, Passed, Opens}
 use Rattle.em_lex.proofs.Fits.{decide, either, Fit, laid_after, FrameFits, Ordinary, emit_end, emit_plain, widen, refuse, at_spot, push, begin, turn, gather, spend, pop}
 use Rattle.em_lex.proofs.Puts.{In, Held, Heading, newline_fits, bytes_fit, argument_end, pair_fits, single_fits, spot_behind_fits, operated_fits, round_opened_fits, round_closed_fits, told_fits, fronted_fits, entered_fits, valued_fits, with_word_fits, with_pattern_fits, spoiled_fits, positional_fits, substituted_fits}
 use Rattle.em_lex.proofs.Backquoted.{Aligned}

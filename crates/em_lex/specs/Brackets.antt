@@ -39,7 +39,8 @@ closed_by (Some (Substitution at spot)) s b = record (popped (emitted s b.at b.e
 closed_by (Some Round) s b = record (popped (emitted s b.at b.end RightParen)) { spot = Command }
 closed_by _ s b = record (emitted s b.at b.end RightParen) { spot = Command }
 
--- `)`, which ends the patterns of an item, or else the list in the innermost bracket with what of it is still open
+-- `)`, which ends the patterns of an item, or else the list in the innermost bracket with what of
+-- it is still open
 unfoldable pub round_closed : Lexer → Byte → Lexer
 round_closed s b =
     if is_pattern s.spot then record (emitted s b.at b.end RightParen) { spot = Command }

@@ -49,7 +49,8 @@ duplicated at s to =
     else if is_dash s.text then record (spent (refused s Redirection at)) { spot = Operand }
     else worded s to
 
--- unquoted bytes that end at `at`, before the byte `next`: digits right before `<` or `>` are a descriptor
+-- unquoted bytes that end at `at`, before the byte `next`: digits right before `<` or `>` are a
+-- descriptor
 abbrev pub told_at : Spot → Lexer → ℕ → ℕ → Lexer
 told_at (Duplicate from) s next at = duplicated from s at
 told_at _ s next at = if is_number s.text && ((next == 60) || (next == 62)) then numbered (descriptor 0 s.text) at s else worded s at

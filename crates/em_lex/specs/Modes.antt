@@ -25,7 +25,8 @@ use Rattle.em_lex.specs.Values.{valued, with_word, with_pattern, spoiled, positi
 abbrev pub broken : Lexer → Byte → Lexer
 broken s b = record (emitted s b.at b.end Newline) { spot = spot_behind Newline (top s) s.spot b.at }
 
--- in a list, outside of words. The quotes, `$` and the backquote that begin a word come to `special`.
+-- in a list, outside of words. The quotes, `$` and the backquote that begin a word come to
+-- `special`.
 unfoldable pub between : Lexer → Byte → Lexer
 between s b =
     if is_blank b.code then s
@@ -40,7 +41,8 @@ between s b =
 abbrev pub quote_opened : Frame → Byte → Lexer → Lexer
 quote_opened f b s = pushed f (begun Gathering b.at s)
 
--- within a word, a byte that doesn't stand for itself: a quote, `$`, a backquote, or the `}` of an argument
+-- within a word, a byte that doesn't stand for itself: a quote, `$`, a backquote, or the `}` of an
+-- argument
 unfoldable pub special : Lexer → Byte → Lexer
 special s b =
     if b.code == 39 then (if is_single (top s) then popped s else quote_opened (Single b.at) b s)

@@ -9,7 +9,8 @@ abbrev pub InOrder : ℕ → List Token → ℕ → Type 0
 InOrder from [] to = from ≤ to
 InOrder from (t ∷ ts) to = (from ≤ t.span.start) × (t.span.start < t.span.end) × InOrder t.span.end ts to
 
--- `'`, `"` and the backquote; `(` and `{`; the backslash and the newline, which may stand before these two and are dropped there
+-- `'`, `"` and the backquote; `(` and `{`; the backslash and the newline, which may stand before
+-- these two and are dropped there
 abbrev pub is_quote : ℕ → Bool
 is_quote b = (b == 39) || (b == 34) || (b == 96)
 

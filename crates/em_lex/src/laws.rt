@@ -14,7 +14,8 @@ pub fn law_quoted()
         → lexed (39 ∷ bytes ++ 39 ∷ []) ≡ quoted_word bytes }
 {}
 
-/// A line of bytes that mean nothing to the shell is one word of them; an assignment has two pieces.
+/// A line of bytes that mean nothing to the shell is one word of them; an assignment has two
+/// pieces.
 pub fn law_bare()
     ensures { (b : ℕ) (bytes : List ℕ) → b ≢ 35 → All (λ c. is_plain c ≡ true) (b ∷ bytes)
         → is_assigning (whole_start (reserved (b ∷ bytes)) (b ∷ bytes)) ≡ false

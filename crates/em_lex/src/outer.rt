@@ -7,9 +7,10 @@ use em_lexeme::token::tokens_in;
 use em_lexeme::{LexNo, Lexed, Token};
 use std::alloc::Global;
 
-/// The tokens of the line: whole words, and the operators, newlines and numbers of descriptors outside of them, in order.
-/// `Unclosed` and `Refused` come exactly where the line has a fault, and tell the leftmost one. Steps for each byte, and for
-/// those between backquotes once more for each level of them.
+/// The tokens of the line: whole words, and the operators, newlines and numbers of descriptors
+/// outside of them, in order. `Unclosed` and `Refused` come exactly where the line has a fault, and
+/// tell the leftmost one. Steps for each byte, and for those between backquotes once more for each
+/// level of them.
 #[tactic(auto, unfolding(crate::specs::Tokens::tokens_of))]
 pub fn tokens(alloc: Global, line: &[u8]) -> Result<Vec<Token>, LexNo>
     ensures ok { IfOk result (λ v. tokens_of line.now ≡ Ok v.items) }

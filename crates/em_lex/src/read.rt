@@ -134,8 +134,9 @@ fn read(alloc: Global, text: &[u8], left: u32) -> Result<Lexed, NoMemory>
     Ok(outcome(lexer))
 }
 
-/// The lexemes of the line up to its leftmost fault, and that fault. The line is read once from the left, and what stands in
-/// backquotes once more for each level of these. `NoMemory` is the only error.
+/// The lexemes of the line up to its leftmost fault, and that fault. The line is read once from the
+/// left, and what stands in backquotes once more for each level of these. `NoMemory` is the only
+/// error.
 #[tactic(auto, unfolding(crate::specs::Lexing::lexed))]
 pub fn lexemes(alloc: Global, line: &[u8]) -> Result<Lexed, NoMemory>
     ensures { IfOk result (λ l. l ≡ lexing.lexed line.now) }

@@ -59,7 +59,8 @@ is_ordinary (Some (Double at)) b = not (acts_quoted b)
 is_ordinary (Some (Argument at quoted)) b = not ((b == 125) || (if quoted then acts_quoted b else acts b))
 is_ordinary _ b = false
 
--- the bytes before which a backslash acts within double quotes: `"`, `$`, the backquote and the backslash, and in an argument `}`
+-- the bytes before which a backslash acts within double quotes: `"`, `$`, the backquote and the
+-- backslash, and in an argument `}`
 abbrev pub is_escaped_in : Option Frame → ℕ → Bool
 is_escaped_in (Some (Argument at quoted)) b = acts_quoted b || (b == 92) || (b == 125)
 is_escaped_in _ b = acts_quoted b || (b == 92)

@@ -22,7 +22,8 @@ abbrev pub began : What → ℕ → ℕ → ℕ → ℕ
 began (WordStart start) n at from = if n == 0 then at else from
 began _ n at from = from
 
--- what a lexeme is as a token, where so many words are open before it and the outermost began at `from`
+-- what a lexeme is as a token, where so many words are open before it and the outermost began at
+-- `from`
 abbrev pub token_at : What → ℕ → ℕ → Lexeme → List Token
 token_at (WordStart start) n from l = []
 token_at WordEnd n from l = if n == 1 then token from l.span.end Word ∷ [] else []

@@ -4,7 +4,8 @@ use Rattle.em_lexeme.specs.declared.lexeme.Lexeme.{Lexeme}
 use Rattle.em_lexeme.specs.declared.no.LexNo.TheVariants.{Unclosed, Refused, NoMemory}
 use Rattle.em_lexeme.specs.declared.no.LexNo.{LexNo}
 
--- where the i-th byte of the text in backquotes stands, and behind its last byte the backquote that closes them
+-- where the i-th byte of the text in backquotes stands, and behind its last byte the backquote that
+-- closes them
 abbrev pub place_in : List ℕ → ℕ → ℕ → ℕ
 place_in places close i = unwrap_or (slice_get places i) close
 

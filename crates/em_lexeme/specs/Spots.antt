@@ -1,4 +1,5 @@
--- Where commands may begin: as much of the grammar as tells which bracket ends the patterns of a `case`.
+-- Where commands may begin: as much of the grammar as tells which bracket ends the patterns of a
+-- `case`.
 use Rattle.std.specs.Prelude.{ℕ, ◌&&◌, Bool, true, false, List, ◌∷◌, drop, slice_get, Option, if◌then◌else◌}
 use Rattle.em_lexeme.specs.Frames.{is_cases}
 use Rattle.em_lexeme.specs.declared.frame.Frame.TheVariants.{Cases}
@@ -18,18 +19,14 @@ abbrev pub is_pattern : Spot → Bool
 is_pattern Pattern = true
 is_pattern _ = false
 
-abbrev pub is_duplicate : Spot → Bool
-is_duplicate (Duplicate at) = true
-is_duplicate _ = false
-
 abbrev pub item_or_command : Bool → Spot
 item_or_command item = if item then Item else Command
 
 abbrev pub pattern_or_command : Bool → Spot
 pattern_or_command pattern = if pattern then Pattern else Command
 
--- behind an operator, which began at `at`: `;;` ends an item where a `case` is open, `|` stands between patterns too, and a
--- redirection is part of a simple command
+-- behind an operator, which began at `at`: `;;` ends an item where a `case` is open, `|` stands
+-- between patterns too, and a redirection is part of a simple command
 abbrev pub spot_behind : What → Option Frame → Spot → ℕ → Spot
 spot_behind CaseEnd f spot at = item_or_command (is_cases f)
 spot_behind Pipe f spot at = pattern_or_command (is_pattern spot)

@@ -66,7 +66,8 @@ pub fn takes_word(byte: u8) -> bool
     byte == b'-' || byte == b'=' || byte == b'+' || byte == b'?'
 }
 
-/// Whether a backslash before the byte is dropped in backquotes, which stand in double quotes or not.
+/// Whether a backslash before the byte is dropped in backquotes, which stand in double quotes or
+/// not.
 pub fn is_dropped(quoting: bool, byte: u8) -> bool
     ensures { result ≡ bytes.is_dropped quoting byte }
 {

@@ -3,16 +3,20 @@
 use crate::no::LexNo;
 use em_base::{Seq, Span, Text};
 
-/// What a word begins with, where that bears on the grammar. The first piece of each of these but `Plain` is unquoted bytes.
+/// What a word begins with, where that bears on the grammar. The first piece of each of these but
+/// `Plain` is unquoted bytes.
 #[derive(Clone, Copy, Debug, PartialEq, Eq)]
 pub enum Start {
     /// A word without a part of its own in the grammar.
     Plain,
-    /// The whole word is an unquoted name, and none of the reserved words: its only piece is these bytes.
+    /// The whole word is an unquoted name, and none of the reserved words: its only piece is these
+    /// bytes.
     Name,
-    /// The word begins with an unquoted name and `=`. Its first piece is these bytes with the `=` and nothing more.
+    /// The word begins with an unquoted name and `=`. Its first piece is these bytes with the `=`
+    /// and nothing more.
     Assignment,
-    /// The whole word is `!`, unquoted, and its only piece is these bytes; the same holds for each of the following.
+    /// The whole word is `!`, unquoted, and its only piece is these bytes; the same holds for each
+    /// of the following.
     Bang,
     /// `if`
     If,
@@ -46,9 +50,10 @@ pub enum Start {
     RightBrace,
 }
 
-/// What stands at a place of the line. A word is `WordStart`, at least one piece and `WordEnd`. A piece is `Bytes`, `Value`,
-/// `BadValue` with what belongs to it, an argument (`ArgumentStart`, any number of pieces, `ArgumentEnd`) or a substitution
-/// (`SubstitutionStart`, the lexemes of its list, `SubstitutionEnd`).
+/// What stands at a place of the line. A word is `WordStart`, at least one piece and `WordEnd`. A
+/// piece is `Bytes`, `Value`, `BadValue` with what belongs to it, an argument (`ArgumentStart`, any
+/// number of pieces, `ArgumentEnd`) or a substitution (`SubstitutionStart`, the lexemes of its
+/// list, `SubstitutionEnd`).
 #[derive(Debug, Drop, PartialEq, Eq)]
 pub enum What {
     /// A newline that is no part of a word.
@@ -69,7 +74,8 @@ pub enum What {
     LeftParen,
     /// `)`, also that which ends the patterns of a `case`
     RightParen,
-    /// The 0, 1 or 2 right before `<`, `>` or `>>`; the 1 or 2 right before `>&`; the 1 or 2 behind `>&`.
+    /// The 0, 1 or 2 right before `<`, `>` or `>>`; the 1 or 2 right before `>&`; the 1 or 2 behind
+    /// `>&`.
     Number(u8),
     /// `<`
     Less,
@@ -88,15 +94,15 @@ pub enum What {
         quoted: bool,
         text: Text,
     },
-    /// A value without an argument. The form is empty for `$name` and `${name}`, `#` for `${#name}`, and `?`, with an empty
-    /// name, for `$?` and `${?}`.
+    /// A value without an argument. The form is empty for `$name` and `${name}`, `#` for
+    /// `${#name}`, and `?`, with an empty name, for `$?` and `${?}`.
     Value {
         quoted: bool,
         name: Text,
         form: Text,
     },
-    /// A value with an argument, whose pieces follow. The form is what stands between the name and the argument: `-`, `=`, `+`
-    /// or `?`, these with `:` in front, `%`, `%%`, `#` or `##`.
+    /// A value with an argument, whose pieces follow. The form is what stands between the name and
+    /// the argument: `-`, `=`, `+` or `?`, these with `:` in front, `%`, `%%`, `#` or `##`.
     ArgumentStart {
         quoted: bool,
         name: Text,
@@ -104,7 +110,8 @@ pub enum What {
     },
     /// The `}` behind an argument.
     ArgumentEnd,
-    /// `${` with something else behind it, which is a syntax error. What follows up to its `}` stands as an argument does.
+    /// `${` with something else behind it, which is a syntax error. What follows up to its `}`
+    /// stands as an argument does.
     BadValue,
     /// `$(` or the first of two backquotes.
     SubstitutionStart {
@@ -124,8 +131,9 @@ pub struct Lexeme {
 /// The lexemes of a line, in order.
 #[derive(Debug, Drop, PartialEq, Eq)]
 pub struct Lexed {
-    /// The lexemes, where the line has a fault those that end at its place or before. A word that begins with what is faulty
-    /// has its `WordStart` there, so that whatever is wrong with a word at that place is known.
+    /// The lexemes, where the line has a fault those that end at its place or before. A word that
+    /// begins with what is faulty has its `WordStart` there, so that whatever is wrong with a word
+    /// at that place is known.
     pub items: Seq<Lexeme>,
     /// The leftmost fault, where there is one: `Unclosed` or `Refused`.
     pub stop: Option<LexNo>,

@@ -13,7 +13,8 @@ pub fn place_behind(start: usize, size: usize, to: usize) -> usize
     start.saturating_add(size).min(to)
 }
 
-/// Where the i-th byte of the text in backquotes stands, or behind the last one the backquote that closes them.
+/// Where the i-th byte of the text in backquotes stands, or behind the last one the backquote that
+/// closes them.
 fn place_in(places: &[usize], close: usize, i: usize) -> usize
     ensures { result ≡ moving.place_in places.now close i }
 {

@@ -18,7 +18,8 @@ fn kind_of(what: &What) -> TokenKind
     }
 }
 
-/// The token that a lexeme ends or is, where so many words are open before it and the outermost began at `from`.
+/// The token that a lexeme ends or is, where so many words are open before it and the outermost
+/// began at `from`.
 fn token_at(lexeme: &Lexeme, deep: usize, from: usize) -> Option<Token>
     ensures { option_to_list result ≡ outer.token_at lexeme.now.what deep from lexeme.now }
 {

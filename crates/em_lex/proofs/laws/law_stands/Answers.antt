@@ -1,6 +1,3 @@
-use Rattle.em_lex.proofs.Puts.{substituted_fits}
-use Rattle.em_lex.proofs.Backquoted.{fault_there}
-use Rattle.em_lex.proofs.Embedded.{embedded_fits}
 use Rattle.em_lex.proofs.Outcomes.{line_lexes}
 use Rattle.em_lex.proofs.laws.law_stands.Goals as goal
 
