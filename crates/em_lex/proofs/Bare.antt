@@ -5,19 +5,20 @@ use Rattle.std.specs.List.{AllByRecursion}
 use Rattle.std.proofs.lemmas.Bool.{ne_eqb}
 use Rattle.std.proofs.lemmas.List.Elements.{recursion_from_All}
 use Rattle.em_base.specs.Blanks.{is_blank}
-use Rattle.em_lex.specs.declared.lexeme.Lexed.{Lexed}
-use Rattle.em_lex.specs.declared.state.Frame.TheVariants.{Cases}
+use Rattle.em_lexeme.specs.declared.lexeme.Lexed.{Lexed}
+use Rattle.em_lexeme.specs.declared.frame.Frame.TheVariants.{Cases}
 use Rattle.em_lex.specs.declared.state.Lexer.{Lexer}
 use Rattle.em_lex.specs.declared.state.Mode.TheVariants.{Head}
-use Rattle.em_lex.specs.declared.state.Spot.TheVariants.{Command}
+use Rattle.em_lexeme.specs.declared.spot.Spot.TheVariants.{Command}
 use Rattle.em_lex.specs.Alone.{bare_word}
-use Rattle.em_lex.specs.Bytes.{acts, begins_operator, ends_word}
-use Rattle.em_lex.specs.Frames.{is_word, is_plain, outermost}
+use Rattle.em_lexeme.specs.Bytes.{acts, begins_operator, ends_word}
+use Rattle.em_lexeme.specs.Frames.{is_word, is_plain, outermost}
 use Rattle.em_lex.specs.Lexing.{next, run, byte_at, at_first, finished, outcome, lexed, lexed_in}
 use Rattle.em_lex.specs.Modes.{ready, between, heading, settled}
-use Rattle.em_lex.specs.Operators.{is_case, is_esac}
+use Rattle.em_lexeme.specs.Spots.{is_case, is_esac}
 use Rattle.em_lex.specs.Quotes.{step}
-use Rattle.em_lex.specs.Words.{reserved, whole_start, is_assigning, is_number, told, worded, headed}
+use Rattle.em_lexeme.specs.Words.{reserved, whole_start, is_assigning, is_number}
+use Rattle.em_lex.specs.Heads.{told, worded, headed}
 use Rattle.em_lex.proofs.Quoted.{top_level, and_false}
 
 -- behind these bytes

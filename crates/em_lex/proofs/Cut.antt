@@ -4,10 +4,11 @@ use Rattle.std.specs.Prelude.{Option, None, Some, All, IfSome}
 use Rattle.std.specs.List.{AllByRecursion}
 use Rattle.std.proofs.lemmas.Bool.{leb-true}
 use Rattle.std.proofs.lemmas.List.Elements.{All-from_recursion}
-use Rattle.em_lex.specs.declared.lexeme.Lexeme.{Lexeme}
-use Rattle.em_lex.specs.declared.lexeme.Lexed.{Lexed}
-use Rattle.em_lex.specs.declared.no.LexNo.{LexNo}
-use Rattle.em_lex.specs.Lexing.{count_until, up_to, place_of, lexed}
+use Rattle.em_lexeme.specs.declared.lexeme.Lexeme.{Lexeme}
+use Rattle.em_lexeme.specs.declared.lexeme.Lexed.{Lexed}
+use Rattle.em_lexeme.specs.declared.no.LexNo.{LexNo}
+use Rattle.em_lexeme.specs.Faults.{count_until, up_to, place_of}
+use Rattle.em_lex.specs.Lexing.{lexed}
 use Rattle.em_lex.proofs.Quoted.{top_level}
 
 abbrev EndsBy : ℕ → Lexeme → Type 0

@@ -1,3 +1,11 @@
 mod Quoted
 mod Bare
 mod Cut
+mod Fits
+mod Puts
+mod Backquoted
+mod Embedded
+mod Stepping
+mod Running
+mod Outcomes
+mod Ordered

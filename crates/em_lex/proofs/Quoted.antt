@@ -4,18 +4,18 @@ use Rattle.std.specs.Prelude.{None, All}
 use Rattle.std.specs.List.{AllByRecursion}
 use Rattle.std.proofs.lemmas.Bool.{ne_eqb}
 use Rattle.std.proofs.lemmas.List.Elements.{recursion_from_All}
-use Rattle.em_lex.specs.declared.lexeme.Lexed.{Lexed}
-use Rattle.em_lex.specs.declared.lexeme.Start.TheVariants.{Plain}
-use Rattle.em_lex.specs.declared.lexeme.What.TheVariants.{WordStart, WordEnd, Bytes}
-use Rattle.em_lex.specs.declared.state.Frame.TheVariants.{InWord, Single}
+use Rattle.em_lexeme.specs.declared.lexeme.Lexed.{Lexed}
+use Rattle.em_lexeme.specs.declared.lexeme.Start.TheVariants.{Plain}
+use Rattle.em_lexeme.specs.declared.lexeme.What.TheVariants.{WordStart, WordEnd, Bytes}
+use Rattle.em_lexeme.specs.declared.frame.Frame.TheVariants.{InWord, Single}
 use Rattle.em_lex.specs.declared.state.Lexer.{Lexer}
 use Rattle.em_lex.specs.declared.state.Mode.TheVariants.{Ready, Gathering}
-use Rattle.em_lex.specs.declared.state.Spot.TheVariants.{Operand}
+use Rattle.em_lexeme.specs.declared.spot.Spot.TheVariants.{Operand}
 use Rattle.em_lex.specs.Alone.{quoted_word}
 use Rattle.em_lex.specs.Steps.{lexeme}
 use Rattle.em_lex.specs.Lexing.{next, run, byte_at, at_first, finished, read_through, outcome, lexed, lexed_in}
 use Rattle.em_lex.specs.Modes.{ready, special, gathering, settled}
-use Rattle.em_lex.specs.Words.{entered}
+use Rattle.em_lex.specs.Heads.{entered}
 use Rattle.em_lex.specs.Quotes.{step}
 
 -- behind the first quote and these bytes
@@ -54,7 +54,7 @@ ended : (t : List ℕ) (at n : ℕ) → outcome (finished (behind_quotes t at) n
 unfolding finished settled
 ended t at n = refl
 
-level : (left : ℕ) (text : List ℕ) → lexed_in (suc left) text ≡ outcome (read_through (lexed_in left) at_first text)
+pub level : (left : ℕ) (text : List ℕ) → lexed_in (suc left) text ≡ outcome (read_through (lexed_in left) at_first text)
 unfolding lexed_in
 level left text = refl
 

@@ -1,9 +1,9 @@
 -- What some whole lines are.
 use Rattle.std.specs.Prelude.{ℕ, ◌+◌, true, false, List, [], ◌∷◌, length, None}
-use Rattle.em_lex.specs.declared.lexeme.Lexed.{Lexed}
-use Rattle.em_lex.specs.declared.lexeme.Start.{Start}
-use Rattle.em_lex.specs.declared.lexeme.Start.TheVariants.{Plain}
-use Rattle.em_lex.specs.declared.lexeme.What.TheVariants.{WordStart, WordEnd, Bytes}
+use Rattle.em_lexeme.specs.declared.lexeme.Lexed.{Lexed}
+use Rattle.em_lexeme.specs.declared.lexeme.Start.{Start}
+use Rattle.em_lexeme.specs.declared.lexeme.Start.TheVariants.{Plain}
+use Rattle.em_lexeme.specs.declared.lexeme.What.TheVariants.{WordStart, WordEnd, Bytes}
 use Rattle.em_lex.specs.Steps.{lexeme}
 
 -- one word of these bytes, between single quotes

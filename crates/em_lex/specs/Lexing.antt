@@ -1,33 +1,21 @@
 -- The lexemes of a line.
 --     lexed line     those up to the leftmost fault, and that fault
-use Rattle.std.specs.Prelude.{ℕ, suc, zero, ◌+◌, ◌-◌, ◌==◌, ◌&&◌, not, min, nat_le, Bool, true, false, List, [], ◌∷◌, ◌++◌, length, map, take, slice_get, unwrap_or, Option, Some, None, option_map, if◌then◌else◌}
-use Rattle.std.specs.List.{prefix_len}
+use Rattle.std.specs.Prelude.{ℕ, ◌-◌, ◌==◌, ◌&&◌, Bool, true, false, List, ◌∷◌, length, Option, Some, None, if◌then◌else◌, ◌+◌, min, [], suc, zero, not, ◌++◌, map, option_map}
 use Rattle.em_base.specs.declared.construct.Construct.TheVariants.{Depth}
-use Rattle.em_lex.specs.declared.lexeme.Lexeme.{Lexeme}
-use Rattle.em_lex.specs.declared.lexeme.Lexed.{Lexed}
-use Rattle.em_lex.specs.declared.lexeme.What.TheVariants.{Bytes, SubstitutionStart, SubstitutionEnd}
-use Rattle.em_lex.specs.declared.no.LexNo.{LexNo}
-use Rattle.em_lex.specs.declared.no.LexNo.TheVariants.{Unclosed, Refused, NoMemory}
+use Rattle.em_lex.specs.Modes.{settled, left}
+use Rattle.em_lex.specs.Quotes.{piece_begun, slashed, step}
+use Rattle.em_lex.specs.Steps.{emitted, top, popped, first_fault}
 use Rattle.em_lex.specs.declared.state.Byte.{Byte}
 use Rattle.em_lex.specs.declared.state.Lexer.{Lexer}
 use Rattle.em_lex.specs.declared.state.Mode.TheVariants.{Ready}
-use Rattle.em_lex.specs.declared.state.Spot.TheVariants.{Command}
-use Rattle.em_lex.specs.Frames.{is_word, is_quoted, is_backquotes, outermost}
-use Rattle.em_lex.specs.Steps.{emitted, first_fault, top, popped}
-use Rattle.em_lex.specs.Modes.{settled, left}
-use Rattle.em_lex.specs.Quotes.{piece_begun, slashed, step}
-
--- where the i-th byte of the text in backquotes stands, and behind its last byte the backquote that closes them
-abbrev pub place_in : List ℕ → ℕ → ℕ → ℕ
-place_in places close i = unwrap_or (slice_get places i) close
-
-abbrev pub moved : List ℕ → ℕ → Lexeme → Lexeme
-moved places close l = record { span = record { start = place_in places close l.span.start; end = place_in places close l.span.end }; what = l.what }
-
-abbrev pub moved_fault : List ℕ → ℕ → LexNo → LexNo
-moved_fault places close (Unclosed at) = Unclosed (place_in places close at)
-moved_fault places close (Refused construct at) = Refused construct (place_in places close at)
-moved_fault places close NoMemory = NoMemory
+use Rattle.em_lexeme.specs.Frames.{is_word, is_quoted, is_backquotes, outermost}
+use Rattle.em_lexeme.specs.declared.lexeme.Lexed.{Lexed}
+use Rattle.em_lexeme.specs.declared.lexeme.What.TheVariants.{SubstitutionEnd, Bytes, SubstitutionStart}
+use Rattle.em_lexeme.specs.declared.no.LexNo.TheVariants.{Refused}
+use Rattle.em_lexeme.specs.declared.no.LexNo.{LexNo}
+use Rattle.em_lexeme.specs.declared.spot.Spot.TheVariants.{Command}
+use Rattle.em_lexeme.specs.Places.{moved, moved_fault}
+use Rattle.em_lexeme.specs.Faults.{leftmost, up_to}
 
 abbrev pub with_fault : Option LexNo → Lexer → Lexer
 with_fault None s = s
@@ -68,25 +56,6 @@ word_left s at = if is_word (top s) then left s at else s
 
 unfoldable pub finished : Lexer → ℕ → Lexer
 finished s at = word_left (settled (last_backslash s at) at) at
-
-abbrev pub place_of : LexNo → ℕ
-place_of (Unclosed at) = at
-place_of (Refused construct at) = at
-place_of NoMemory = 0
-
--- the leftmost fault; where two stand at one place it is what isn't closed
-abbrev pub leftmost : Option ℕ → Option LexNo → Option LexNo
-leftmost None fault = fault
-leftmost (Some at) None = Some (Unclosed at)
-leftmost (Some at) (Some fault) = if nat_le at (place_of fault) then Some (Unclosed at) else Some fault
-
--- the lexemes that end at a place or before
-abbrev pub count_until : ℕ → List Lexeme → ℕ
-count_until at items = prefix_len (λ l. nat_le l.span.end at) items
-
-abbrev pub up_to : Option LexNo → List Lexeme → Lexed
-up_to None items = record { items = items; stop = None }
-up_to (Some fault) items = record { items = take (count_until (place_of fault) items) items; stop = Some fault }
 
 abbrev pub outcome : Lexer → Lexed
 outcome s = up_to (leftmost (outermost s.frames None) s.fault) s.items

@@ -1,14 +1,12 @@
 pub use Rattle.em_base.specs.Blanks
 pub use Rattle.em_base.specs.Spans
-pub mod Bytes
-pub mod Frames
 pub mod Steps
-pub mod Operators
-pub mod Words
+pub mod Brackets
+pub mod Heads
 pub mod Values
 pub mod Modes
 pub mod Quotes
 pub mod Lexing
-pub mod Kinds
 pub mod Tokens
+pub mod Standing
 pub mod Alone

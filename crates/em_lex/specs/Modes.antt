@@ -3,27 +3,30 @@ use Rattle.std.specs.Prelude.{ℕ, ◌==◌, ◌&&◌, ◌||◌, Bool, List, [],
 use Rattle.em_base.specs.Blanks.{is_blank}
 use Rattle.em_base.specs.declared.construct.Construct.{Construct}
 use Rattle.em_base.specs.declared.construct.Construct.TheVariants.{Arithmetic, Positional}
-use Rattle.em_lex.specs.declared.lexeme.What.{What}
-use Rattle.em_lex.specs.declared.lexeme.What.TheVariants.{Newline, Bytes, ArgumentEnd, WordEnd}
+use Rattle.em_lexeme.specs.declared.lexeme.What.{What}
+use Rattle.em_lexeme.specs.declared.lexeme.What.TheVariants.{Newline, Bytes, ArgumentEnd, WordEnd}
 use Rattle.em_lex.specs.declared.state.Byte.{Byte}
-use Rattle.em_lex.specs.declared.state.Frame.{Frame}
-use Rattle.em_lex.specs.declared.state.Frame.TheVariants.{Single, Double, Backquotes}
+use Rattle.em_lexeme.specs.declared.frame.Frame.{Frame}
+use Rattle.em_lexeme.specs.declared.frame.Frame.TheVariants.{Single, Double, Backquotes}
 use Rattle.em_lex.specs.declared.state.Lexer.{Lexer}
-use Rattle.em_lex.specs.declared.state.Spot.TheVariants.{Operand}
+use Rattle.em_lexeme.specs.declared.spot.Spot.TheVariants.{Operand}
 use Rattle.em_lex.specs.declared.state.Mode.{Mode}
 use Rattle.em_lex.specs.declared.state.Mode.TheVariants.{Ready, Comment, Operating, Head, Gathering, Dollar, Naming, Opened, Brace, Status, Length, Parameter, Colon, Trim}
-use Rattle.em_lex.specs.Bytes.{acts, begins_name, is_in_name, begins_operator, ends_word, is_special, takes_word}
-use Rattle.em_lex.specs.Frames.{is_list, is_quoting, is_word, is_quoted, is_single, is_double, is_ordinary}
+use Rattle.em_lexeme.specs.Bytes.{acts, begins_name, is_in_name, begins_operator, ends_word, is_special, takes_word}
+use Rattle.em_lexeme.specs.Frames.{is_list, is_quoting, is_word, is_quoted, is_single, is_double, is_ordinary}
 use Rattle.em_lex.specs.Steps.{emitted, refused, top, pushed, popped, begun, turned, gathered, spent}
-use Rattle.em_lex.specs.Operators.{pair, refused_pair, single, spot_behind, operated, round_opened, round_closed}
-use Rattle.em_lex.specs.Words.{told, fronted, entered}
+use Rattle.em_lexeme.specs.Operators.{pair, refused_pair, single}
+use Rattle.em_lexeme.specs.Spots.{spot_behind}
+use Rattle.em_lex.specs.Brackets.{operated, round_opened, round_closed}
+use Rattle.em_lex.specs.Heads.{told, fronted, entered}
 use Rattle.em_lex.specs.Values.{valued, with_word, with_pattern, spoiled, positional, substituted}
 
 -- a newline outside of words
 abbrev pub broken : Lexer → Byte → Lexer
 broken s b = record (emitted s b.at b.end Newline) { spot = spot_behind Newline (top s) s.spot b.at }
 
--- in a list, outside of words. The quotes, `$` and the backquote that begin a word come to `special`.
+-- in a list, outside of words. The quotes, `$` and the backquote that begin a word come to
+-- `special`.
 unfoldable pub between : Lexer → Byte → Lexer
 between s b =
     if is_blank b.code then s
@@ -38,7 +41,8 @@ between s b =
 abbrev pub quote_opened : Frame → Byte → Lexer → Lexer
 quote_opened f b s = pushed f (begun Gathering b.at s)
 
--- within a word, a byte that doesn't stand for itself: a quote, `$`, a backquote, or the `}` of an argument
+-- within a word, a byte that doesn't stand for itself: a quote, `$`, a backquote, or the `}` of an
+-- argument
 unfoldable pub special : Lexer → Byte → Lexer
 special s b =
     if b.code == 39 then (if is_single (top s) then popped s else quote_opened (Single b.at) b s)

@@ -1,13 +1,14 @@
 -- Backslashes and backquotes.
 use Rattle.std.specs.Prelude.{ℕ, ◌-◌, ◌==◌, ◌&&◌, ◌||◌, not, Bool, true, false, [], ◌∷◌, ◌++◌, if◌then◌else◌}
-use Rattle.em_lex.specs.declared.lexeme.What.TheVariants.{Bytes}
+use Rattle.em_lexeme.specs.declared.lexeme.What.TheVariants.{Bytes}
 use Rattle.em_lex.specs.declared.state.Byte.{Byte}
 use Rattle.em_lex.specs.declared.state.Lexer.{Lexer}
 use Rattle.em_lex.specs.declared.state.Mode.{Mode}
 use Rattle.em_lex.specs.declared.state.Mode.TheVariants.{Comment, Head, Gathering}
-use Rattle.em_lex.specs.Frames.{is_list, is_quoting, is_single, is_backquotes, is_backquotes_quoted, is_escaped_in}
+use Rattle.em_lexeme.specs.Frames.{is_list, is_quoting, is_single, is_backquotes, is_backquotes_quoted, is_escaped_in}
+use Rattle.em_lexeme.specs.Bytes.{is_dropped}
 use Rattle.em_lex.specs.Steps.{emitted, top, begun, gathered}
-use Rattle.em_lex.specs.Words.{fronted, entered}
+use Rattle.em_lex.specs.Heads.{fronted, entered}
 use Rattle.em_lex.specs.Modes.{settled, by_mode}
 
 abbrev pub is_comment : Mode → Bool
@@ -53,10 +54,6 @@ kept s b at = record s { text = s.text ++ b ∷ []; places = s.places ++ at ∷ 
 
 abbrev pub slashed : Bool → Lexer → Lexer
 slashed on s = record s { backslash = on }
-
--- before a backslash, `$` and a backquote a backslash is dropped, in double quotes also before `"`
-abbrev pub is_dropped : Bool → ℕ → Bool
-is_dropped quoting b = (b == 92) || (b == 36) || (b == 96) || (quoting && (b == 34))
 
 unfoldable pub raw : Lexer → Byte → Lexer
 raw s b =

@@ -1,11 +1,11 @@
 -- The small changes of which reading consists.
 use Rattle.std.specs.Prelude.{ℕ, [], ◌∷◌, ◌++◌, drop, slice_get, Option, Some, None}
 use Rattle.em_base.specs.declared.construct.Construct.{Construct}
-use Rattle.em_lex.specs.declared.lexeme.Lexeme.{Lexeme}
-use Rattle.em_lex.specs.declared.lexeme.What.{What}
-use Rattle.em_lex.specs.declared.no.LexNo.{LexNo}
-use Rattle.em_lex.specs.declared.no.LexNo.TheVariants.{Refused}
-use Rattle.em_lex.specs.declared.state.Frame.{Frame}
+use Rattle.em_lexeme.specs.declared.lexeme.Lexeme.{Lexeme}
+use Rattle.em_lexeme.specs.declared.lexeme.What.{What}
+use Rattle.em_lexeme.specs.declared.no.LexNo.{LexNo}
+use Rattle.em_lexeme.specs.declared.no.LexNo.TheVariants.{Refused}
+use Rattle.em_lexeme.specs.declared.frame.Frame.{Frame}
 use Rattle.em_lex.specs.declared.state.Mode.{Mode}
 use Rattle.em_lex.specs.declared.state.Mode.TheVariants.{Ready}
 use Rattle.em_lex.specs.declared.state.Lexer.{Lexer}

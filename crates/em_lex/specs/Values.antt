@@ -1,12 +1,12 @@
 -- Values: what begins with `$`.
 use Rattle.std.specs.Prelude.{ℕ, Bool, false, List}
 use Rattle.em_base.specs.declared.construct.Construct.TheVariants.{Positional}
-use Rattle.em_lex.specs.declared.lexeme.What.TheVariants.{Value, ArgumentStart, BadValue, SubstitutionStart}
-use Rattle.em_lex.specs.declared.state.Frame.TheVariants.{Argument, Substitution}
+use Rattle.em_lexeme.specs.declared.lexeme.What.TheVariants.{Value, ArgumentStart, BadValue, SubstitutionStart}
+use Rattle.em_lexeme.specs.declared.frame.Frame.TheVariants.{Argument, Substitution}
 use Rattle.em_lex.specs.declared.state.Lexer.{Lexer}
 use Rattle.em_lex.specs.declared.state.Mode.TheVariants.{Opened}
-use Rattle.em_lex.specs.declared.state.Spot.TheVariants.{Command}
-use Rattle.em_lex.specs.Frames.{is_quoted, is_quoting}
+use Rattle.em_lexeme.specs.declared.spot.Spot.TheVariants.{Command}
+use Rattle.em_lexeme.specs.Frames.{is_quoted, is_quoting}
 use Rattle.em_lex.specs.Steps.{emitted, refused, top, pushed, spent}
 
 -- the value of the name that was gathered, with this form

@@ -2,9 +2,9 @@
 ghost use Rattle.std.specs.Prelude.{◌≡◌, OnOk};
 ghost use Rattle.em_lex.specs.Modes as modes;
 
-use crate::bytes::{begins_name, is_in_name, is_special, takes_word};
 use crate::state::{Byte, Lexer, Mode};
 use em_base::{Construct, NoMemory};
+use em_lexeme::bytes::{begins_name, is_in_name, is_special, takes_word};
 use std::alloc::Global;
 
 impl Lexer {

@@ -1,24 +1,19 @@
 //! The tokens of a recipe line in a subset of the POSIX shell.
 #![tactic(auto)]
 
-mod bytes;
+mod bracket;
 mod dollar;
-mod frame;
+mod head;
 pub mod laws;
-mod lexeme;
 mod mode;
-mod no;
-mod operator;
 mod outer;
 mod quote;
 mod read;
 mod state;
 mod steps;
 mod value;
-mod word;
 
-pub use lexeme::{Lexed, Lexeme, Start, Token, TokenKind, What};
-pub use no::LexNo;
+pub use em_lexeme::{LexNo, Lexed, Lexeme, Start, Token, TokenKind, What};
 pub use outer::tokens;
 pub use read::lexemes;
 

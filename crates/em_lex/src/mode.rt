@@ -2,12 +2,15 @@
 ghost use Rattle.std.specs.Prelude.{◌≡◌, [], ◌∷◌, OnOk};
 ghost use Rattle.em_lex.specs.Modes as modes;
 
-use crate::bytes::{acts, begins_operator, ends_word};
-use crate::frame::{is_double, is_list, is_ordinary, is_quoted, is_quoting, is_single, is_word};
-use crate::lexeme::What;
-use crate::operator::{pair, refused_pair, single, spot_behind};
-use crate::state::{Byte, Frame, Lexer, Mode, Spot};
+use crate::state::{Byte, Lexer, Mode};
 use em_base::{Construct, NoMemory, Text, is_blank};
+use em_lexeme::What;
+use em_lexeme::bytes::{acts, begins_operator, ends_word};
+use em_lexeme::frame::{
+    Frame, is_double, is_list, is_ordinary, is_quoted, is_quoting, is_single, is_word,
+};
+use em_lexeme::operator::{pair, refused_pair, single};
+use em_lexeme::spot::{Spot, spot_behind};
 use std::alloc::Global;
 
 impl Lexer {

@@ -1,97 +1,16 @@
 //! The tokens of a line.
-ghost use Rattle.std.specs.Prelude.{◌≡◌, ◌<◌, ◌^◌, ◌⊎◌, Ok, Err, IfOk, IfErr, option_to_list};
-ghost use Rattle.em_lex.specs.Kinds as kinds;
-ghost use Rattle.em_lex.specs.Tokens as tokens;
-ghost use Rattle.em_lex.specs.Tokens.{tokens_from, tokens_of};
+ghost use Rattle.std.specs.Prelude.{◌≡◌, ◌⊎◌, Ok, Err, IfOk, IfErr};
+ghost use Rattle.em_lex.specs.Tokens.{tokens_of};
 
-use crate::lexeme::{Lexed, Lexeme, Token, TokenKind, What};
-use crate::no::LexNo;
 use crate::read::lexemes;
-use em_base::{NoMemory, Span};
+use em_lexeme::token::tokens_in;
+use em_lexeme::{LexNo, Lexed, Token};
 use std::alloc::Global;
 
-/// What a lexeme that stands outside of all words is as a token.
-fn kind_of(what: &What) -> TokenKind
-    ensures { result ≡ kinds.kind_of what.now }
-{
-    match what {
-        What::Newline => TokenKind::Newline,
-        What::Number(_) => TokenKind::Number,
-        _ => TokenKind::Operator,
-    }
-}
-
-/// The token that a lexeme ends or is, where so many words are open before it and the outermost began at `from`.
-fn token_at(lexeme: &Lexeme, deep: usize, from: usize) -> Option<Token>
-    ensures { option_to_list result ≡ tokens.token_at lexeme.now.what deep from lexeme.now }
-{
-    match lexeme.what {
-        What::WordStart(_) => None,
-        What::WordEnd => {
-            let start = from;
-            let end = lexeme.span.end;
-            if deep != 1 {
-                return None;
-            }
-            Some(Token {
-                span: Span { start, end },
-                kind: TokenKind::Word,
-            })
-        }
-        _ => {
-            if deep != 0 {
-                return None;
-            }
-            Some(Token {
-                span: lexeme.span,
-                kind: kind_of(&lexeme.what),
-            })
-        }
-    }
-}
-
-/// How many words are open behind a lexeme.
-fn open_behind(what: &What, deep: usize) -> usize
-    requires { deep < 2 ^ 63 }
-    ensures { result ≡ tokens.open_behind what.now deep }
-{
-    match what {
-        What::WordStart(_) => deep + 1,
-        What::WordEnd => deep.saturating_sub(1),
-        _ => deep,
-    }
-}
-
-/// Where the outermost word began, behind a lexeme.
-fn began(lexeme: &Lexeme, deep: usize, from: usize) -> usize
-    ensures { result ≡ tokens.began lexeme.now.what deep lexeme.now.span.start from }
-{
-    match lexeme.what {
-        What::WordStart(_) => if deep == 0 { lexeme.span.start } else { from },
-        _ => from,
-    }
-}
-
-/// The tokens of which the lexemes are.
-fn tokens_in(alloc: Global, items: &[Lexeme]) -> Result<Vec<Token>, NoMemory>
-    ensures { IfOk result (λ v. v.items ≡ tokens_from 0 0 items.now) }
-{
-    let mut tokens = Vec::new(alloc);
-    let mut deep: usize = 0;
-    let mut from: usize = 0;
-    for lexeme in items {
-        if let Some(token) = token_at(lexeme, deep, from) {
-            tokens.push(token)?;
-        }
-        from = began(lexeme, deep, from);
-        deep = open_behind(&lexeme.what, deep);
-    }
-    Ok(tokens)
-}
-
-/// The tokens of the line: whole words, and the operators, newlines and numbers of descriptors outside of them, in order.
-/// `Unclosed` and `Refused` come exactly where the line has a fault, and tell the leftmost one. Steps for each byte, and for
-/// those between backquotes once more for each level of them.
+/// The tokens of the line: whole words, and the operators, newlines and numbers of descriptors
+/// outside of them, in order. `Unclosed` and `Refused` come exactly where the line has a fault, and
+/// tell the leftmost one. Steps for each byte, and for those between backquotes once more for each
+/// level of them.
 #[tactic(auto, unfolding(crate::specs::Tokens::tokens_of))]
 pub fn tokens(alloc: Global, line: &[u8]) -> Result<Vec<Token>, LexNo>
     ensures ok { IfOk result (λ v. tokens_of line.now ≡ Ok v.items) }

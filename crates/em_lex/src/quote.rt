@@ -3,12 +3,13 @@ ghost use Rattle.std.specs.Prelude.{◌≡◌, OnOk};
 ghost use Rattle.em_lex.specs.Quotes as quotes;
 ghost use Rattle.em_lex.specs.Modes.{by_mode};
 
-use crate::frame::{
-    is_backquotes, is_backquotes_quoted, is_escaped_in, is_list, is_quoting, is_single,
-};
-use crate::lexeme::What;
 use crate::state::{Byte, Lexer, Mode};
 use em_base::{NoMemory, Text};
+use em_lexeme::What;
+use em_lexeme::bytes::is_dropped;
+use em_lexeme::frame::{
+    is_backquotes, is_backquotes_quoted, is_escaped_in, is_list, is_quoting, is_single,
+};
 use std::alloc::Global;
 
 /// Whether it is a comment.
@@ -30,13 +31,6 @@ fn is_gathering(mode: Mode) -> bool
     ensures { result ≡ quotes.is_gathering mode }
 {
     matches!(mode, Mode::Gathering)
-}
-
-/// Whether a backslash before the byte is dropped in backquotes, which stand in double quotes or not.
-fn is_dropped(quoting: bool, byte: u8) -> bool
-    ensures { result ≡ quotes.is_dropped quoting byte }
-{
-    byte == b'\\' || byte == b'$' || byte == b'`' || (quoting && byte == b'"')
 }
 
 impl Lexer {

@@ -1,8 +1,9 @@
 //! How far a line is read.
 
-use crate::lexeme::Lexeme;
-use crate::no::LexNo;
 use em_base::{Seq, Stack, Text};
+use em_lexeme::frame::Frame;
+use em_lexeme::spot::Spot;
+use em_lexeme::{LexNo, Lexeme};
 
 /// A byte of the text that is read, and where it stands.
 #[derive(Clone, Copy)]
@@ -44,46 +45,6 @@ pub(crate) enum Mode {
     Colon,
     /// `${`, a name and this byte, `%` or `#`.
     Trim(u8),
-}
-
-/// Where in a list the next word or operator stands, as far as it bears on the brackets of `case`.
-#[derive(Clone, Copy)]
-pub(crate) enum Spot {
-    /// Where a command may begin, or a reserved word may follow another.
-    Command,
-    /// Within a simple command, or where the grammar has no place.
-    Operand,
-    /// Behind the `>&` that stands there.
-    Duplicate(usize),
-    /// Behind `case`.
-    Subject,
-    /// Behind the word of a `case`, where `in` comes.
-    Inside,
-    /// Where an item of a `case` may begin.
-    Item,
-    /// Within the patterns of an item.
-    Pattern,
-}
-
-/// What is open.
-#[derive(Clone, Copy)]
-pub(crate) enum Frame {
-    /// `(`
-    Round,
-    /// `case`
-    Cases,
-    /// A word.
-    InWord,
-    /// A single quote, which stands there.
-    Single(usize),
-    /// A double quote, which stands there.
-    Double(usize),
-    /// A backquote, which stands there, and whether it stands within double quotes.
-    Backquotes(usize, bool),
-    /// The argument of a value whose `$` stands there, and whether it is read as in double quotes.
-    Argument(usize, bool),
-    /// A `$(` that stands there, and the spot around its word.
-    Substitution(usize, Spot),
 }
 
 /// What is known of a text up to some byte of it.

@@ -3,10 +3,11 @@ ghost use Rattle.std.specs.Prelude.{◌≡◌, slice_get, OnOk};
 ghost use Rattle.em_lex.specs.Steps as steps;
 ghost use Rattle.em_lex.specs.Lexing.{at_first};
 
-use crate::lexeme::{Lexeme, What};
-use crate::no::LexNo;
-use crate::state::{Frame, Lexer, Mode, Spot};
+use crate::state::{Lexer, Mode};
 use em_base::{Construct, NoMemory, Seq, Span, Stack, Text};
+use em_lexeme::frame::Frame;
+use em_lexeme::spot::Spot;
+use em_lexeme::{LexNo, Lexeme, What};
 use std::alloc::Global;
 use std::mem;
 

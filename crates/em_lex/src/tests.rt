@@ -197,6 +197,8 @@ fn what_opens_must_be_closed(rt: HostRuntime) {
         (b"$(a \"b)", 0),
         (b"a \"b $1", 2),
         (b"a \"$(b `c`", 2),
+        // a backslash and a newline between `$` and its bracket vanish
+        (b"a $\\\n(b", 2),
     ] {
         assert!(rt; tokens(rt.alloc(), line).is_err_and(|e| e == LexNo::Unclosed(at)));
     }

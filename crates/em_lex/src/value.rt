@@ -2,10 +2,11 @@
 ghost use Rattle.std.specs.Prelude.{◌≡◌, OnOk};
 ghost use Rattle.em_lex.specs.Values as values;
 
-use crate::frame::{is_quoted, is_quoting};
-use crate::lexeme::What;
-use crate::state::{Frame, Lexer, Mode, Spot};
+use crate::state::{Lexer, Mode};
 use em_base::{Construct, NoMemory, Text};
+use em_lexeme::What;
+use em_lexeme::frame::{Frame, is_quoted, is_quoting};
+use em_lexeme::spot::Spot;
 use std::alloc::Global;
 
 impl Lexer {

@@ -1,6 +1,6 @@
 use Rattle.std.proofs.Common.{◌≡◌, false, cond, List, [], ◌∷◌, slice_get, refl, sym, ap, ◌∙◌}
-use Rattle.em_lex.specs.declared.state.Frame.{Frame}
-use Rattle.em_lex.specs.Frames.{is_cases, without_cases}
+use Rattle.em_lexeme.specs.declared.frame.Frame.{Frame}
+use Rattle.em_lexeme.specs.Frames.{is_cases, without_cases}
 use Rattle.em_lex.proofs.state.Lexer.drop_cases.Goals as goal
 
 no_cases : (fs : List Frame) → is_cases (slice_get fs 0) ≡ false → without_cases fs ≡ fs

@@ -1,5 +1,5 @@
 use Rattle.std.proofs.Common.{◌≡◌, length}
-use Rattle.em_lex.specs.Frames.{without_cases}
+use Rattle.em_lexeme.specs.Frames.{without_cases}
 use Rattle.em_lex.proofs.state.Lexer.drop_cases.Given as goal
 
 -- only the frames change, and what they are without each `case` stays

@@ -1,0 +1,11 @@
+pub use Rattle.em_base.specs.Blanks
+pub use Rattle.em_base.specs.Spans
+pub mod Bytes
+pub mod Frames
+pub mod Operators
+pub mod Spots
+pub mod Words
+pub mod Places
+pub mod Faults
+pub mod Kinds
+pub mod Outer
