@@ -35,6 +35,7 @@ use std::alloc::Global;
 
 /// The pieces of a word, and its end.
 #[cycle(parser)]
+#[tactic(none)]
 fn word_rest<'a>(
     alloc: Global,
     tokens: &'a [Lexeme],
@@ -60,6 +61,7 @@ fn word_rest<'a>(
 
 /// One piece more, or the begin or end of an argument.
 #[cycle(parser)]
+#[tactic(none)]
 fn word_step<'a>(
     alloc: Global,
     tokens: &'a [Lexeme],
@@ -91,6 +93,7 @@ fn word_step<'a>(
 }
 
 #[cycle(parser)]
+#[tactic(none)]
 fn piece<'a>(
     alloc: Global,
     tokens: &'a [Lexeme],
@@ -110,6 +113,7 @@ fn piece<'a>(
 
 /// A command substitution.
 #[cycle(parser)]
+#[tactic(none)]
 fn output<'a>(
     alloc: Global,
     tokens: &'a [Lexeme],
@@ -128,6 +132,7 @@ fn output<'a>(
 
 /// Any word: a reserved word is one here.
 #[cycle(parser)]
+#[tactic(none)]
 fn word<'a>(
     alloc: Global,
     tokens: &'a [Lexeme],
@@ -143,6 +148,7 @@ fn word<'a>(
 }
 
 #[cycle(parser)]
+#[tactic(none)]
 fn words<'a>(
     alloc: Global,
     tokens: &'a [Lexeme],
@@ -164,6 +170,7 @@ fn words<'a>(
 
 /// What a redirection does, and its target.
 #[cycle(parser)]
+#[tactic(none)]
 fn target<'a>(
     alloc: Global,
     tokens: &'a [Lexeme],
@@ -183,6 +190,7 @@ fn target<'a>(
 }
 
 #[cycle(parser)]
+#[tactic(none)]
 fn redirect<'a>(
     alloc: Global,
     tokens: &'a [Lexeme],
@@ -199,6 +207,7 @@ fn redirect<'a>(
 }
 
 #[cycle(parser)]
+#[tactic(none)]
 fn redirects<'a>(
     alloc: Global,
     tokens: &'a [Lexeme],
@@ -219,6 +228,7 @@ fn redirects<'a>(
 }
 
 #[cycle(parser)]
+#[tactic(none)]
 fn assigned<'a>(
     alloc: Global,
     tokens: &'a [Lexeme],
@@ -236,6 +246,7 @@ fn assigned<'a>(
 
 /// Adds a word or a redirection.
 #[cycle(parser)]
+#[tactic(none)]
 fn argument<'a>(
     alloc: Global,
     tokens: &'a [Lexeme],
@@ -263,6 +274,7 @@ fn argument<'a>(
 
 /// Adds words and redirections up to the last.
 #[cycle(parser)]
+#[tactic(none)]
 fn arguments<'a>(
     alloc: Global,
     tokens: &'a [Lexeme],
@@ -287,6 +299,7 @@ fn arguments<'a>(
 
 /// The simple command whose first word was read.
 #[cycle(parser)]
+#[tactic(none)]
 fn with_arguments<'a>(
     alloc: Global,
     tokens: &'a [Lexeme],
@@ -317,6 +330,7 @@ fn with_arguments<'a>(
 
 /// A simple command that begins with a name: with `(` behind it that is the name of a function.
 #[cycle(parser)]
+#[tactic(none)]
 fn named<'a>(
     alloc: Global,
     tokens: &'a [Lexeme],
@@ -343,6 +357,7 @@ fn named<'a>(
 }
 
 #[cycle(parser)]
+#[tactic(none)]
 fn plain<'a>(
     alloc: Global,
     tokens: &'a [Lexeme],
@@ -367,6 +382,7 @@ fn plain<'a>(
 
 /// Adds an assignment or a redirection.
 #[cycle(parser)]
+#[tactic(none)]
 fn prefix<'a>(
     alloc: Global,
     tokens: &'a [Lexeme],
@@ -393,6 +409,7 @@ fn prefix<'a>(
 
 /// The command behind assignments and redirections, if there is one.
 #[cycle(parser)]
+#[tactic(none)]
 fn words_behind<'a>(
     alloc: Global,
     tokens: &'a [Lexeme],
@@ -426,6 +443,7 @@ fn words_behind<'a>(
 }
 
 #[cycle(parser)]
+#[tactic(none)]
 fn prefixed<'a>(
     alloc: Global,
     tokens: &'a [Lexeme],
@@ -447,6 +465,7 @@ fn prefixed<'a>(
 }
 
 #[cycle(parser)]
+#[tactic(none)]
 fn simple<'a>(
     alloc: Global,
     tokens: &'a [Lexeme],
@@ -470,6 +489,7 @@ fn simple<'a>(
 
 /// A list one level deeper, with newlines before it.
 #[cycle(parser)]
+#[tactic(none)]
 fn block<'a>(
     alloc: Global,
     tokens: &'a [Lexeme],
@@ -487,6 +507,7 @@ fn block<'a>(
 
 /// A list one level deeper, or none.
 #[cycle(parser)]
+#[tactic(none)]
 fn body<'a>(
     alloc: Global,
     tokens: &'a [Lexeme],
@@ -505,6 +526,7 @@ fn body<'a>(
 }
 
 #[cycle(parser)]
+#[tactic(none)]
 fn list<'a>(
     alloc: Global,
     tokens: &'a [Lexeme],
@@ -531,6 +553,7 @@ fn list<'a>(
 }
 
 #[cycle(parser)]
+#[tactic(none)]
 fn and_or<'a>(
     alloc: Global,
     tokens: &'a [Lexeme],
@@ -558,6 +581,7 @@ fn and_or<'a>(
 }
 
 #[cycle(parser)]
+#[tactic(none)]
 fn joined<'a>(
     alloc: Global,
     tokens: &'a [Lexeme],
@@ -574,6 +598,7 @@ fn joined<'a>(
 }
 
 #[cycle(parser)]
+#[tactic(none)]
 fn pipeline<'a>(
     alloc: Global,
     tokens: &'a [Lexeme],
@@ -589,6 +614,7 @@ fn pipeline<'a>(
 }
 
 #[cycle(parser)]
+#[tactic(none)]
 fn stages<'a>(
     alloc: Global,
     tokens: &'a [Lexeme],
@@ -611,6 +637,7 @@ fn stages<'a>(
 }
 
 #[cycle(parser)]
+#[tactic(none)]
 fn stage<'a>(
     alloc: Global,
     tokens: &'a [Lexeme],
@@ -627,6 +654,7 @@ fn stage<'a>(
 }
 
 #[cycle(parser)]
+#[tactic(none)]
 fn command<'a>(
     alloc: Global,
     tokens: &'a [Lexeme],
@@ -646,6 +674,7 @@ fn command<'a>(
 }
 
 #[cycle(parser)]
+#[tactic(none)]
 fn compound<'a>(
     alloc: Global,
     tokens: &'a [Lexeme],
@@ -684,6 +713,7 @@ fn compound<'a>(
 }
 
 #[cycle(parser)]
+#[tactic(none)]
 fn subshell<'a>(
     alloc: Global,
     tokens: &'a [Lexeme],
@@ -700,6 +730,7 @@ fn subshell<'a>(
 }
 
 #[cycle(parser)]
+#[tactic(none)]
 fn group<'a>(
     alloc: Global,
     tokens: &'a [Lexeme],
@@ -721,6 +752,7 @@ fn group<'a>(
 }
 
 #[cycle(parser)]
+#[tactic(none)]
 fn branch<'a>(
     alloc: Global,
     tokens: &'a [Lexeme],
@@ -738,6 +770,7 @@ fn branch<'a>(
 }
 
 #[cycle(parser)]
+#[tactic(none)]
 fn elif_branch<'a>(
     alloc: Global,
     tokens: &'a [Lexeme],
@@ -754,6 +787,7 @@ fn elif_branch<'a>(
 }
 
 #[cycle(parser)]
+#[tactic(none)]
 fn branches<'a>(
     alloc: Global,
     tokens: &'a [Lexeme],
@@ -777,6 +811,7 @@ fn branches<'a>(
 }
 
 #[cycle(parser)]
+#[tactic(none)]
 fn other<'a>(
     alloc: Global,
     tokens: &'a [Lexeme],
@@ -796,6 +831,7 @@ fn other<'a>(
 }
 
 #[cycle(parser)]
+#[tactic(none)]
 fn conditional<'a>(
     alloc: Global,
     tokens: &'a [Lexeme],
@@ -814,6 +850,7 @@ fn conditional<'a>(
 }
 
 #[cycle(parser)]
+#[tactic(none)]
 fn do_block<'a>(
     alloc: Global,
     tokens: &'a [Lexeme],
@@ -831,6 +868,7 @@ fn do_block<'a>(
 }
 
 #[cycle(parser)]
+#[tactic(none)]
 fn loop_<'a>(
     alloc: Global,
     tokens: &'a [Lexeme],
@@ -849,6 +887,7 @@ fn loop_<'a>(
 }
 
 #[cycle(parser)]
+#[tactic(none)]
 fn for_<'a>(alloc: Global, tokens: &'a [Lexeme], left: u32) -> Result<(For, &'a [Lexeme]), Stop<'a>>
     ensures reads { Gives shell left Grammar.for (whats tokens.now)
         (lead_of (λ x. (Tree.for_pattern x.0, whats x.1.now)) fault_of result) }
@@ -865,6 +904,7 @@ fn for_<'a>(alloc: Global, tokens: &'a [Lexeme], left: u32) -> Result<(For, &'a 
 }
 
 #[cycle(parser)]
+#[tactic(none)]
 fn choice<'a>(
     alloc: Global,
     tokens: &'a [Lexeme],
@@ -885,6 +925,7 @@ fn choice<'a>(
 }
 
 #[cycle(parser)]
+#[tactic(none)]
 fn items<'a>(
     alloc: Global,
     tokens: &'a [Lexeme],
@@ -903,6 +944,7 @@ fn items<'a>(
 }
 
 #[cycle(parser)]
+#[tactic(none)]
 fn item_row<'a>(
     alloc: Global,
     tokens: &'a [Lexeme],
@@ -931,6 +973,7 @@ fn item_row<'a>(
 }
 
 #[cycle(parser)]
+#[tactic(none)]
 fn item<'a>(
     alloc: Global,
     tokens: &'a [Lexeme],
@@ -949,6 +992,7 @@ fn item<'a>(
 }
 
 #[cycle(parser)]
+#[tactic(none)]
 fn patterns<'a>(
     alloc: Global,
     tokens: &'a [Lexeme],
@@ -971,6 +1015,7 @@ fn patterns<'a>(
 }
 
 #[cycle(parser)]
+#[tactic(none)]
 fn first_pattern<'a>(
     alloc: Global,
     tokens: &'a [Lexeme],
@@ -991,6 +1036,7 @@ fn first_pattern<'a>(
 }
 
 #[cycle(parser)]
+#[tactic(none)]
 fn pattern_behind<'a>(
     alloc: Global,
     tokens: &'a [Lexeme],
