@@ -104,6 +104,9 @@ pub no_more : {left : ℕ} {e g p : Expr} {ts us : List What} (d : ℕ) → not 
 no_more {us = us} zero o n t = end_balanced shell t (no_or (begins_with shell us (kinds (ArgumentStart ∷ Bytes ∷ Assigning ∷ Value ∷ SubstitutionStart ∷ []))) false n).0
 no_more (suc d) o n t = absurd (let k = eqb-true (suc d) 0 (not_false (suc d == 0) o) in omega (arith, k))
 
+pub none_open : (d : ℕ) → not (d == 0) ≡ false → d ≡ 0
+none_open d o = eqb-true d 0 (not_false (d == 0) o)
+
 -- a step of a word
 pub open_moves : (left d n : ℕ) (g : Expr) (ts us : List What) (w : What) → n ≡ d + 1 → Spells shell (this (kinds (ArgumentStart ∷ [])) w) ts us → Moves shell left (pieces d ⨾ g) ts (pieces n ⨾ g) us
 open_moves left d n g [] us w e h = absurd h
@@ -208,6 +211,10 @@ go_at us r b x e h = subst (λ (z : Bool). word_goes_on z us ≡ r) e h
 
 pub some_first : (xs ys : List Word) (w : Word) → xs ≡ [] → ys ≡ xs ++ w ∷ [] → 0 < length ys
 some_first xs ys w n e = rw (e, n) (omega arith)
+
+pub one_there : (xs ys : List Word) (w : Word) → ys ≡ xs ++ w ∷ [] → 0 < length ys
+one_there [] ys w e = rw e (omega arith)
+one_there (x ∷ xs) ys w e = rw e (omega arith)
 
 pub no_assignment : (ts : List What) → begins_with shell ts (first_set shell.list_first prefix) ≡ false → begins_with shell ts (kinds (Assignment ∷ [])) ≡ false
 no_assignment [] b = refl

@@ -35,14 +35,14 @@ use std::alloc::Global;
 
 /// The pieces of a word, and its end.
 #[cycle(parser)]
-#[tactic(none)]
 fn word_rest<'a>(
     alloc: Global,
     tokens: &'a [Lexeme],
     left: u32,
 ) -> Result<(Word, &'a [Lexeme]), Stop<'a>>
     ensures reads { Gives shell left Grammar.word_rest (whats tokens.now)
-        (lead_of (λ x. ((Tree.word_spelling x.0).pattern ⨾ key Kind.WordEnd, whats x.1.now)) fault_of result) }
+        (lead_of (λ x. ((Tree.word_spelling x.0).pattern ⨾ key Kind.WordEnd,
+            whats x.1.now)) fault_of result) }
     ensures shorter { IfOk result (λ x. length x.1.now < length tokens.now) }
 {
     let mut nest = Nest::new(alloc);
@@ -61,7 +61,6 @@ fn word_rest<'a>(
 
 /// One piece more, or the begin or end of an argument.
 #[cycle(parser)]
-#[tactic(none)]
 fn word_step<'a>(
     alloc: Global,
     tokens: &'a [Lexeme],
@@ -69,11 +68,14 @@ fn word_step<'a>(
     nest: &mut Nest,
 ) -> Result<&'a [Lexeme], Stop<'a>>
     requires { may_go_on (nest_depth nest.old) (whats tokens.now) ≡ true }
-    ensures moves { IfOk result (λ x. (g : Expr) → Moves shell left (Grammar.pieces (nest_depth nest.old) ⨾ g) (whats tokens.now)
+    ensures moves { IfOk result (λ x. (g : Expr)
+        → Moves shell left (Grammar.pieces (nest_depth nest.old) ⨾ g) (whats tokens.now)
         (Grammar.pieces (nest_depth nest.new) ⨾ g) (whats x.now)) }
-    ensures spells { IfOk result (λ x. (start : List What) → Spells shell (all (nest_parts nest.old)) start (whats tokens.now)
+    ensures spells { IfOk result (λ x. (start : List What)
+        → Spells shell (all (nest_parts nest.old)) start (whats tokens.now)
         → Spells shell (all (nest_parts nest.new)) start (whats x.now)) }
-    ensures err { IfErr result (λ x. (g : Expr) → Gives shell left (Grammar.pieces (nest_depth nest.old) ⨾ g) (whats tokens.now)
+    ensures err { IfErr result (λ x. (g : Expr)
+        → Gives shell left (Grammar.pieces (nest_depth nest.old) ⨾ g) (whats tokens.now)
         (lead_off (fault_of x))) }
     ensures shorter { IfOk result (λ x. length x.now < length tokens.now) }
 {
@@ -93,7 +95,6 @@ fn word_step<'a>(
 }
 
 #[cycle(parser)]
-#[tactic(none)]
 fn piece<'a>(
     alloc: Global,
     tokens: &'a [Lexeme],
@@ -113,7 +114,6 @@ fn piece<'a>(
 
 /// A command substitution.
 #[cycle(parser)]
-#[tactic(none)]
 fn output<'a>(
     alloc: Global,
     tokens: &'a [Lexeme],
@@ -132,7 +132,6 @@ fn output<'a>(
 
 /// Any word: a reserved word is one here.
 #[cycle(parser)]
-#[tactic(none)]
 fn word<'a>(
     alloc: Global,
     tokens: &'a [Lexeme],
@@ -148,14 +147,14 @@ fn word<'a>(
 }
 
 #[cycle(parser)]
-#[tactic(none)]
 fn words<'a>(
     alloc: Global,
     tokens: &'a [Lexeme],
     left: u32,
 ) -> Result<(Vec<Word>, &'a [Lexeme]), Stop<'a>>
     ensures reads { Gives shell left (many Grammar.word) (whats tokens.now)
-        (lead_of (λ x. (all (map Tree.any_word (map Tree.word_spelling x.0.items)), whats x.1.now)) fault_of result) }
+        (lead_of (λ x. (all (map Tree.any_word (map Tree.word_spelling x.0.items)),
+            whats x.1.now)) fault_of result) }
     ensures within { IfOk result (λ x. length x.1.now ≤ length tokens.now) }
 {
     let mut words = Vec::new(alloc);
@@ -170,14 +169,14 @@ fn words<'a>(
 
 /// What a redirection does, and its target.
 #[cycle(parser)]
-#[tactic(none)]
 fn target<'a>(
     alloc: Global,
     tokens: &'a [Lexeme],
     left: u32,
 ) -> Result<((RedirectKind, Word), &'a [Lexeme]), Stop<'a>>
     ensures reads { Gives shell left Grammar.target (whats tokens.now)
-        (lead_of (λ x. (Tree.target_spelled x.0.0 (Tree.word_spelling x.0.1), whats x.1.now)) fault_of result) }
+        (lead_of (λ x. (Tree.target_spelled x.0.0 (Tree.word_spelling x.0.1),
+            whats x.1.now)) fault_of result) }
     ensures shorter { IfOk result (λ x. length x.1.now < length tokens.now) }
 {
     if opens(tokens, &[Kind::Less, Kind::Great, Kind::DoubleGreat]) {
@@ -190,7 +189,6 @@ fn target<'a>(
 }
 
 #[cycle(parser)]
-#[tactic(none)]
 fn redirect<'a>(
     alloc: Global,
     tokens: &'a [Lexeme],
@@ -207,14 +205,14 @@ fn redirect<'a>(
 }
 
 #[cycle(parser)]
-#[tactic(none)]
 fn redirects<'a>(
     alloc: Global,
     tokens: &'a [Lexeme],
     left: u32,
 ) -> Result<(Vec<Redirect>, &'a [Lexeme]), Stop<'a>>
     ensures reads { Gives shell left (many Grammar.redirect) (whats tokens.now)
-        (lead_of (λ x. (all (map Tree.redirect_pattern x.0.items), whats x.1.now)) fault_of result) }
+        (lead_of (λ x. (all (map Tree.redirect_pattern x.0.items),
+            whats x.1.now)) fault_of result) }
     ensures within { IfOk result (λ x. length x.1.now ≤ length tokens.now) }
 {
     let mut redirects = Vec::new(alloc);
@@ -228,7 +226,6 @@ fn redirects<'a>(
 }
 
 #[cycle(parser)]
-#[tactic(none)]
 fn assigned<'a>(
     alloc: Global,
     tokens: &'a [Lexeme],
@@ -246,7 +243,6 @@ fn assigned<'a>(
 
 /// Adds a word or a redirection.
 #[cycle(parser)]
-#[tactic(none)]
 fn argument<'a>(
     alloc: Global,
     tokens: &'a [Lexeme],
@@ -254,12 +250,16 @@ fn argument<'a>(
     words: &mut Vec<Word>,
     redirects: &mut Vec<Redirect>,
 ) -> Result<&'a [Lexeme], Stop<'a>>
-    ensures passes { IfOk result (λ x. Passes shell left Grammar.argument (whats tokens.now) (whats x.now)) }
-    ensures spells { IfOk result (λ x. (start : List What) (assigned : List Expr) → 0 < length words.old.items
-        → Spells shell (so_far assigned words.old.items redirects.old.items) start (whats tokens.now)
+    ensures passes { IfOk result (λ x. Passes shell left Grammar.argument (whats tokens.now)
+        (whats x.now)) }
+    ensures spells { IfOk result (λ x. (start : List What) (assigned : List Expr)
+        → 0 < length words.old.items
+        → Spells shell (so_far assigned words.old.items redirects.old.items) start
+            (whats tokens.now)
         → Spells shell (so_far assigned words.new.items redirects.new.items) start (whats x.now)) }
     ensures some { IfOk result (λ x. 0 < length words.old.items → 0 < length words.new.items) }
-    ensures err { IfErr result (λ x. Gives shell left Grammar.argument (whats tokens.now) (lead_off (fault_of x))) }
+    ensures err { IfErr result (λ x. Gives shell left Grammar.argument (whats tokens.now)
+        (lead_off (fault_of x))) }
     ensures shorter { IfOk result (λ x. length x.now < length tokens.now) }
 {
     if opens_word(tokens) {
@@ -274,7 +274,6 @@ fn argument<'a>(
 
 /// Adds words and redirections up to the last.
 #[cycle(parser)]
-#[tactic(none)]
 fn arguments<'a>(
     alloc: Global,
     tokens: &'a [Lexeme],
@@ -282,11 +281,15 @@ fn arguments<'a>(
     words: &mut Vec<Word>,
     redirects: &mut Vec<Redirect>,
 ) -> Result<&'a [Lexeme], Stop<'a>>
-    ensures passes { IfOk result (λ x. Passes shell left Grammar.arguments (whats tokens.now) (whats x.now)) }
-    ensures spells { IfOk result (λ x. (start : List What) (assigned : List Expr) → 0 < length words.old.items
-        → Spells shell (so_far assigned words.old.items redirects.old.items) start (whats tokens.now)
+    ensures passes { IfOk result (λ x. Passes shell left Grammar.arguments (whats tokens.now)
+        (whats x.now)) }
+    ensures spells { IfOk result (λ x. (start : List What) (assigned : List Expr)
+        → 0 < length words.old.items
+        → Spells shell (so_far assigned words.old.items redirects.old.items) start
+            (whats tokens.now)
         → Spells shell (so_far assigned words.new.items redirects.new.items) start (whats x.now)) }
-    ensures err { IfErr result (λ x. Gives shell left Grammar.arguments (whats tokens.now) (lead_off (fault_of x))) }
+    ensures err { IfErr result (λ x. Gives shell left Grammar.arguments (whats tokens.now)
+        (lead_off (fault_of x))) }
     ensures within { IfOk result (λ x. length x.now ≤ length tokens.now) }
 {
     let mut rest = tokens;
@@ -299,7 +302,6 @@ fn arguments<'a>(
 
 /// The simple command whose first word was read.
 #[cycle(parser)]
-#[tactic(none)]
 fn with_arguments<'a>(
     alloc: Global,
     tokens: &'a [Lexeme],
@@ -308,11 +310,14 @@ fn with_arguments<'a>(
     assigned: Vec<Assigned>,
     mut redirects: Vec<Redirect>,
 ) -> Result<(Simple, &'a [Lexeme]), Stop<'a>>
-    ensures passes { IfOk result (λ x. Passes shell left Grammar.arguments (whats tokens.now) (whats x.1.now)) }
+    ensures passes { IfOk result (λ x. Passes shell left Grammar.arguments (whats tokens.now)
+        (whats x.1.now)) }
     ensures spells { IfOk result (λ x. (start : List What)
-        → Spells shell (so_far (map Tree.assigned_pattern assigned.items) (first ∷ []) redirects.items) start (whats tokens.now)
+        → Spells shell (so_far (map Tree.assigned_pattern assigned.items) (first ∷ [])
+            redirects.items) start (whats tokens.now)
         → Spells shell (Tree.simple_pattern x.0) start (whats x.1.now)) }
-    ensures err { IfErr result (λ x. Gives shell left Grammar.arguments (whats tokens.now) (lead_off (fault_of x))) }
+    ensures err { IfErr result (λ x. Gives shell left Grammar.arguments (whats tokens.now)
+        (lead_off (fault_of x))) }
     ensures within { IfOk result (λ x. length x.1.now ≤ length tokens.now) }
 {
     let mut words = Vec::new(alloc);
@@ -330,7 +335,6 @@ fn with_arguments<'a>(
 
 /// A simple command that begins with a name: with `(` behind it that is the name of a function.
 #[cycle(parser)]
-#[tactic(none)]
 fn named<'a>(
     alloc: Global,
     tokens: &'a [Lexeme],
@@ -357,7 +361,6 @@ fn named<'a>(
 }
 
 #[cycle(parser)]
-#[tactic(none)]
 fn plain<'a>(
     alloc: Global,
     tokens: &'a [Lexeme],
@@ -382,7 +385,6 @@ fn plain<'a>(
 
 /// Adds an assignment or a redirection.
 #[cycle(parser)]
-#[tactic(none)]
 fn prefix<'a>(
     alloc: Global,
     tokens: &'a [Lexeme],
@@ -390,11 +392,15 @@ fn prefix<'a>(
     assignments: &mut Vec<Assigned>,
     redirects: &mut Vec<Redirect>,
 ) -> Result<&'a [Lexeme], Stop<'a>>
-    ensures passes { IfOk result (λ x. Passes shell left Grammar.prefix (whats tokens.now) (whats x.now)) }
+    ensures passes { IfOk result (λ x. Passes shell left Grammar.prefix (whats tokens.now)
+        (whats x.now)) }
     ensures spells { IfOk result (λ x. (start : List What)
-        → Spells shell (so_far (map Tree.assigned_pattern assignments.old.items) [] redirects.old.items) start (whats tokens.now)
-        → Spells shell (so_far (map Tree.assigned_pattern assignments.new.items) [] redirects.new.items) start (whats x.now)) }
-    ensures err { IfErr result (λ x. Gives shell left Grammar.prefix (whats tokens.now) (lead_off (fault_of x))) }
+        → Spells shell (so_far (map Tree.assigned_pattern assignments.old.items)
+            [] redirects.old.items) start (whats tokens.now)
+        → Spells shell (so_far (map Tree.assigned_pattern assignments.new.items)
+            [] redirects.new.items) start (whats x.now)) }
+    ensures err { IfErr result (λ x. Gives shell left Grammar.prefix (whats tokens.now)
+        (lead_off (fault_of x))) }
     ensures shorter { IfOk result (λ x. length x.now < length tokens.now) }
 {
     if opens(tokens, &[Kind::Assignment]) {
@@ -409,7 +415,6 @@ fn prefix<'a>(
 
 /// The command behind assignments and redirections, if there is one.
 #[cycle(parser)]
-#[tactic(none)]
 fn words_behind<'a>(
     alloc: Global,
     tokens: &'a [Lexeme],
@@ -418,11 +423,14 @@ fn words_behind<'a>(
     redirects: Vec<Redirect>,
 ) -> Result<(Simple, &'a [Lexeme]), Stop<'a>>
     requires { begins_with shell (whats tokens.now) (kinds_of (Kind.Assignment ∷ [])) ≡ false }
-    ensures passes { IfOk result (λ x. Passes shell left Grammar.words_behind (whats tokens.now) (whats x.1.now)) }
+    ensures passes { IfOk result (λ x. Passes shell left Grammar.words_behind (whats tokens.now)
+        (whats x.1.now)) }
     ensures spells { IfOk result (λ x. (start : List What)
-        → Spells shell (so_far (map Tree.assigned_pattern assigned.items) [] redirects.items) start (whats tokens.now)
+        → Spells shell (so_far (map Tree.assigned_pattern assigned.items) [] redirects.items) start
+            (whats tokens.now)
         → Spells shell (Tree.simple_pattern x.0) start (whats x.1.now)) }
-    ensures err { IfErr result (λ x. Gives shell left Grammar.words_behind (whats tokens.now) (lead_off (fault_of x))) }
+    ensures err { IfErr result (λ x. Gives shell left Grammar.words_behind (whats tokens.now)
+        (lead_off (fault_of x))) }
     ensures within { IfOk result (λ x. length x.1.now ≤ length tokens.now) }
 {
     if opens_command_word(tokens) {
@@ -443,7 +451,6 @@ fn words_behind<'a>(
 }
 
 #[cycle(parser)]
-#[tactic(none)]
 fn prefixed<'a>(
     alloc: Global,
     tokens: &'a [Lexeme],
@@ -465,7 +472,6 @@ fn prefixed<'a>(
 }
 
 #[cycle(parser)]
-#[tactic(none)]
 fn simple<'a>(
     alloc: Global,
     tokens: &'a [Lexeme],
@@ -489,7 +495,6 @@ fn simple<'a>(
 
 /// A list one level deeper, with newlines before it.
 #[cycle(parser)]
-#[tactic(none)]
 fn block<'a>(
     alloc: Global,
     tokens: &'a [Lexeme],
@@ -507,7 +512,6 @@ fn block<'a>(
 
 /// A list one level deeper, or none.
 #[cycle(parser)]
-#[tactic(none)]
 fn body<'a>(
     alloc: Global,
     tokens: &'a [Lexeme],
@@ -515,7 +519,8 @@ fn body<'a>(
 ) -> Result<(Option<Script>, &'a [Lexeme]), Stop<'a>>
     requires { 0 < left }
     ensures reads { Gives shell left Grammar.body (whats tokens.now)
-        (lead_of (λ x. (Tree.body_of (option_map Tree.script_pattern x.0), whats x.1.now)) fault_of result) }
+        (lead_of (λ x. (Tree.body_of (option_map Tree.script_pattern x.0),
+            whats x.1.now)) fault_of result) }
     ensures within { IfOk result (λ x. length x.1.now ≤ length tokens.now) }
 {
     if opens_list(tokens) {
@@ -526,7 +531,6 @@ fn body<'a>(
 }
 
 #[cycle(parser)]
-#[tactic(none)]
 fn list<'a>(
     alloc: Global,
     tokens: &'a [Lexeme],
@@ -553,7 +557,6 @@ fn list<'a>(
 }
 
 #[cycle(parser)]
-#[tactic(none)]
 fn and_or<'a>(
     alloc: Global,
     tokens: &'a [Lexeme],
@@ -581,7 +584,6 @@ fn and_or<'a>(
 }
 
 #[cycle(parser)]
-#[tactic(none)]
 fn joined<'a>(
     alloc: Global,
     tokens: &'a [Lexeme],
@@ -598,7 +600,6 @@ fn joined<'a>(
 }
 
 #[cycle(parser)]
-#[tactic(none)]
 fn pipeline<'a>(
     alloc: Global,
     tokens: &'a [Lexeme],
@@ -614,14 +615,14 @@ fn pipeline<'a>(
 }
 
 #[cycle(parser)]
-#[tactic(none)]
 fn stages<'a>(
     alloc: Global,
     tokens: &'a [Lexeme],
     left: u32,
 ) -> Result<(Vec<Command>, &'a [Lexeme]), Stop<'a>>
     ensures reads { Gives shell left Grammar.stages (whats tokens.now)
-        (lead_of (λ x. (Tree.staged (map Tree.command_pattern x.0.items), whats x.1.now)) fault_of result) }
+        (lead_of (λ x. (Tree.staged (map Tree.command_pattern x.0.items),
+            whats x.1.now)) fault_of result) }
     ensures shorter { IfOk result (λ x. length x.1.now < length tokens.now) }
 {
     let (first, behind_first) = command(alloc, tokens, left)?;
@@ -637,14 +638,14 @@ fn stages<'a>(
 }
 
 #[cycle(parser)]
-#[tactic(none)]
 fn stage<'a>(
     alloc: Global,
     tokens: &'a [Lexeme],
     left: u32,
 ) -> Result<(Command, &'a [Lexeme]), Stop<'a>>
     ensures reads { Gives shell left Grammar.stage (whats tokens.now)
-        (lead_of (λ x. ((key Kind.Pipe ⨾ Grammar.newlines) ⨾ Tree.command_pattern x.0, whats x.1.now)) fault_of result) }
+        (lead_of (λ x. ((key Kind.Pipe ⨾ Grammar.newlines) ⨾ Tree.command_pattern x.0,
+            whats x.1.now)) fault_of result) }
     ensures shorter { IfOk result (λ x. length x.1.now < length tokens.now) }
 {
     let rest = skip(tokens, &[Kind::Pipe])?;
@@ -654,7 +655,6 @@ fn stage<'a>(
 }
 
 #[cycle(parser)]
-#[tactic(none)]
 fn command<'a>(
     alloc: Global,
     tokens: &'a [Lexeme],
@@ -674,7 +674,6 @@ fn command<'a>(
 }
 
 #[cycle(parser)]
-#[tactic(none)]
 fn compound<'a>(
     alloc: Global,
     tokens: &'a [Lexeme],
@@ -713,14 +712,14 @@ fn compound<'a>(
 }
 
 #[cycle(parser)]
-#[tactic(none)]
 fn subshell<'a>(
     alloc: Global,
     tokens: &'a [Lexeme],
     left: u32,
 ) -> Result<(Script, &'a [Lexeme]), Stop<'a>>
     ensures reads { Gives shell left Grammar.subshell (whats tokens.now)
-        (lead_of (λ x. (key Kind.LeftParen ⨾ Tree.block_of (Tree.script_pattern x.0) ⨾ key Kind.RightParen, whats x.1.now)) fault_of result) }
+        (lead_of (λ x. (key Kind.LeftParen ⨾ Tree.block_of (Tree.script_pattern x.0)
+            ⨾ key Kind.RightParen, whats x.1.now)) fault_of result) }
     ensures shorter { IfOk result (λ x. length x.1.now < length tokens.now) }
 {
     let rest = descend(tokens, &[Kind::LeftParen], left)?;
@@ -730,7 +729,6 @@ fn subshell<'a>(
 }
 
 #[cycle(parser)]
-#[tactic(none)]
 fn group<'a>(
     alloc: Global,
     tokens: &'a [Lexeme],
@@ -752,7 +750,6 @@ fn group<'a>(
 }
 
 #[cycle(parser)]
-#[tactic(none)]
 fn branch<'a>(
     alloc: Global,
     tokens: &'a [Lexeme],
@@ -770,7 +767,6 @@ fn branch<'a>(
 }
 
 #[cycle(parser)]
-#[tactic(none)]
 fn elif_branch<'a>(
     alloc: Global,
     tokens: &'a [Lexeme],
@@ -778,7 +774,8 @@ fn elif_branch<'a>(
 ) -> Result<(Branch, &'a [Lexeme]), Stop<'a>>
     requires { 0 < left }
     ensures reads { Gives shell left Grammar.elif_branch (whats tokens.now)
-        (lead_of (λ x. (Grammar.reserved Kind.Elif ⨾ Tree.branch_pattern x.0, whats x.1.now)) fault_of result) }
+        (lead_of (λ x. (Grammar.reserved Kind.Elif ⨾ Tree.branch_pattern x.0,
+            whats x.1.now)) fault_of result) }
     ensures shorter { IfOk result (λ x. length x.1.now < length tokens.now) }
 {
     let rest = reserved(tokens, Kind::Elif)?;
@@ -787,7 +784,6 @@ fn elif_branch<'a>(
 }
 
 #[cycle(parser)]
-#[tactic(none)]
 fn branches<'a>(
     alloc: Global,
     tokens: &'a [Lexeme],
@@ -795,7 +791,8 @@ fn branches<'a>(
 ) -> Result<(Vec<Branch>, &'a [Lexeme]), Stop<'a>>
     requires { 0 < left }
     ensures reads { Gives shell left Grammar.branches (whats tokens.now)
-        (lead_of (λ x. (Tree.branches_of (map Tree.branch_pattern x.0.items), whats x.1.now)) fault_of result) }
+        (lead_of (λ x. (Tree.branches_of (map Tree.branch_pattern x.0.items),
+            whats x.1.now)) fault_of result) }
     ensures shorter { IfOk result (λ x. length x.1.now < length tokens.now) }
 {
     let (first, behind_first) = branch(alloc, tokens, left)?;
@@ -811,7 +808,6 @@ fn branches<'a>(
 }
 
 #[cycle(parser)]
-#[tactic(none)]
 fn other<'a>(
     alloc: Global,
     tokens: &'a [Lexeme],
@@ -819,7 +815,8 @@ fn other<'a>(
 ) -> Result<(Option<Script>, &'a [Lexeme]), Stop<'a>>
     requires { 0 < left }
     ensures reads { Gives shell left Grammar.other (whats tokens.now)
-        (lead_of (λ x. (Tree.else_of (option_map Tree.script_pattern x.0), whats x.1.now)) fault_of result) }
+        (lead_of (λ x. (Tree.else_of (option_map Tree.script_pattern x.0),
+            whats x.1.now)) fault_of result) }
     ensures within { IfOk result (λ x. length x.1.now ≤ length tokens.now) }
 {
     if opens(tokens, &[Kind::Else]) {
@@ -831,7 +828,6 @@ fn other<'a>(
 }
 
 #[cycle(parser)]
-#[tactic(none)]
 fn conditional<'a>(
     alloc: Global,
     tokens: &'a [Lexeme],
@@ -850,7 +846,6 @@ fn conditional<'a>(
 }
 
 #[cycle(parser)]
-#[tactic(none)]
 fn do_block<'a>(
     alloc: Global,
     tokens: &'a [Lexeme],
@@ -868,14 +863,14 @@ fn do_block<'a>(
 }
 
 #[cycle(parser)]
-#[tactic(none)]
 fn loop_<'a>(
     alloc: Global,
     tokens: &'a [Lexeme],
     left: u32,
     until: bool,
 ) -> Result<(Loop, &'a [Lexeme]), Stop<'a>>
-    ensures reads { Gives shell left (Grammar.loop (cond until Kind.Until Kind.While)) (whats tokens.now)
+    ensures reads { Gives shell left (Grammar.loop (cond until Kind.Until Kind.While))
+        (whats tokens.now)
         (lead_of (λ x. (Tree.loop_pattern x.0, whats x.1.now)) fault_of result) }
     ensures shorter { IfOk result (λ x. length x.1.now < length tokens.now) }
 {
@@ -887,7 +882,6 @@ fn loop_<'a>(
 }
 
 #[cycle(parser)]
-#[tactic(none)]
 fn for_<'a>(alloc: Global, tokens: &'a [Lexeme], left: u32) -> Result<(For, &'a [Lexeme]), Stop<'a>>
     ensures reads { Gives shell left Grammar.for (whats tokens.now)
         (lead_of (λ x. (Tree.for_pattern x.0, whats x.1.now)) fault_of result) }
@@ -904,7 +898,6 @@ fn for_<'a>(alloc: Global, tokens: &'a [Lexeme], left: u32) -> Result<(For, &'a 
 }
 
 #[cycle(parser)]
-#[tactic(none)]
 fn choice<'a>(
     alloc: Global,
     tokens: &'a [Lexeme],
@@ -925,7 +918,6 @@ fn choice<'a>(
 }
 
 #[cycle(parser)]
-#[tactic(none)]
 fn items<'a>(
     alloc: Global,
     tokens: &'a [Lexeme],
@@ -933,7 +925,8 @@ fn items<'a>(
 ) -> Result<(Vec<Item>, &'a [Lexeme]), Stop<'a>>
     requires { 0 < left }
     ensures reads { Gives shell left Grammar.items (whats tokens.now)
-        (lead_of (λ x. (Tree.items_of (map Tree.item_pattern x.0.items), whats x.1.now)) fault_of result) }
+        (lead_of (λ x. (Tree.items_of (map Tree.item_pattern x.0.items),
+            whats x.1.now)) fault_of result) }
     ensures within { IfOk result (λ x. length x.1.now ≤ length tokens.now) }
 {
     if opens_item(tokens) {
@@ -944,15 +937,16 @@ fn items<'a>(
 }
 
 #[cycle(parser)]
-#[tactic(none)]
 fn item_row<'a>(
     alloc: Global,
     tokens: &'a [Lexeme],
     left: u32,
 ) -> Result<(Vec<Item>, &'a [Lexeme]), Stop<'a>>
     requires { 0 < left }
-    ensures reads { Gives shell left (Grammar.item ⨾ more Grammar.item Grammar.item_end) (whats tokens.now)
-        (lead_of (λ x. (Tree.row Grammar.item_end (map Tree.item_pattern x.0.items), whats x.1.now)) fault_of result) }
+    ensures reads { Gives shell left (Grammar.item ⨾ more Grammar.item Grammar.item_end)
+        (whats tokens.now)
+        (lead_of (λ x. (Tree.row Grammar.item_end (map Tree.item_pattern x.0.items),
+            whats x.1.now)) fault_of result) }
     ensures shorter { IfOk result (λ x. length x.1.now < length tokens.now) }
 {
     let (first, behind_first) = item(alloc, tokens, left)?;
@@ -973,7 +967,6 @@ fn item_row<'a>(
 }
 
 #[cycle(parser)]
-#[tactic(none)]
 fn item<'a>(
     alloc: Global,
     tokens: &'a [Lexeme],
@@ -992,14 +985,14 @@ fn item<'a>(
 }
 
 #[cycle(parser)]
-#[tactic(none)]
 fn patterns<'a>(
     alloc: Global,
     tokens: &'a [Lexeme],
     left: u32,
 ) -> Result<(Vec<Word>, &'a [Lexeme]), Stop<'a>>
     ensures reads { Gives shell left Grammar.patterns (whats tokens.now)
-        (lead_of (λ x. (Tree.patterns_of (map Tree.word_spelling x.0.items), whats x.1.now)) fault_of result) }
+        (lead_of (λ x. (Tree.patterns_of (map Tree.word_spelling x.0.items),
+            whats x.1.now)) fault_of result) }
     ensures shorter { IfOk result (λ x. length x.1.now < length tokens.now) }
 {
     let (first, behind_first) = first_pattern(alloc, tokens, left)?;
@@ -1015,14 +1008,14 @@ fn patterns<'a>(
 }
 
 #[cycle(parser)]
-#[tactic(none)]
 fn first_pattern<'a>(
     alloc: Global,
     tokens: &'a [Lexeme],
     left: u32,
 ) -> Result<(Word, &'a [Lexeme]), Stop<'a>>
     ensures reads { Gives shell left Grammar.first_pattern (whats tokens.now)
-        (lead_of (λ x. (Tree.first_pattern_of (Tree.word_spelling x.0), whats x.1.now)) fault_of result) }
+        (lead_of (λ x. (Tree.first_pattern_of (Tree.word_spelling x.0),
+            whats x.1.now)) fault_of result) }
     ensures shorter { IfOk result (λ x. length x.1.now < length tokens.now) }
 {
     if opens(tokens, &[Kind::LeftParen]) {
@@ -1036,14 +1029,14 @@ fn first_pattern<'a>(
 }
 
 #[cycle(parser)]
-#[tactic(none)]
 fn pattern_behind<'a>(
     alloc: Global,
     tokens: &'a [Lexeme],
     left: u32,
 ) -> Result<(Word, &'a [Lexeme]), Stop<'a>>
     ensures reads { Gives shell left Grammar.pattern_more (whats tokens.now)
-        (lead_of (λ x. (Tree.pattern_behind (Tree.word_spelling x.0), whats x.1.now)) fault_of result) }
+        (lead_of (λ x. (Tree.pattern_behind (Tree.word_spelling x.0),
+            whats x.1.now)) fault_of result) }
     ensures shorter { IfOk result (λ x. length x.1.now < length tokens.now) }
 {
     let rest = skip(tokens, &[Kind::Pipe])?;
@@ -1055,7 +1048,8 @@ fn pattern_behind<'a>(
 /// A whole line, up to what can't belong to it.
 pub fn line<'a>(alloc: Global, tokens: &'a [Lexeme]) -> Result<(Script, &'a [Lexeme]), Stop<'a>>
     ensures { Gives shell 64 Grammar.line (whats tokens.now)
-        (lead_of (λ x. (Grammar.newlines ⨾ Tree.script_pattern x.0, whats x.1.now)) fault_of result) }
+        (lead_of (λ x. (Grammar.newlines ⨾ Tree.script_pattern x.0,
+            whats x.1.now)) fault_of result) }
 {
     let rest = newlines(tokens);
     if opens_list(rest) {

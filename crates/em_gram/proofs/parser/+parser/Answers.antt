@@ -1,15 +1,17 @@
 use Rattle.std.proofs.Common.{◌≡◌, ◌∙◌, sym, refl, map, Some, [], ◌∷◌, arith, true, false}
-use Rattle.em_grammar.specs.Production.{one, many, nested, ◌⨾◌, ◌∣◌}
+use Rattle.em_grammar.specs.Production.{one, many, nested, refused, ◌⨾◌, ◌∣◌}
+use Rattle.em_grammar.specs.Gives.{lead_off}
 use Rattle.em_grammar.proofs.Giving.{then_on, then_off, then_exit, left_on, right_on, gives_left, gives_right, reads_empty, reads_last, end_many, end_more, exit_many, exit_many_then, exit_sep, exit_row, turn_on, turn_off, begun, is_refused, passes_left, passes_right, passes_then, moves_many, moves_past, moves_then}
-use Rattle.em_gram.specs.Kinds.{kinds, whats}
-use Rattle.em_gram.specs.Shell.{shell, key, newlines, sequential, reserved, item_end, function}
-use Rattle.em_gram.specs.Patterns.{any_word, word_spelling, redirect_pattern, and_or_pattern, joined_pattern, command_pattern, branch_pattern, item_pattern}
-use Rattle.em_gram.specs.declared.kind.Kind.TheVariants.{Pipe, Elif, WordEnd, Name, Plain}
+use Rattle.em_gram.specs.Kinds.{kinds, whats, words}
+use Rattle.em_gram.specs.Nesting.{nest_depth}
+use Rattle.em_gram.specs.Shell.{shell, arguments, key, newlines, sequential, reserved, item_end, function}
+use Rattle.em_gram.specs.Patterns.{any_word, word_spelling, redirect_pattern, assigned_pattern, and_or_pattern, joined_pattern, command_pattern, branch_pattern, item_pattern}
+use Rattle.em_gram.specs.declared.kind.Kind.TheVariants.{Pipe, Elif, WordEnd, Name, Plain, LeftParen}
 use Rattle.em_gram.proofs.Checked.{shell_firm}
 use Rattle.em_gram.proofs.Nested.{word_pattern}
 use Rattle.em_gram.proofs.Parts.{off, inner_gives, inner_on, assoc_both, row_end, start_parted, start_after, start_patterns, step_all, step_parted, step_after, step_row, step_patterns, end_row, listed}
-use Rattle.em_gram.proofs.Choices.{words_map, file_target, respelled, rows_of_items, first_left, first_right}
-use Rattle.em_gram.proofs.Mixed.{exit_gives, exit_step, passes_of, moved, still_open, no_more, open_moves, close_moves, piece_moves, piece_exit, piece_next, end_is_open, part_spelled, one_word, one_redirect, one_assigned, first_alone, first_behind, no_word, then_passed, moves_on, moves_end, moves_exit, no_argument, not_wrong, go_at, some_first, no_assignment}
+use Rattle.em_gram.proofs.Choices.{words_map, file_target, respelled, rows_of_items, first_left, first_right, simple_spelled}
+use Rattle.em_gram.proofs.Mixed.{exit_gives, exit_step, passes_of, moved, still_open, no_more, open_moves, close_moves, piece_moves, piece_exit, piece_next, end_is_open, part_spelled, one_word, one_redirect, one_assigned, first_alone, first_behind, no_word, then_passed, moves_on, moves_end, moves_exit, no_argument, not_wrong, go_at, some_first, no_assignment, none_open, one_there}
 use Rattle.em_gram.proofs.Spellings.{script_made, and_or_made, joined_made, pipeline_made, simple_made, assigned_made, branch_made, if_made, loop_made, for_made, case_made, item_made, command_Simple, command_Compound, compound_Subshell, compound_Group, compound_If, compound_Loop, compound_For, compound_Case}
 use Rattle.em_gram.proofs.parser.+parser.Goals as goal
 
@@ -23,13 +25,19 @@ pub word_rest-loop-alloc-preserved : goal.word_rest-loop-alloc-preserved
 word_rest-loop-alloc-preserved t c = record { within = omega (arith, c.loop-alloc.invariant.within, c.in_ok-behind.ensures.shorter); turns = moved c.loop-alloc.invariant.turns (c.in_ok-behind.ensures.moves (key WordEnd)) _ (c.in_ok-behind.ensures.spells _ c.loop-alloc.invariant.turns.spells) }
 
 pub word_rest-returns-then-is_open-clause-reads : goal.word_rest-returns-then-is_open-clause-reads
-word_rest-returns-then-is_open-clause-reads t c = turn_off shell c.loop-alloc.invariant.turns (Some (0, whats c.loop-alloc.rest)) (still_open c.args.left _ (key WordEnd) _ (sym c.is_open.ensures ∙ c.if-is_open.true) (go_at _ false _ true (c.is_open-in-loop-alloc.ensures ∙ sym c.is_open.ensures ∙ c.if-is_open.true) (sym c.goes_on.ensures ∙ c.loop-alloc-test.false)))
+word_rest-returns-then-is_open-clause-reads t c = turn_off shell c.loop-alloc.invariant.turns (Some (0, whats c.loop-alloc.rest.now)) (still_open c.args.left _ (key WordEnd) _ (sym c.is_open-2.ensures ∙ c.if-is_open.true) (go_at _ false _ true (c.is_open.ensures ∙ sym c.is_open-2.ensures ∙ c.if-is_open.true) (sym c.goes_on.ensures ∙ c.loop-alloc-test.false)))
 
 pub word_rest-returns-in_err-last-clause-reads : goal.word_rest-returns-in_err-last-clause-reads
-word_rest-returns-in_err-last-clause-reads t c = off c.args.left _ _ _ _ _ c.from_residual-in_err-last.ensures (turn_off shell (no_more _ (sym c.is_open.ensures ∙ c.if-is_open.false) (go_at _ false _ false (c.is_open-in-loop-alloc.ensures ∙ sym c.is_open.ensures ∙ c.if-is_open.false) (sym c.goes_on.ensures ∙ c.loop-alloc-test.false)) c.loop-alloc.invariant.turns) _ (c.in_err-last.ensures.reads c.args.left))
+word_rest-returns-in_err-last-clause-reads t c = off c.args.left _ _ _ _ _ c.from_residual-in_err-last.ensures (turn_off shell (no_more _ (sym c.is_open-2.ensures ∙ c.if-is_open.false) (go_at _ false _ false (c.is_open.ensures ∙ sym c.is_open-2.ensures ∙ c.if-is_open.false) (sym c.goes_on.ensures ∙ c.loop-alloc-test.false)) c.loop-alloc.invariant.turns) _ (c.in_err-last.ensures.reads c.args.left))
+
+pub word_rest-word_step-requires : goal.word_rest-word_step-requires
+word_rest-word_step-requires t c = (omega (arith, c.decreases), go_at _ true _ _ c.is_open.ensures (sym c.goes_on.ensures ∙ c.loop-alloc-test.true))
+
+pub word_rest-into_pieces-pieces-requires : goal.word_rest-into_pieces-pieces-requires
+word_rest-into_pieces-pieces-requires t c = none_open _ (sym c.is_open-2.ensures ∙ c.if-is_open.false)
 
 pub word_rest-returns-clause-reads : goal.word_rest-returns-clause-reads
-word_rest-returns-clause-reads t c = rw (word_pattern c.into_pieces.result, c.into_pieces.ensures) (turn_on shell (no_more _ (sym c.is_open.ensures ∙ c.if-is_open.false) (go_at _ false _ false (c.is_open-in-loop-alloc.ensures ∙ sym c.is_open.ensures ∙ c.if-is_open.false) (sym c.goes_on.ensures ∙ c.loop-alloc-test.false)) c.loop-alloc.invariant.turns) (c.in_ok-last.ensures.reads c.args.left))
+word_rest-returns-clause-reads t c = rw (word_pattern c.into_pieces-pieces.result, c.into_pieces-pieces.ensures) (turn_on shell (no_more _ (sym c.is_open-2.ensures ∙ c.if-is_open.false) (go_at _ false _ false (c.is_open.ensures ∙ sym c.is_open-2.ensures ∙ c.if-is_open.false) (sym c.goes_on.ensures ∙ c.loop-alloc-test.false)) c.loop-alloc.invariant.turns) (c.in_ok-last.ensures.reads c.args.left))
 
 pub word_step-returns-in_err-head-clause-err : goal.word_step-returns-in_err-head-clause-err
 word_step-returns-in_err-head-clause-err t c = exit_step c.args.left _ _ _ _ c.from_residual.ensures (λ g. rw (c.in_err-head.ensures.free (sym c.opens.ensures ∙ c.if-opens.true)) tt)
@@ -49,11 +57,14 @@ word_step-returns-then-opens-2-clause-moves t c = λ g. close_moves c.args.left 
 pub word_step-returns-then-opens-2-clause-spells : goal.word_step-returns-then-opens-2-clause-spells
 word_step-returns-then-opens-2-clause-spells t c = λ start h. c.in_ok-leave.ensures.spells start _ _ h (c.in_ok-rest.ensures.reads c.args.left).spells
 
+pub word_step-leave-requires : goal.word_step-leave-requires
+word_step-leave-requires t c = end_is_open (nest_depth c.args.nest.now) (whats c.args.tokens.now) c.requires (sym c.opens-2.ensures ∙ c.if-opens-2.true)
+
 pub word_step-returns-in_err-next-clause-err : goal.word_step-returns-in_err-next-clause-err
-word_step-returns-in_err-next-clause-err t c = exit_step c.args.left _ _ _ _ c.from_residual-in_err-next.ensures (λ g. piece_exit c.args.left _ g _ (piece_next _ _ c.requires (sym c.opens.ensures ∙ c.if-opens.false) (sym c.opens-2.ensures ∙ c.if-opens-2.false)) _ c.in_err-next.ensures.reads)
+word_step-returns-in_err-next-clause-err t c = exit_step c.args.left _ _ _ _ c.from_residual-in_err-next.ensures (λ g. piece_exit c.args.left _ g _ (piece_next (nest_depth c.args.nest.now) (whats c.args.tokens.now) c.requires (sym c.opens.ensures ∙ c.if-opens.false) (sym c.opens-2.ensures ∙ c.if-opens-2.false)) _ c.in_err-next.ensures.reads)
 
 pub word_step-returns-clause-moves : goal.word_step-returns-clause-moves
-word_step-returns-clause-moves t c = λ g. piece_moves c.args.left _ _ g _ _ _ c.in_ok-add.ensures.depth (piece_next _ _ c.requires (sym c.opens.ensures ∙ c.if-opens.false) (sym c.opens-2.ensures ∙ c.if-opens-2.false)) c.in_ok-next.ensures.reads
+word_step-returns-clause-moves t c = λ g. piece_moves c.args.left _ _ g _ _ _ c.in_ok-add.ensures.depth (piece_next (nest_depth c.args.nest.now) (whats c.args.tokens.now) c.requires (sym c.opens.ensures ∙ c.if-opens.false) (sym c.opens-2.ensures ∙ c.if-opens-2.false)) c.in_ok-next.ensures.reads
 
 pub word_step-returns-clause-spells : goal.word_step-returns-clause-spells
 word_step-returns-clause-spells t c = λ start h. part_spelled _ _ _ start _ _ c.in_ok-add.ensures.parts c.in_ok-next.ensures.reads.spells h
@@ -161,7 +172,7 @@ pub argument-returns-then-opens_word-clause-spells : goal.argument-returns-then-
 argument-returns-then-opens_word-clause-spells t c = λ start assigned n h. one_word start assigned _ _ c.in_ok-next.next _ _ _ n c.in_ok-push.ensures.items c.in_ok-next.ensures.reads.spells h
 
 pub argument-returns-then-opens_word-clause-some : goal.argument-returns-then-opens_word-clause-some
-argument-returns-then-opens_word-clause-some t c = λ n. rw c.in_ok-push.ensures.items (omega arith)
+argument-returns-then-opens_word-clause-some t c = λ n. one_there _ _ _ c.in_ok-push.ensures.items
 
 pub argument-returns-in_err-next-2-clause-err : goal.argument-returns-in_err-next-2-clause-err
 argument-returns-in_err-next-2-clause-err t c = exit_gives c.args.left _ _ _ _ c.from_residual-in_err-next-2.ensures (gives_right shell c.args.left _ _ _ _ refl (sym c.opens_word.ensures ∙ c.if-opens_word.false) (c.in_err-next-2.ensures.reads))
@@ -194,7 +205,7 @@ pub with_arguments-returns-clause-passes : goal.with_arguments-returns-clause-pa
 with_arguments-returns-clause-passes t c = c.in_ok-rest.ensures.passes
 
 pub with_arguments-returns-clause-spells : goal.with_arguments-returns-clause-spells
-with_arguments-returns-clause-spells t c = λ start h. rw (simple_made c.args.assigned c.in_ok-rest.words c.in_ok-rest.redirects) (c.in_ok-rest.ensures.spells start _ (some_first _ _ _ c.new-words.ensures.items c.in_ok-push.ensures.items) (rw (c.in_ok-push.ensures.items, c.new-words.ensures.items) h))
+with_arguments-returns-clause-spells t c = λ start h. simple_spelled _ _ _ _ _ (c.in_ok-rest.ensures.spells start (map assigned_pattern c.args.assigned.items) (some_first _ _ _ c.new-words.ensures.items c.in_ok-push.ensures.items) (rw (c.in_ok-push.ensures.items, c.new-words.ensures.items) h))
 
 pub named-returns-in_err-rest-clause-reads : goal.named-returns-in_err-rest-clause-reads
 named-returns-in_err-rest-clause-reads t c = off c.args.left _ _ _ _ _ c.from_residual.ensures (then_exit shell c.args.left _ _ _ _ (then_exit shell c.args.left _ _ _ _ (c.in_err-rest.ensures.reads c.args.left)))
@@ -203,7 +214,7 @@ pub named-returns-in_err-first-clause-reads : goal.named-returns-in_err-first-cl
 named-returns-in_err-first-clause-reads t c = off c.args.left _ _ _ _ _ c.from_residual-in_err-first.ensures (then_exit shell c.args.left _ _ _ _ (then_off shell _ (c.in_ok-rest.ensures.reads c.args.left) _ (c.in_err-first.ensures.reads)))
 
 pub named-returns-then-opens-clause-reads : goal.named-returns-then-opens-clause-reads
-named-returns-then-opens-clause-reads t c = then_off shell _ (then_on shell (c.in_ok-rest.ensures.reads c.args.left) (c.in_ok-first.ensures.reads)) (Some (function, whats c.in_ok-first.rest.now)) (gives_left shell c.args.left _ _ _ _ (sym c.opens.ensures ∙ c.if-opens.true) (is_refused shell c.args.left _ _ _ (sym c.opens.ensures ∙ c.if-opens.true)))
+named-returns-then-opens-clause-reads t c = then_off shell _ (then_on shell (c.in_ok-rest.ensures.reads c.args.left) (c.in_ok-first.ensures.reads)) (Some (function, whats c.in_ok-first.rest.now)) (gives_left shell c.args.left (refused (kinds (LeftParen ∷ [])) function) arguments (whats c.in_ok-first.rest.now) (lead_off (Some (function, whats c.in_ok-first.rest.now))) (sym c.opens.ensures ∙ c.if-opens.true) (is_refused shell c.args.left (kinds (LeftParen ∷ [])) function (whats c.in_ok-first.rest.now) (sym c.opens.ensures ∙ c.if-opens.true)))
 
 pub named-returns-in_err-simple-clause-reads : goal.named-returns-in_err-simple-clause-reads
 named-returns-in_err-simple-clause-reads t c = off c.args.left _ _ _ _ _ c.from_residual-in_err-simple.ensures (then_off shell _ (then_on shell (c.in_ok-rest.ensures.reads c.args.left) (c.in_ok-first.ensures.reads)) _ (gives_right shell c.args.left _ _ _ _ refl (sym c.opens.ensures ∙ c.if-opens.false) (c.in_err-simple.ensures.err)))
@@ -254,10 +265,10 @@ pub words_behind-returns-then-opens_command_word-clause-passes : goal.words_behi
 words_behind-returns-then-opens_command_word-clause-passes t c = passes_left shell (sym c.opens_command_word.ensures ∙ c.if-opens_command_word.true) (passes_then shell (then_on shell (c.in_ok-rest.ensures.reads c.args.left) (c.in_ok-first.ensures.reads)) c.in_ok-simple.ensures.passes)
 
 pub words_behind-returns-then-opens_command_word-clause-spells : goal.words_behind-returns-then-opens_command_word-clause-spells
-words_behind-returns-then-opens_command_word-clause-spells t c = λ start h. c.in_ok-simple.ensures.spells start (first_behind start _ c.in_ok-first.first _ _ _ (then_on shell (c.in_ok-rest.ensures.reads c.args.left) (c.in_ok-first.ensures.reads)).spells h)
+words_behind-returns-then-opens_command_word-clause-spells t c = λ start h. c.in_ok-simple.ensures.spells start (first_behind start (map assigned_pattern c.args.assigned.items) c.in_ok-first.first c.args.redirects.items _ _ (then_on shell (c.in_ok-rest.ensures.reads c.args.left) (c.in_ok-first.ensures.reads)).spells h)
 
 pub words_behind-returns-clause-passes : goal.words_behind-returns-clause-passes
-words_behind-returns-clause-passes t c = passes_right shell refl (sym c.opens_command_word.ensures ∙ c.if-opens_command_word.false) (passes_of (reads_last shell c.args.left _ _ (no_word _ (sym c.opens_command_word.ensures ∙ c.if-opens_command_word.false) c.requires)))
+words_behind-returns-clause-passes t c = passes_right shell refl (sym c.opens_command_word.ensures ∙ c.if-opens_command_word.false) (passes_of (reads_last shell c.args.left words (whats c.args.tokens.now) (no_word (whats c.args.tokens.now) (sym c.opens_command_word.ensures ∙ c.if-opens_command_word.false) c.requires)))
 
 pub words_behind-returns-clause-spells : goal.words_behind-returns-clause-spells
 words_behind-returns-clause-spells t c = λ start h. rw (simple_made c.args.assigned c.new-words.result c.args.redirects, c.new-words.ensures.items) h
@@ -273,6 +284,9 @@ prefixed-returns-in_err-behind-clause-reads t c = off c.args.left _ _ _ _ _ c.fr
 
 pub prefixed-loop-assignments-preserved : goal.prefixed-loop-assignments-preserved
 prefixed-loop-assignments-preserved t c = record { shorter = omega (arith, c.loop-assignments.invariant.shorter, c.in_ok-behind.ensures.shorter); moves = moves_on c.loop-assignments.invariant.moves (moves_many shell shell_firm refl (sym c.opens_prefix.ensures ∙ c.loop-assignments-test.true) c.in_ok-behind.ensures.passes); spells = c.in_ok-behind.ensures.spells _ c.loop-assignments.invariant.spells }
+
+pub prefixed-words_behind-requires : goal.prefixed-words_behind-requires
+prefixed-words_behind-requires t c = (omega (arith, c.decreases), no_assignment (whats c.loop-assignments.rest.now) (sym c.opens_prefix.ensures ∙ c.loop-assignments-test.false))
 
 pub prefixed-returns-in_err-simple-clause-reads : goal.prefixed-returns-in_err-simple-clause-reads
 prefixed-returns-in_err-simple-clause-reads t c = off c.args.left _ _ _ _ _ c.from_residual-in_err-simple.ensures (moves_exit (moves_on c.loop-assignments.invariant.moves (moves_past shell (sym c.opens_prefix.ensures ∙ c.loop-assignments-test.false))) _ c.in_err-simple.ensures.err)
@@ -494,19 +508,19 @@ pub conditional-returns-clause-reads : goal.conditional-returns-clause-reads
 conditional-returns-clause-reads t c = rw (if_made c.in_ok-branches.branches c.in_ok-other.other) (turn_on shell (c.in_ok-rest.ensures.turns _) (then_on shell (c.in_ok-rest-2.ensures.reads c.args.left) (then_on shell (c.in_ok-branches.ensures.reads) (then_on shell (c.in_ok-other.ensures.reads) (c.in_ok-rest-3.ensures.reads c.args.left)))))
 
 pub loop_-returns-in_err-rest-clause-reads : goal.loop_-returns-in_err-rest-clause-reads
-loop_-returns-in_err-rest-clause-reads t c = off c.args.left _ _ _ _ _ c.from_residual.ensures (c.in_err-rest.ensures.err _)
+loop_-returns-in_err-rest-clause-reads t c = off c.args.left _ _ _ _ _ c.from_residual.ensures (rw (← c.loop_kind.ensures) (c.in_err-rest.ensures.err _))
 
 pub loop_-returns-in_err-rest-2-clause-reads : goal.loop_-returns-in_err-rest-2-clause-reads
-loop_-returns-in_err-rest-2-clause-reads t c = off c.args.left _ _ _ _ _ c.from_residual-in_err-rest-2.ensures (turn_off shell (c.in_ok-rest.ensures.turns _) _ (then_exit shell c.args.left _ _ _ _ (c.in_err-rest-2.ensures.reads c.args.left)))
+loop_-returns-in_err-rest-2-clause-reads t c = off c.args.left _ _ _ _ _ c.from_residual-in_err-rest-2.ensures (rw (← c.loop_kind.ensures) (turn_off shell (c.in_ok-rest.ensures.turns _) _ (then_exit shell c.args.left _ _ _ _ (c.in_err-rest-2.ensures.reads c.args.left))))
 
 pub loop_-returns-in_err-test-clause-reads : goal.loop_-returns-in_err-test-clause-reads
-loop_-returns-in_err-test-clause-reads t c = off c.args.left _ _ _ _ _ c.from_residual-in_err-test.ensures (turn_off shell (c.in_ok-rest.ensures.turns _) _ (then_off shell _ (c.in_ok-rest-2.ensures.reads c.args.left) _ (then_exit shell c.args.left _ _ _ _ (c.in_err-test.ensures.reads))))
+loop_-returns-in_err-test-clause-reads t c = off c.args.left _ _ _ _ _ c.from_residual-in_err-test.ensures (rw (← c.loop_kind.ensures) (turn_off shell (c.in_ok-rest.ensures.turns _) _ (then_off shell _ (c.in_ok-rest-2.ensures.reads c.args.left) _ (then_exit shell c.args.left _ _ _ _ (c.in_err-test.ensures.reads)))))
 
 pub loop_-returns-in_err-body-clause-reads : goal.loop_-returns-in_err-body-clause-reads
-loop_-returns-in_err-body-clause-reads t c = off c.args.left _ _ _ _ _ c.from_residual-in_err-body.ensures (turn_off shell (c.in_ok-rest.ensures.turns _) _ (then_off shell _ (c.in_ok-rest-2.ensures.reads c.args.left) _ (then_off shell _ (c.in_ok-test.ensures.reads) _ (c.in_err-body.ensures.reads))))
+loop_-returns-in_err-body-clause-reads t c = off c.args.left _ _ _ _ _ c.from_residual-in_err-body.ensures (rw (← c.loop_kind.ensures) (turn_off shell (c.in_ok-rest.ensures.turns _) _ (then_off shell _ (c.in_ok-rest-2.ensures.reads c.args.left) _ (then_off shell _ (c.in_ok-test.ensures.reads) _ (c.in_err-body.ensures.reads)))))
 
 pub loop_-returns-clause-reads : goal.loop_-returns-clause-reads
-loop_-returns-clause-reads t c = rw (loop_made c.args.until c.in_ok-test.test c.in_ok-body.body) (turn_on shell (c.in_ok-rest.ensures.turns _) (then_on shell (c.in_ok-rest-2.ensures.reads c.args.left) (then_on shell (c.in_ok-test.ensures.reads) (c.in_ok-body.ensures.reads))))
+loop_-returns-clause-reads t c = rw (loop_made c.args.until c.in_ok-test.test c.in_ok-body.body, ← c.loop_kind.ensures) (turn_on shell (c.in_ok-rest.ensures.turns _) (then_on shell (c.in_ok-rest-2.ensures.reads c.args.left) (then_on shell (c.in_ok-test.ensures.reads) (c.in_ok-body.ensures.reads))))
 
 pub for_-returns-in_err-rest-clause-reads : goal.for_-returns-in_err-rest-clause-reads
 for_-returns-in_err-rest-clause-reads t c = off c.args.left _ _ _ _ _ c.from_residual.ensures (c.in_err-rest.ensures.err _)
