@@ -25,19 +25,19 @@ pub word_rest-loop-alloc-preserved : goal.word_rest-loop-alloc-preserved
 word_rest-loop-alloc-preserved t c = record { within = omega (arith, c.loop-alloc.invariant.within, c.in_ok-behind.ensures.shorter); turns = moved c.loop-alloc.invariant.turns (c.in_ok-behind.ensures.moves (key WordEnd)) _ (c.in_ok-behind.ensures.spells _ c.loop-alloc.invariant.turns.spells) }
 
 pub word_rest-returns-then-is_open-clause-reads : goal.word_rest-returns-then-is_open-clause-reads
-word_rest-returns-then-is_open-clause-reads t c = turn_off shell c.loop-alloc.invariant.turns (Some (0, whats c.loop-alloc.rest.now)) (still_open c.args.left _ (key WordEnd) _ (sym c.is_open-2.ensures ∙ c.if-is_open.true) (go_at _ false _ true (c.is_open.ensures ∙ sym c.is_open-2.ensures ∙ c.if-is_open.true) (sym c.goes_on.ensures ∙ c.loop-alloc-test.false)))
+word_rest-returns-then-is_open-clause-reads t c = turn_off shell c.loop-alloc.invariant.turns (Some (0, whats c.loop-alloc.rest.now)) (still_open c.args.left _ (key WordEnd) _ (sym c.is_open-2.ensures ∙ c.if-is_open.true) (go_at (whats c.loop-alloc.rest.now) false _ true (c.is_open.ensures ∙ sym c.is_open-2.ensures ∙ c.if-is_open.true) (sym c.goes_on.ensures ∙ c.loop-alloc-test.false)))
 
 pub word_rest-returns-in_err-last-clause-reads : goal.word_rest-returns-in_err-last-clause-reads
-word_rest-returns-in_err-last-clause-reads t c = off c.args.left _ _ _ _ _ c.from_residual-in_err-last.ensures (turn_off shell (no_more _ (sym c.is_open-2.ensures ∙ c.if-is_open.false) (go_at _ false _ false (c.is_open.ensures ∙ sym c.is_open-2.ensures ∙ c.if-is_open.false) (sym c.goes_on.ensures ∙ c.loop-alloc-test.false)) c.loop-alloc.invariant.turns) _ (c.in_err-last.ensures.reads c.args.left))
+word_rest-returns-in_err-last-clause-reads t c = off c.args.left _ _ _ _ _ c.from_residual-in_err-last.ensures (turn_off shell (no_more _ (sym c.is_open-2.ensures ∙ c.if-is_open.false) (go_at (whats c.loop-alloc.rest.now) false _ false (c.is_open.ensures ∙ sym c.is_open-2.ensures ∙ c.if-is_open.false) (sym c.goes_on.ensures ∙ c.loop-alloc-test.false)) c.loop-alloc.invariant.turns) _ (c.in_err-last.ensures.reads c.args.left))
 
 pub word_rest-word_step-requires : goal.word_rest-word_step-requires
-word_rest-word_step-requires t c = (omega (arith, c.decreases), go_at _ true _ _ c.is_open.ensures (sym c.goes_on.ensures ∙ c.loop-alloc-test.true))
+word_rest-word_step-requires t c = (omega (arith, c.decreases), go_at (whats c.loop-alloc.rest.now) true _ _ c.is_open.ensures (sym c.goes_on.ensures ∙ c.loop-alloc-test.true))
 
 pub word_rest-into_pieces-pieces-requires : goal.word_rest-into_pieces-pieces-requires
 word_rest-into_pieces-pieces-requires t c = none_open _ (sym c.is_open-2.ensures ∙ c.if-is_open.false)
 
 pub word_rest-returns-clause-reads : goal.word_rest-returns-clause-reads
-word_rest-returns-clause-reads t c = rw (word_pattern c.into_pieces-pieces.result, c.into_pieces-pieces.ensures) (turn_on shell (no_more _ (sym c.is_open-2.ensures ∙ c.if-is_open.false) (go_at _ false _ false (c.is_open.ensures ∙ sym c.is_open-2.ensures ∙ c.if-is_open.false) (sym c.goes_on.ensures ∙ c.loop-alloc-test.false)) c.loop-alloc.invariant.turns) (c.in_ok-last.ensures.reads c.args.left))
+word_rest-returns-clause-reads t c = rw (word_pattern c.into_pieces-pieces.result, c.into_pieces-pieces.ensures) (turn_on shell (no_more _ (sym c.is_open-2.ensures ∙ c.if-is_open.false) (go_at (whats c.loop-alloc.rest.now) false _ false (c.is_open.ensures ∙ sym c.is_open-2.ensures ∙ c.if-is_open.false) (sym c.goes_on.ensures ∙ c.loop-alloc-test.false)) c.loop-alloc.invariant.turns) (c.in_ok-last.ensures.reads c.args.left))
 
 pub word_step-returns-in_err-head-clause-err : goal.word_step-returns-in_err-head-clause-err
 word_step-returns-in_err-head-clause-err t c = exit_step c.args.left _ _ _ _ c.from_residual.ensures (λ g. rw (c.in_err-head.ensures.free (sym c.opens.ensures ∙ c.if-opens.true)) tt)
