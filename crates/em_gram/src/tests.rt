@@ -3,13 +3,13 @@ use em_base::{Construct, NoMemory, Text};
 use std::alloc::Global;
 use std::test::Fail;
 
-mod shown;
+mod render;
 
 /// The tree of a line as a text, or `fault`.
 fn shown(alloc: Global, line: &[u8]) -> Result<Text, NoMemory> {
     let mut text = Text::new(alloc);
     match parse(alloc, line) {
-        Ok(script) => shown::script(&mut text, &script)?,
+        Ok(script) => render::script(&mut text, &script)?,
         Err(_) => text.add(b"fault")?,
     }
     Ok(text)
@@ -232,7 +232,7 @@ fn numbered(alloc: Global, script: &Script, n: usize) -> Result<Text, NoMemory> 
         None => None,
     };
     match found {
-        Some(of) => shown::script(&mut text, of)?,
+        Some(of) => render::script(&mut text, of)?,
         None => text.add(b"none")?,
     }
     Ok(text)
