@@ -41,8 +41,10 @@ fn word_rest<'a>(
     left: u32,
 ) -> Result<(Word, &'a [Lexeme]), Stop<'a>>
     ensures reads { Gives shell left Grammar.word_rest (whats tokens.now)
-        (lead_of (λ x. ((Tree.word_spelling x.0).pattern ⨾ key Kind.WordEnd,
-            whats x.1.now)) fault_of result) }
+        (lead_of (λ x. (
+          (Tree.word_spelling x.0).pattern ⨾ key Kind.WordEnd,
+          whats x.1.now,
+        )) fault_of result) }
     ensures shorter { IfOk result (λ x. length x.1.now < length tokens.now) }
 {
     let mut nest = Nest::new(alloc);
@@ -153,8 +155,10 @@ fn words<'a>(
     left: u32,
 ) -> Result<(Vec<Word>, &'a [Lexeme]), Stop<'a>>
     ensures reads { Gives shell left (many Grammar.word) (whats tokens.now)
-        (lead_of (λ x. (all (map Tree.any_word (map Tree.word_spelling x.0.items)),
-            whats x.1.now)) fault_of result) }
+        (lead_of (λ x. (
+          all (map Tree.any_word (map Tree.word_spelling x.0.items)),
+          whats x.1.now,
+        )) fault_of result) }
     ensures within { IfOk result (λ x. length x.1.now ≤ length tokens.now) }
 {
     let mut words = Vec::new(alloc);
@@ -175,8 +179,10 @@ fn target<'a>(
     left: u32,
 ) -> Result<((RedirectKind, Word), &'a [Lexeme]), Stop<'a>>
     ensures reads { Gives shell left Grammar.target (whats tokens.now)
-        (lead_of (λ x. (Tree.target_spelled x.0.0 (Tree.word_spelling x.0.1),
-            whats x.1.now)) fault_of result) }
+        (lead_of (λ x. (
+          Tree.target_spelled x.0.0 (Tree.word_spelling x.0.1),
+          whats x.1.now,
+        )) fault_of result) }
     ensures shorter { IfOk result (λ x. length x.1.now < length tokens.now) }
 {
     if opens(tokens, &[Kind::Less, Kind::Great, Kind::DoubleGreat]) {
@@ -211,8 +217,10 @@ fn redirects<'a>(
     left: u32,
 ) -> Result<(Vec<Redirect>, &'a [Lexeme]), Stop<'a>>
     ensures reads { Gives shell left (many Grammar.redirect) (whats tokens.now)
-        (lead_of (λ x. (all (map Tree.redirect_pattern x.0.items),
-            whats x.1.now)) fault_of result) }
+        (lead_of (λ x. (
+          all (map Tree.redirect_pattern x.0.items),
+          whats x.1.now,
+        )) fault_of result) }
     ensures within { IfOk result (λ x. length x.1.now ≤ length tokens.now) }
 {
     let mut redirects = Vec::new(alloc);
@@ -255,7 +263,7 @@ fn argument<'a>(
     ensures spells { IfOk result (λ x. (start : List What) (assigned : List Expr)
         → 0 < length words.old.items
         → Spells shell (so_far assigned words.old.items redirects.old.items) start
-            (whats tokens.now)
+        (whats tokens.now)
         → Spells shell (so_far assigned words.new.items redirects.new.items) start (whats x.now)) }
     ensures some { IfOk result (λ x. 0 < length words.old.items → 0 < length words.new.items) }
     ensures err { IfErr result (λ x. Gives shell left Grammar.argument (whats tokens.now)
@@ -286,7 +294,7 @@ fn arguments<'a>(
     ensures spells { IfOk result (λ x. (start : List What) (assigned : List Expr)
         → 0 < length words.old.items
         → Spells shell (so_far assigned words.old.items redirects.old.items) start
-            (whats tokens.now)
+        (whats tokens.now)
         → Spells shell (so_far assigned words.new.items redirects.new.items) start (whats x.now)) }
     ensures err { IfErr result (λ x. Gives shell left Grammar.arguments (whats tokens.now)
         (lead_off (fault_of x))) }
@@ -314,7 +322,7 @@ fn with_arguments<'a>(
         (whats x.1.now)) }
     ensures spells { IfOk result (λ x. (start : List What)
         → Spells shell (so_far (map Tree.assigned_pattern assigned.items) (first ∷ [])
-            redirects.items) start (whats tokens.now)
+        redirects.items) start (whats tokens.now)
         → Spells shell (Tree.simple_pattern x.0) start (whats x.1.now)) }
     ensures err { IfErr result (λ x. Gives shell left Grammar.arguments (whats tokens.now)
         (lead_off (fault_of x))) }
@@ -396,9 +404,9 @@ fn prefix<'a>(
         (whats x.now)) }
     ensures spells { IfOk result (λ x. (start : List What)
         → Spells shell (so_far (map Tree.assigned_pattern assignments.old.items)
-            [] redirects.old.items) start (whats tokens.now)
+        [] redirects.old.items) start (whats tokens.now)
         → Spells shell (so_far (map Tree.assigned_pattern assignments.new.items)
-            [] redirects.new.items) start (whats x.now)) }
+        [] redirects.new.items) start (whats x.now)) }
     ensures err { IfErr result (λ x. Gives shell left Grammar.prefix (whats tokens.now)
         (lead_off (fault_of x))) }
     ensures shorter { IfOk result (λ x. length x.now < length tokens.now) }
@@ -427,7 +435,7 @@ fn words_behind<'a>(
         (whats x.1.now)) }
     ensures spells { IfOk result (λ x. (start : List What)
         → Spells shell (so_far (map Tree.assigned_pattern assigned.items) [] redirects.items) start
-            (whats tokens.now)
+        (whats tokens.now)
         → Spells shell (Tree.simple_pattern x.0) start (whats x.1.now)) }
     ensures err { IfErr result (λ x. Gives shell left Grammar.words_behind (whats tokens.now)
         (lead_off (fault_of x))) }
@@ -519,8 +527,10 @@ fn body<'a>(
 ) -> Result<(Option<Script>, &'a [Lexeme]), Stop<'a>>
     requires { 0 < left }
     ensures reads { Gives shell left Grammar.body (whats tokens.now)
-        (lead_of (λ x. (Tree.body_of (option_map Tree.script_pattern x.0),
-            whats x.1.now)) fault_of result) }
+        (lead_of (λ x. (
+          Tree.body_of (option_map Tree.script_pattern x.0),
+          whats x.1.now,
+        )) fault_of result) }
     ensures within { IfOk result (λ x. length x.1.now ≤ length tokens.now) }
 {
     if opens_list(tokens) {
@@ -621,8 +631,10 @@ fn stages<'a>(
     left: u32,
 ) -> Result<(Vec<Command>, &'a [Lexeme]), Stop<'a>>
     ensures reads { Gives shell left Grammar.stages (whats tokens.now)
-        (lead_of (λ x. (Tree.staged (map Tree.command_pattern x.0.items),
-            whats x.1.now)) fault_of result) }
+        (lead_of (λ x. (
+          Tree.staged (map Tree.command_pattern x.0.items),
+          whats x.1.now,
+        )) fault_of result) }
     ensures shorter { IfOk result (λ x. length x.1.now < length tokens.now) }
 {
     let (first, behind_first) = command(alloc, tokens, left)?;
@@ -644,8 +656,10 @@ fn stage<'a>(
     left: u32,
 ) -> Result<(Command, &'a [Lexeme]), Stop<'a>>
     ensures reads { Gives shell left Grammar.stage (whats tokens.now)
-        (lead_of (λ x. ((key Kind.Pipe ⨾ Grammar.newlines) ⨾ Tree.command_pattern x.0,
-            whats x.1.now)) fault_of result) }
+        (lead_of (λ x. (
+          (key Kind.Pipe ⨾ Grammar.newlines) ⨾ Tree.command_pattern x.0,
+          whats x.1.now,
+        )) fault_of result) }
     ensures shorter { IfOk result (λ x. length x.1.now < length tokens.now) }
 {
     let rest = skip(tokens, &[Kind::Pipe])?;
@@ -718,8 +732,11 @@ fn subshell<'a>(
     left: u32,
 ) -> Result<(Script, &'a [Lexeme]), Stop<'a>>
     ensures reads { Gives shell left Grammar.subshell (whats tokens.now)
-        (lead_of (λ x. (key Kind.LeftParen ⨾ Tree.block_of (Tree.script_pattern x.0)
-            ⨾ key Kind.RightParen, whats x.1.now)) fault_of result) }
+        (lead_of (λ x. (
+          key Kind.LeftParen ⨾ Tree.block_of (Tree.script_pattern x.0)
+              ⨾ key Kind.RightParen,
+          whats x.1.now,
+        )) fault_of result) }
     ensures shorter { IfOk result (λ x. length x.1.now < length tokens.now) }
 {
     let rest = descend(tokens, &[Kind::LeftParen], left)?;
@@ -774,8 +791,10 @@ fn elif_branch<'a>(
 ) -> Result<(Branch, &'a [Lexeme]), Stop<'a>>
     requires { 0 < left }
     ensures reads { Gives shell left Grammar.elif_branch (whats tokens.now)
-        (lead_of (λ x. (Grammar.reserved Kind.Elif ⨾ Tree.branch_pattern x.0,
-            whats x.1.now)) fault_of result) }
+        (lead_of (λ x. (
+          Grammar.reserved Kind.Elif ⨾ Tree.branch_pattern x.0,
+          whats x.1.now,
+        )) fault_of result) }
     ensures shorter { IfOk result (λ x. length x.1.now < length tokens.now) }
 {
     let rest = reserved(tokens, Kind::Elif)?;
@@ -791,8 +810,10 @@ fn branches<'a>(
 ) -> Result<(Vec<Branch>, &'a [Lexeme]), Stop<'a>>
     requires { 0 < left }
     ensures reads { Gives shell left Grammar.branches (whats tokens.now)
-        (lead_of (λ x. (Tree.branches_of (map Tree.branch_pattern x.0.items),
-            whats x.1.now)) fault_of result) }
+        (lead_of (λ x. (
+          Tree.branches_of (map Tree.branch_pattern x.0.items),
+          whats x.1.now,
+        )) fault_of result) }
     ensures shorter { IfOk result (λ x. length x.1.now < length tokens.now) }
 {
     let (first, behind_first) = branch(alloc, tokens, left)?;
@@ -815,8 +836,10 @@ fn other<'a>(
 ) -> Result<(Option<Script>, &'a [Lexeme]), Stop<'a>>
     requires { 0 < left }
     ensures reads { Gives shell left Grammar.other (whats tokens.now)
-        (lead_of (λ x. (Tree.else_of (option_map Tree.script_pattern x.0),
-            whats x.1.now)) fault_of result) }
+        (lead_of (λ x. (
+          Tree.else_of (option_map Tree.script_pattern x.0),
+          whats x.1.now,
+        )) fault_of result) }
     ensures within { IfOk result (λ x. length x.1.now ≤ length tokens.now) }
 {
     if opens(tokens, &[Kind::Else]) {
@@ -925,8 +948,10 @@ fn items<'a>(
 ) -> Result<(Vec<Item>, &'a [Lexeme]), Stop<'a>>
     requires { 0 < left }
     ensures reads { Gives shell left Grammar.items (whats tokens.now)
-        (lead_of (λ x. (Tree.items_of (map Tree.item_pattern x.0.items),
-            whats x.1.now)) fault_of result) }
+        (lead_of (λ x. (
+          Tree.items_of (map Tree.item_pattern x.0.items),
+          whats x.1.now,
+        )) fault_of result) }
     ensures within { IfOk result (λ x. length x.1.now ≤ length tokens.now) }
 {
     if opens_item(tokens) {
@@ -945,8 +970,10 @@ fn item_row<'a>(
     requires { 0 < left }
     ensures reads { Gives shell left (Grammar.item ⨾ more Grammar.item Grammar.item_end)
         (whats tokens.now)
-        (lead_of (λ x. (Tree.row Grammar.item_end (map Tree.item_pattern x.0.items),
-            whats x.1.now)) fault_of result) }
+        (lead_of (λ x. (
+          Tree.row Grammar.item_end (map Tree.item_pattern x.0.items),
+          whats x.1.now,
+        )) fault_of result) }
     ensures shorter { IfOk result (λ x. length x.1.now < length tokens.now) }
 {
     let (first, behind_first) = item(alloc, tokens, left)?;
@@ -991,8 +1018,10 @@ fn patterns<'a>(
     left: u32,
 ) -> Result<(Vec<Word>, &'a [Lexeme]), Stop<'a>>
     ensures reads { Gives shell left Grammar.patterns (whats tokens.now)
-        (lead_of (λ x. (Tree.patterns_of (map Tree.word_spelling x.0.items),
-            whats x.1.now)) fault_of result) }
+        (lead_of (λ x. (
+          Tree.patterns_of (map Tree.word_spelling x.0.items),
+          whats x.1.now,
+        )) fault_of result) }
     ensures shorter { IfOk result (λ x. length x.1.now < length tokens.now) }
 {
     let (first, behind_first) = first_pattern(alloc, tokens, left)?;
@@ -1014,8 +1043,10 @@ fn first_pattern<'a>(
     left: u32,
 ) -> Result<(Word, &'a [Lexeme]), Stop<'a>>
     ensures reads { Gives shell left Grammar.first_pattern (whats tokens.now)
-        (lead_of (λ x. (Tree.first_pattern_of (Tree.word_spelling x.0),
-            whats x.1.now)) fault_of result) }
+        (lead_of (λ x. (
+          Tree.first_pattern_of (Tree.word_spelling x.0),
+          whats x.1.now,
+        )) fault_of result) }
     ensures shorter { IfOk result (λ x. length x.1.now < length tokens.now) }
 {
     if opens(tokens, &[Kind::LeftParen]) {
@@ -1035,8 +1066,10 @@ fn pattern_behind<'a>(
     left: u32,
 ) -> Result<(Word, &'a [Lexeme]), Stop<'a>>
     ensures reads { Gives shell left Grammar.pattern_more (whats tokens.now)
-        (lead_of (λ x. (Tree.pattern_behind (Tree.word_spelling x.0),
-            whats x.1.now)) fault_of result) }
+        (lead_of (λ x. (
+          Tree.pattern_behind (Tree.word_spelling x.0),
+          whats x.1.now,
+        )) fault_of result) }
     ensures shorter { IfOk result (λ x. length x.1.now < length tokens.now) }
 {
     let rest = skip(tokens, &[Kind::Pipe])?;
@@ -1048,8 +1081,10 @@ fn pattern_behind<'a>(
 /// A whole line, up to what can't belong to it.
 pub fn line<'a>(alloc: Global, tokens: &'a [Lexeme]) -> Result<(Script, &'a [Lexeme]), Stop<'a>>
     ensures { Gives shell 64 Grammar.line (whats tokens.now)
-        (lead_of (λ x. (Grammar.newlines ⨾ Tree.script_pattern x.0,
-            whats x.1.now)) fault_of result) }
+        (lead_of (λ x. (
+          Grammar.newlines ⨾ Tree.script_pattern x.0,
+          whats x.1.now,
+        )) fault_of result) }
 {
     let rest = newlines(tokens);
     if opens_list(rest) {

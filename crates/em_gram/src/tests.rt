@@ -58,7 +58,10 @@ fn lists_have_trees(rt: HostRuntime) -> Result<(), Fail> {
 #[test]
 fn compounds_have_trees(rt: HostRuntime) -> Result<(), Fail> {
     for (line, wanted) in [
-        (b"(a;b)>f<g".as_slice(), b"|(|[ a];|[ b];),1>f,0<g;".as_slice()),
+        (
+            b"(a;b)>f<g".as_slice(),
+            b"|(|[ a];|[ b];),1>f,0<g;".as_slice(),
+        ),
         (b"(\na\n)", b"|(|[ a];);"),
         (b"{ a;}|{\nb\n}", b"|{|[ a];}|{|[ b];};"),
         (b"if a;then b;fi", b"|if(|[ a];)(|[ b];)fi;"),
