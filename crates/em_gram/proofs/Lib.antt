@@ -1,0 +1,10 @@
+pub mod Checked
+pub mod Spellings
+pub mod Nested
+pub mod Tokens
+pub mod Parts
+pub mod Holding
+pub mod Choices
+pub mod Mixed
+pub mod Whole
+pub mod Scripts

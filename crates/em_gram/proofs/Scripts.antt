@@ -1,0 +1,99 @@
+-- The substitutions of a word.
+use Rattle.std.proofs.Common.{◌≡◌, ℕ, zero, suc, ◌+◌, ◌<◌, List, [], ◌∷◌, ◌++◌, ◌≤◌, length, map, take, get_or, Option, Some, None, refl, sym, ap, ◌∙◌, length-append, arith}
+use Rattle.std.specs.Prelude.{flat_map, slice_get}
+use Rattle.std.specs.Option.{option_map}
+use Rattle.std.proofs.lemmas.Option.{slice_get_read}
+use Rattle.std.proofs.lemmas.List.{take_all}
+use Rattle.em_gram.specs.Shell.{Expr}
+use Rattle.em_gram.specs.Patterns.{Spelling, piece_spelling, word_spelling, what_spelled_as, value_spelled_as, value_spelling, script_pattern}
+use Rattle.em_gram.specs.declared.tree.Script.{Script}
+use Rattle.em_gram.specs.declared.tree.Value.{Value, out-Value}
+use Rattle.em_gram.specs.declared.tree.Word.{Word, out-Word}
+use Rattle.em_gram.specs.declared.tree.WordPiece.{WordPiece, out-WordPiece}
+use Rattle.em_gram.specs.declared.tree.WordWhat.{WordWhat}
+use Rattle.em_gram.specs.declared.tree.WordWhat.TheVariants as WordWhat-is
+use Rattle.em_gram.proofs.Spellings.{piece_is, word_is, value_is, what_Bytes, what_Value, what_Output}
+
+-- of a piece, by what it is
+pub bytes_outputs : (p : WordPiece) (t : List ℕ) → (out-WordPiece p).what ≡ WordWhat-is.Bytes t → (piece_spelling p).outputs ≡ []
+bytes_outputs p t e = ap (λ s. s.outputs) (piece_is p ∙ ap (λ x. what_spelled_as x (out-WordPiece p).quoted) e ∙ ap (λ g. g (out-WordPiece p).quoted) (what_Bytes t))
+
+pub output_outputs : (p : WordPiece) (s : Script) → (out-WordPiece p).what ≡ WordWhat-is.Output s → (piece_spelling p).outputs ≡ script_pattern s ∷ []
+output_outputs p s e = ap (λ s. s.outputs) (piece_is p ∙ ap (λ x. what_spelled_as x (out-WordPiece p).quoted) e ∙ ap (λ g. g (out-WordPiece p).quoted) (what_Output s))
+
+value_outputs : (p : WordPiece) (v : Value) → (out-WordPiece p).what ≡ WordWhat-is.Value v → piece_spelling p ≡ value_spelling (out-Value v).name (out-Value v).form (option_map word_spelling (out-Value v).arg) (out-WordPiece p).quoted
+value_outputs p v e = piece_is p ∙ ap (λ x. what_spelled_as x (out-WordPiece p).quoted) e ∙ ap (λ g. g (out-WordPiece p).quoted) (what_Value v) ∙ ap (λ g. g (out-WordPiece p).quoted) (value_is v)
+
+pub plain_outputs : (p : WordPiece) (v : Value) → (out-WordPiece p).what ≡ WordWhat-is.Value v → (out-Value v).arg ≡ None → (piece_spelling p).outputs ≡ []
+plain_outputs p v e n = ap (λ s. s.outputs) (value_outputs p v e ∙ ap (λ a. value_spelling (out-Value v).name (out-Value v).form (option_map word_spelling a) (out-WordPiece p).quoted) n)
+
+pub argument_outputs : (p : WordPiece) (v : Value) (w : Word) → (out-WordPiece p).what ≡ WordWhat-is.Value v → (out-Value v).arg ≡ Some w → (piece_spelling p).outputs ≡ (word_spelling w).outputs
+argument_outputs p v w e n = ap (λ s. s.outputs) (value_outputs p v e ∙ ap (λ a. value_spelling (out-Value v).name (out-Value v).form (option_map word_spelling a) (out-WordPiece p).quoted) n)
+
+-- of a word, piece by piece
+abbrev pub outputs_of : List WordPiece → List Expr
+outputs_of [] = []
+outputs_of (p ∷ ps) = (piece_spelling p).outputs ++ outputs_of ps
+
+flat_is : (ps : List WordPiece) → flat_map (λ p. p.outputs) (map piece_spelling ps) ≡ outputs_of ps
+flat_is [] = refl
+flat_is (p ∷ ps) = ap (λ l. (piece_spelling p).outputs ++ l) (flat_is ps)
+
+pub word_outputs : (w : Word) → (word_spelling w).outputs ≡ outputs_of (out-Word w).pieces.items
+word_outputs w = ap (λ s. s.outputs) (word_is w) ∙ flat_is (out-Word w).pieces.items
+
+some_is : (q p : WordPiece) → Some q ≡ Some p → q ≡ p
+some_is q p e = ap (or_else q) e
+  where
+    or_else : WordPiece → Option WordPiece → WordPiece
+    or_else d None = d
+    or_else d (Some x) = x
+
+-- one more piece
+pub one_more_piece : (ps : List WordPiece) (i : ℕ) (p : WordPiece) → slice_get ps i ≡ Some p → length (outputs_of (take (suc i) ps)) ≡ length (outputs_of (take i ps)) + length (piece_spelling p).outputs
+one_more_piece [] i p e = absurd cc
+one_more_piece (q ∷ ps) zero p e =
+    let s : q ≡ p = some_is q p e in
+    let a : length ((piece_spelling q).outputs ++ []) ≡ length (piece_spelling q).outputs + 0 = length-append (piece_spelling q).outputs [] in
+    let b : length (piece_spelling q).outputs ≡ length (piece_spelling p).outputs = ap (λ x. length (piece_spelling x).outputs) s in
+    omega (arith, a, b)
+one_more_piece (q ∷ ps) (suc i) p e =
+    let h = one_more_piece ps i p e in
+    let a = length-append (piece_spelling q).outputs (outputs_of (take (suc i) ps)) in
+    let b = length-append (piece_spelling q).outputs (outputs_of (take i ps)) in
+    omega (arith, a, b, h)
+
+get_behind : (xs ys : List Expr) (k : ℕ) → slice_get (xs ++ ys) (length xs + k) ≡ slice_get ys k
+get_behind [] ys k = ap (λ n. slice_get ys n) (let e : 0 + k ≡ k = omega arith in e)
+get_behind (x ∷ xs) ys k = ap (λ n. slice_get (x ∷ (xs ++ ys)) n) (let e : length (x ∷ xs) + k ≡ suc (length xs + k) = omega arith in e) ∙ get_behind xs ys k
+
+get_before : (xs ys : List Expr) (k : ℕ) (x : Expr) → slice_get xs k ≡ Some x → slice_get (xs ++ ys) k ≡ Some x
+get_before [] ys k x e = absurd cc
+get_before (y ∷ xs) ys zero x e = e
+get_before (y ∷ xs) ys (suc k) x e = get_before xs ys k x e
+
+-- the one that was found in the piece of this number
+pub found_in : (ps : List WordPiece) (i : ℕ) (p : WordPiece) (k n : ℕ) (x : Expr) → slice_get ps i ≡ Some p → length (outputs_of (take i ps)) + k ≡ n → slice_get (piece_spelling p).outputs k ≡ Some x → slice_get (outputs_of ps) n ≡ Some x
+found_in [] i p k n x e l h = absurd cc
+found_in (q ∷ ps) zero p k n x e l h =
+    let s : q ≡ p = some_is q p e in
+    let m : k ≡ n = omega (arith, l) in
+    rw (← m, s) (get_before (piece_spelling p).outputs (outputs_of ps) k x h)
+found_in (q ∷ ps) (suc i) p k n x e l h =
+    let a = length-append (piece_spelling q).outputs (outputs_of (take i ps)) in
+    let r : length (outputs_of (take i ps)) + k ≡ length (outputs_of (take i ps)) + k = refl in
+    let m : length (piece_spelling q).outputs + (length (outputs_of (take i ps)) + k) ≡ n = omega (arith, a, l) in
+    rw (← m) (get_behind (piece_spelling q).outputs (outputs_of ps) (length (outputs_of (take i ps)) + k) ∙ found_in ps i p k (length (outputs_of (take i ps)) + k) x e r h)
+
+-- in a loop over the pieces
+pub found_at : (w : Word) (xs : List WordPiece) (i : ℕ) (p : WordPiece) (k n : ℕ) (x : Expr) → xs ≡ (out-Word w).pieces.items → i < length xs → p ≡ get_or xs i p → length (outputs_of (take i xs)) + k ≡ n → slice_get (piece_spelling p).outputs k ≡ Some x → slice_get (word_spelling w).outputs n ≡ Some x
+found_at w xs i p k n x e l g m h = rw (word_outputs w, ← e) (found_in xs i p k n x (slice_get_read xs (length xs) i p refl l g) m h)
+
+pub next_piece : (xs : List WordPiece) (i : ℕ) (p : WordPiece) (k b n : ℕ) → i < length xs → p ≡ get_or xs i p → length (outputs_of (take i xs)) + k ≡ n → length (piece_spelling p).outputs + b ≡ k → length (outputs_of (take (i + 1) xs)) + b ≡ n
+next_piece xs i p k b n l g m h =
+    let o = one_more_piece xs i p (slice_get_read xs (length xs) i p refl l g) in
+    let j : i + 1 ≡ suc i = omega arith in
+    rw j (omega (arith, o, m, h))
+
+pub all_pieces : (w : Word) (xs : List WordPiece) (i k n : ℕ) → xs ≡ (out-Word w).pieces.items → length xs ≤ i → length (outputs_of (take i xs)) + k ≡ n → length (word_spelling w).outputs + k ≡ n
+all_pieces w xs i k n e l m = rw (word_outputs w, ← e) (rw (take_all i xs l) at m)

@@ -1,0 +1,54 @@
+//! The command substitutions of a word.
+ghost use Rattle.std.specs.Prelude.{◌≡◌, ◌+◌, ◌≤◌, ◌↔◌, length, slice_get, Some, IsNone, IfSome, MatchResult};
+ghost use Rattle.em_gram.specs.Patterns as Tree;
+ghost use Rattle.em_gram.specs.declared.tree.Script.{Script};
+
+use crate::tree::{Script, Word, WordPiece, WordWhat};
+
+impl Word {
+    /// The command substitution of number n, counted from 0 from left to right. Those in an argument count, those inside another
+    /// substitution don't. `None` exactly where there are not so many. It takes no memory, and time linear in the word's pieces.
+    pub fn script(&self, n: usize) -> Option<&Script>
+        ensures found { IfSome result (λ s. slice_get (Tree.word_spelling self.now).outputs n ≡ Some (Tree.script_pattern s.now)) }
+        ensures none { IsNone result ↔ (length (Tree.word_spelling self.now).outputs ≤ n) }
+    {
+        script_in(self, n).ok()
+    }
+}
+
+/// The substitution of number n in a word, or the number without those that it has.
+#[cycle(script)]
+fn script_in(word: &Word, n: usize) -> Result<&Script, usize>
+    ensures { MatchResult result (λ s. slice_get (Tree.word_spelling word.now).outputs n ≡ Some (Tree.script_pattern s.now))
+        (λ k. length (Tree.word_spelling word.now).outputs + k ≡ n) }
+{
+    let mut left = n;
+    for piece in &word.pieces {
+        match script_of(piece, left) {
+            Ok(script) => return Ok(script),
+            Err(behind) => left = behind,
+        }
+    }
+    Err(left)
+}
+
+/// The same for one piece.
+#[cycle(script)]
+fn script_of(piece: &WordPiece, n: usize) -> Result<&Script, usize>
+    ensures { MatchResult result (λ s. slice_get (Tree.piece_spelling piece.now).outputs n ≡ Some (Tree.script_pattern s.now))
+        (λ k. length (Tree.piece_spelling piece.now).outputs + k ≡ n) }
+{
+    match &piece.what {
+        WordWhat::Bytes(_) => Err(n),
+        WordWhat::Output(script) => {
+            if n == 0 {
+                return Ok(script);
+            }
+            Err(n - 1)
+        }
+        WordWhat::Value(value) => match &value.arg {
+            Some(word) => script_in(word, n),
+            None => Err(n),
+        },
+    }
+}
