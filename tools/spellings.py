@@ -5,7 +5,7 @@ Each tree is spelled by a fold whose steps stand in Patterns.antt. Here the fold
 equations that say what it is on a tree that was made of parts. Run it in the root of the repository.
 """
 MODULE = 'Rattle.em_gram.'
-TREE = MODULE + 'specs.declared.tree.'
+TREE = 'Rattle.em_syntax.specs.declared.tree.'
 # A fold's arguments: the enums as they stand in the source, then the structs by alphabet. The name of the fold, its
 # step, and what it gives.
 E, Q, S = 'Expr', '(Bool → Spelling)', 'Spelling'
@@ -82,7 +82,7 @@ use Rattle.em_grammar.specs.Gives.{all}
 use Rattle.em_gram.specs.Kinds.{kinds}
 use Rattle.em_gram.specs.Shell.{Expr, key, newlines, sequential, bare, reserved}
 use Rattle.em_gram.specs.declared.kind.Kind.TheVariants.{Bang, If as If_, Then, Fi, Until, While, For as For_, In, Case as Case_, Esac, LeftBrace, RightBrace, LeftParen, RightParen, AndIf, OrIf}
-use Rattle.em_gram.specs.declared.tree.RedirectKind.{RedirectKind}
+use Rattle.em_syntax.specs.declared.tree.RedirectKind.{RedirectKind}
 use Rattle.em_gram.specs.Patterns.{Spelling, of_pieces, bytes_spelling, output_spelling, value_spelling, any_word, name_spelled, assigned_spelled, redirect_spelled, mixed, words_spelled, list_of, block_of, do_of, staged, else_of, branches_of, body_of, patterns_of, items_of}
 '''
     s += 'use %sspecs.Patterns.{%s}\nuse %sspecs.Patterns.{%s}\n' % (MODULE, steps, MODULE, names)

@@ -5,10 +5,10 @@ use Rattle.em_grammar.specs.Production.{is_among, Ending, IsWith}
 use Rattle.em_grammar.specs.Checks.{decided, lives, stays, firm, within}
 use Rattle.em_grammar.specs.Machine.{run, Outcome, fault, first_set, nullable}
 use Rattle.em_grammar.proofs.Reading.{Decided, Spelled, Rightly, right_alone, named, names}
-use Rattle.em_lex.specs.declared.lexeme.What.{What}
-use Rattle.em_lex.specs.declared.lexeme.What.TheVariants as What
-use Rattle.em_lex.specs.declared.lexeme.Start.{Start}
-use Rattle.em_lex.specs.declared.lexeme.Start.TheVariants as Start
+use Rattle.em_lexeme.specs.declared.lexeme.What.{What}
+use Rattle.em_lexeme.specs.declared.lexeme.What.TheVariants as What
+use Rattle.em_lexeme.specs.declared.lexeme.Start.{Start}
+use Rattle.em_lexeme.specs.declared.lexeme.Start.TheVariants as Start
 use Rattle.em_gram.specs.Kinds.{kinds, class_of, words}
 use Rattle.em_gram.specs.Shell.{shell, list, line}
 

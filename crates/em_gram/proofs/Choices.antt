@@ -4,16 +4,16 @@ use Rattle.em_grammar.specs.Production.{Production, one, many, empty, ◌⨾◌,
 use Rattle.em_grammar.specs.Machine.{first_set}
 use Rattle.em_grammar.specs.Gives.{begins_with, Spells, Reads, all}
 use Rattle.em_grammar.proofs.Giving.{left_on, right_on}
-use Rattle.em_lex.specs.declared.lexeme.What.{What}
+use Rattle.em_lexeme.specs.declared.lexeme.What.{What}
 use Rattle.em_gram.specs.Shell.{shell, Expr, key, word, word_of, first_pattern, item_end}
 use Rattle.em_gram.specs.Kinds.{kinds, words_but_esac}
 use Rattle.em_gram.specs.Patterns.{Spelling, any_word, word_spelled, word_spelling, assigned_pattern, simple_pattern, operator_spelled, is_duplicate, digit_spelled, target_spelled, first_pattern_of, row, items_of}
 use Rattle.em_gram.specs.declared.kind.Kind.TheVariants.{LeftParen}
-use Rattle.em_gram.specs.declared.tree.RedirectKind.{RedirectKind}
-use Rattle.em_gram.specs.declared.tree.Word.{Word}
-use Rattle.em_gram.specs.declared.tree.Assigned.{Assigned}
-use Rattle.em_gram.specs.declared.tree.Redirect.{Redirect}
-use Rattle.em_gram.specs.declared.tree.Simple.{roll-Simple}
+use Rattle.em_syntax.specs.declared.tree.RedirectKind.{RedirectKind}
+use Rattle.em_syntax.specs.declared.tree.Word.{Word}
+use Rattle.em_syntax.specs.declared.tree.Assigned.{Assigned}
+use Rattle.em_syntax.specs.declared.tree.Redirect.{Redirect}
+use Rattle.em_syntax.specs.declared.tree.Simple.{roll-Simple}
 use Rattle.std.specs.declared.vec.Vec.{Vec}
 use Rattle.em_gram.specs.Simple.{so_far}
 use Rattle.em_gram.proofs.Spellings.{simple_made}

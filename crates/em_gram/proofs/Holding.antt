@@ -10,22 +10,22 @@ use Rattle.std.specs.Result.{IsErr, IsErrAnd}
 use Rattle.std.proofs.lemmas.Result.{err_from_is_err_and}
 use Rattle.em_gram.specs.declared.stop.Stop.{Stop}
 use Rattle.em_gram.specs.Seen.{fault_of}
-use Rattle.em_lex.specs.declared.lexeme.Lexeme.{Lexeme}
-use Rattle.em_lex.specs.declared.lexeme.What.{What}
-use Rattle.em_lex.specs.declared.lexeme.What.TheVariants as What
+use Rattle.em_lexeme.specs.declared.lexeme.Lexeme.{Lexeme}
+use Rattle.em_lexeme.specs.declared.lexeme.What.{What}
+use Rattle.em_lexeme.specs.declared.lexeme.What.TheVariants as What
 use Rattle.em_gram.specs.Kinds.{kinds, whats, class_of}
 use Rattle.em_gram.specs.Shell.{shell, Expr, key, newlines}
 use Rattle.em_gram.specs.Patterns.{Spelling, digit_of, only_digit, bytes_spelled, piece_spelling, script_pattern, body_of, number_of, number_spelled, usual, target_spelled, redirect_pattern, word_spelling, output_spelling, list_of, never, and_or_pattern}
 use Rattle.em_gram.specs.Nesting.{piece_pattern, head_pattern}
 use Rattle.em_gram.specs.declared.kind.Kind.TheVariants.{Bytes, Assigning, Value, ArgumentStart, SubstitutionStart, SubstitutionEnd, Number}
-use Rattle.em_gram.specs.declared.tree.RedirectKind.{RedirectKind}
-use Rattle.em_gram.specs.declared.tree.Script.{Script, roll-Script}
-use Rattle.em_gram.specs.declared.tree.AndOr.{AndOr}
-use Rattle.em_gram.specs.declared.tree.Word.{Word, roll-Word}
-use Rattle.em_gram.specs.declared.tree.Redirect.{roll-Redirect}
-use Rattle.em_gram.specs.declared.tree.WordPiece.{WordPiece, roll-WordPiece}
-use Rattle.em_gram.specs.declared.tree.WordWhat.TheVariants as WordWhat
-use Rattle.em_gram.specs.declared.tree.Value.{roll-Value}
+use Rattle.em_syntax.specs.declared.tree.RedirectKind.{RedirectKind}
+use Rattle.em_syntax.specs.declared.tree.Script.{Script, roll-Script}
+use Rattle.em_syntax.specs.declared.tree.AndOr.{AndOr}
+use Rattle.em_syntax.specs.declared.tree.Word.{Word, roll-Word}
+use Rattle.em_syntax.specs.declared.tree.Redirect.{roll-Redirect}
+use Rattle.em_syntax.specs.declared.tree.WordPiece.{WordPiece, roll-WordPiece}
+use Rattle.em_syntax.specs.declared.tree.WordWhat.TheVariants as WordWhat
+use Rattle.em_syntax.specs.declared.tree.Value.{roll-Value}
 use Rattle.em_gram.specs.declared.nest.Head.{Head}
 use Rattle.em_gram.proofs.Spellings.{piece_made, what_Bytes, what_Value, what_Output, value_made, script_made, word_made, redirect_made}
 use Rattle.em_gram.proofs.Tokens.{assigning_is, small_number, descends_this}

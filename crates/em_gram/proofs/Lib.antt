@@ -7,4 +7,3 @@ pub mod Holding
 pub mod Choices
 pub mod Mixed
 pub mod Whole
-pub mod Scripts

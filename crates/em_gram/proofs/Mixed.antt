@@ -11,12 +11,12 @@ use Rattle.em_grammar.specs.Checks.{firm, within}
 use Rattle.em_grammar.specs.Gives.{begins_with, Spells, all, Turns, Reads, Faults, Passes, Moves, Gives, lead_off}
 use Rattle.em_grammar.proofs.Reading.{within_at, apart_at, among-append}
 use Rattle.em_grammar.proofs.Giving.{spell_then, spell_front, spell_all_more, open_bracket, end_balanced, opens_bracket, closes_bracket, more_balanced, exit_balanced, begun, turn, moves_past, reads_last}
-use Rattle.em_lex.specs.declared.lexeme.What.{What}
+use Rattle.em_lexeme.specs.declared.lexeme.What.{What}
 use Rattle.em_gram.specs.declared.stop.Stop.{Stop}
 use Rattle.em_gram.specs.declared.kind.Kind.TheVariants.{Assignment, ArgumentStart, ArgumentEnd, Bytes, Assigning, Value, SubstitutionStart, WordEnd}
-use Rattle.em_gram.specs.declared.tree.Redirect.{Redirect}
-use Rattle.em_gram.specs.declared.tree.Word.{Word}
-use Rattle.em_gram.specs.declared.tree.Assigned.{Assigned}
+use Rattle.em_syntax.specs.declared.tree.Redirect.{Redirect}
+use Rattle.em_syntax.specs.declared.tree.Word.{Word}
+use Rattle.em_syntax.specs.declared.tree.Assigned.{Assigned}
 use Rattle.em_gram.specs.Kinds.{kinds, words, command_words, class_of}
 use Rattle.em_gram.specs.Seen.{fault_of}
 use Rattle.em_gram.specs.Shell.{shell, Expr, pieces, piece, argument, arguments, prefix, key}

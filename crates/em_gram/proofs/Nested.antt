@@ -5,8 +5,8 @@ use Rattle.std.specs.declared.vec.Vec.{Vec}
 use Rattle.em_grammar.specs.Production.{this, ◌⨾◌}
 use Rattle.em_grammar.specs.Gives.{all, Spells}
 use Rattle.em_grammar.proofs.Giving.{spell_front, spell_then, spell_all_tail}
-use Rattle.em_lex.specs.declared.lexeme.What.{What}
-use Rattle.em_lex.specs.declared.lexeme.What.TheVariants as What
+use Rattle.em_lexeme.specs.declared.lexeme.What.{What}
+use Rattle.em_lexeme.specs.declared.lexeme.What.TheVariants as What
 use Rattle.em_gram.specs.Kinds.{kinds}
 use Rattle.em_gram.specs.Shell.{shell, Expr, key}
 use Rattle.em_gram.specs.Patterns.{Spelling, piece_spelling, word_spelling, value_spelling}
@@ -14,10 +14,10 @@ use Rattle.em_gram.specs.Nesting.{piece_pattern, head_pattern, flat}
 use Rattle.em_gram.specs.declared.kind.Kind.TheVariants.{ArgumentStart, ArgumentEnd}
 use Rattle.em_gram.specs.declared.nest.Head.{Head}
 use Rattle.em_gram.specs.declared.nest.Open.{Open}
-use Rattle.em_gram.specs.declared.tree.Word.{Word, roll-Word}
-use Rattle.em_gram.specs.declared.tree.WordPiece.{WordPiece, roll-WordPiece}
-use Rattle.em_gram.specs.declared.tree.WordWhat.TheVariants as WordWhat
-use Rattle.em_gram.specs.declared.tree.Value.{roll-Value}
+use Rattle.em_syntax.specs.declared.tree.Word.{Word, roll-Word}
+use Rattle.em_syntax.specs.declared.tree.WordPiece.{WordPiece, roll-WordPiece}
+use Rattle.em_syntax.specs.declared.tree.WordWhat.TheVariants as WordWhat
+use Rattle.em_syntax.specs.declared.tree.Value.{roll-Value}
 use Rattle.em_gram.proofs.Spellings.{piece_made, what_Value, value_made, word_made}
 
 pub flat_add : (os : List Open) (ps qs : List WordPiece) (p : WordPiece) → qs ≡ ps ++ p ∷ [] → flat os qs ≡ flat os ps ++ piece_pattern p ∷ []

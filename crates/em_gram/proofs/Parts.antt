@@ -9,7 +9,7 @@ use Rattle.em_grammar.specs.Machine.{first_set, nullable}
 use Rattle.em_grammar.specs.Gives.{begins_with, Spells, Reads, Faults, Turns, Passes, Moves, Lead, on, Gives, lead_of, lead_off, all, parted}
 use Rattle.em_grammar.specs.Checks.{firm}
 use Rattle.em_grammar.proofs.Giving.{turn, more_many, more_row, last_row, spell_then, gives_inner, stopped, then_on, then_off, then_exit, left_on, right_on, gives_left, gives_right, spell_all_more, spell_parted_more, spell_front, turn_off}
-use Rattle.em_lex.specs.declared.lexeme.What.{What}
+use Rattle.em_lexeme.specs.declared.lexeme.What.{What}
 use Rattle.em_gram.specs.declared.stop.Stop.{Stop}
 use Rattle.em_gram.specs.Kinds.{kinds, whats}
 use Rattle.em_gram.specs.Shell.{shell, Expr, list, newlines, sequential, separator}

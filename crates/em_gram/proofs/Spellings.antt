@@ -7,34 +7,34 @@ use Rattle.em_grammar.specs.Gives.{all}
 use Rattle.em_gram.specs.Kinds.{kinds}
 use Rattle.em_gram.specs.Shell.{Expr, key, newlines, sequential, bare, reserved}
 use Rattle.em_gram.specs.declared.kind.Kind.TheVariants.{Bang, If as If_, Then, Fi, Until, While, For as For_, In, Case as Case_, Esac, LeftBrace, RightBrace, LeftParen, RightParen, AndIf, OrIf}
-use Rattle.em_gram.specs.declared.tree.RedirectKind.{RedirectKind}
+use Rattle.em_syntax.specs.declared.tree.RedirectKind.{RedirectKind}
 use Rattle.em_gram.specs.Patterns.{Spelling, of_pieces, bytes_spelling, output_spelling, value_spelling, any_word, name_spelled, assigned_spelled, redirect_spelled, mixed, words_spelled, list_of, block_of, do_of, staged, else_of, branches_of, body_of, patterns_of, items_of}
 use Rattle.em_gram.specs.Patterns.{command_step, compound_step, what_step, and_or_step, assigned_step, branch_step, case_step, for_step, if_step, item_step, joined_step, loop_step, pipeline_step, redirect_step, script_step, simple_step, value_step, word_step, piece_step}
 use Rattle.em_gram.specs.Patterns.{command_pattern, compound_pattern, what_spelled_as, and_or_pattern, assigned_pattern, branch_pattern, case_pattern, for_pattern, if_pattern, item_pattern, joined_pattern, loop_pattern, pipeline_pattern, redirect_pattern, script_pattern, simple_pattern, value_spelled_as, word_spelling, piece_spelling}
-use Rattle.em_gram.specs.declared.tree.Command.TheOpen.{Command-F, Compound-F, WordWhat-F}
-use Rattle.em_gram.specs.declared.tree.Command.TheShapes.{former-If-other, former-Value-arg}
-use Rattle.em_gram.specs.declared.tree.Command.{Command, fold-roll-Command}
-use Rattle.em_gram.specs.declared.tree.Command.TheVariants.{Simple as the-Simple, Compound as the-Compound, rolls-Simple, rolls-Compound}
-use Rattle.em_gram.specs.declared.tree.Compound.{Compound, fold-roll-Compound}
-use Rattle.em_gram.specs.declared.tree.Compound.TheVariants.{Subshell as the-Subshell, Group as the-Group, If as the-If, Loop as the-Loop, For as the-For, Case as the-Case, rolls-Subshell, rolls-Group, rolls-If, rolls-Loop, rolls-For, rolls-Case}
-use Rattle.em_gram.specs.declared.tree.WordWhat.{WordWhat, fold-roll-WordWhat}
-use Rattle.em_gram.specs.declared.tree.WordWhat.TheVariants.{Bytes as the-Bytes, Value as the-Value, Output as the-Output, rolls-Bytes, rolls-Value, rolls-Output}
-use Rattle.em_gram.specs.declared.tree.Script.{Script, roll-Script, fold-roll-Script}
-use Rattle.em_gram.specs.declared.tree.AndOr.{AndOr, roll-AndOr, fold-roll-AndOr}
-use Rattle.em_gram.specs.declared.tree.Joined.{Joined, roll-Joined, fold-roll-Joined}
-use Rattle.em_gram.specs.declared.tree.Pipeline.{Pipeline, roll-Pipeline, fold-roll-Pipeline}
-use Rattle.em_gram.specs.declared.tree.Simple.{Simple, roll-Simple, fold-roll-Simple}
-use Rattle.em_gram.specs.declared.tree.Assigned.{Assigned, roll-Assigned, fold-roll-Assigned}
-use Rattle.em_gram.specs.declared.tree.Redirect.{Redirect, roll-Redirect, fold-roll-Redirect}
-use Rattle.em_gram.specs.declared.tree.If.{If, roll-If, fold-roll-If}
-use Rattle.em_gram.specs.declared.tree.Branch.{Branch, roll-Branch, fold-roll-Branch}
-use Rattle.em_gram.specs.declared.tree.Loop.{Loop, roll-Loop, fold-roll-Loop}
-use Rattle.em_gram.specs.declared.tree.For.{For, roll-For, fold-roll-For}
-use Rattle.em_gram.specs.declared.tree.Case.{Case, roll-Case, fold-roll-Case}
-use Rattle.em_gram.specs.declared.tree.Item.{Item, roll-Item, fold-roll-Item}
-use Rattle.em_gram.specs.declared.tree.Word.{Word, roll-Word, fold-roll-Word, out-Word, fold_out-Word}
-use Rattle.em_gram.specs.declared.tree.WordPiece.{WordPiece, roll-WordPiece, fold-roll-WordPiece, out-WordPiece, fold_out-WordPiece}
-use Rattle.em_gram.specs.declared.tree.Value.{Value, roll-Value, fold-roll-Value, out-Value, fold_out-Value}
+use Rattle.em_syntax.specs.declared.tree.Command.TheOpen.{Command-F, Compound-F, WordWhat-F}
+use Rattle.em_syntax.specs.declared.tree.Command.TheShapes.{former-If-other, former-Value-arg}
+use Rattle.em_syntax.specs.declared.tree.Command.{Command, fold-roll-Command}
+use Rattle.em_syntax.specs.declared.tree.Command.TheVariants.{Simple as the-Simple, Compound as the-Compound, rolls-Simple, rolls-Compound}
+use Rattle.em_syntax.specs.declared.tree.Compound.{Compound, fold-roll-Compound}
+use Rattle.em_syntax.specs.declared.tree.Compound.TheVariants.{Subshell as the-Subshell, Group as the-Group, If as the-If, Loop as the-Loop, For as the-For, Case as the-Case, rolls-Subshell, rolls-Group, rolls-If, rolls-Loop, rolls-For, rolls-Case}
+use Rattle.em_syntax.specs.declared.tree.WordWhat.{WordWhat, fold-roll-WordWhat}
+use Rattle.em_syntax.specs.declared.tree.WordWhat.TheVariants.{Bytes as the-Bytes, Value as the-Value, Output as the-Output, rolls-Bytes, rolls-Value, rolls-Output}
+use Rattle.em_syntax.specs.declared.tree.Script.{Script, roll-Script, fold-roll-Script}
+use Rattle.em_syntax.specs.declared.tree.AndOr.{AndOr, roll-AndOr, fold-roll-AndOr}
+use Rattle.em_syntax.specs.declared.tree.Joined.{Joined, roll-Joined, fold-roll-Joined}
+use Rattle.em_syntax.specs.declared.tree.Pipeline.{Pipeline, roll-Pipeline, fold-roll-Pipeline}
+use Rattle.em_syntax.specs.declared.tree.Simple.{Simple, roll-Simple, fold-roll-Simple}
+use Rattle.em_syntax.specs.declared.tree.Assigned.{Assigned, roll-Assigned, fold-roll-Assigned}
+use Rattle.em_syntax.specs.declared.tree.Redirect.{Redirect, roll-Redirect, fold-roll-Redirect}
+use Rattle.em_syntax.specs.declared.tree.If.{If, roll-If, fold-roll-If}
+use Rattle.em_syntax.specs.declared.tree.Branch.{Branch, roll-Branch, fold-roll-Branch}
+use Rattle.em_syntax.specs.declared.tree.Loop.{Loop, roll-Loop, fold-roll-Loop}
+use Rattle.em_syntax.specs.declared.tree.For.{For, roll-For, fold-roll-For}
+use Rattle.em_syntax.specs.declared.tree.Case.{Case, roll-Case, fold-roll-Case}
+use Rattle.em_syntax.specs.declared.tree.Item.{Item, roll-Item, fold-roll-Item}
+use Rattle.em_syntax.specs.declared.tree.Word.{Word, roll-Word, fold-roll-Word, out-Word, fold_out-Word}
+use Rattle.em_syntax.specs.declared.tree.WordPiece.{WordPiece, roll-WordPiece, fold-roll-WordPiece, out-WordPiece, fold_out-WordPiece}
+use Rattle.em_syntax.specs.declared.tree.Value.{Value, roll-Value, fold-roll-Value, out-Value, fold_out-Value}
 
 script_option : (o : Option Script) → (former-If-other).map Script Expr script_pattern o ≡ option_map script_pattern o
 script_option None = refl

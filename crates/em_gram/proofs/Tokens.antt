@@ -6,9 +6,9 @@ use Rattle.std.proofs.lemmas.Bool.{eqb-true}
 use Rattle.em_grammar.specs.Production.{Production, one, this, many, nested, is_among, depth}
 use Rattle.em_grammar.specs.Gives.{begins_with, Reads, Faults, Turns}
 use Rattle.em_grammar.proofs.Giving.{reads_one, reads_key, more_many, spell_many_more, opens_level, opens_level_this, too_deep}
-use Rattle.em_lex.specs.declared.lexeme.Lexeme.{Lexeme}
-use Rattle.em_lex.specs.declared.lexeme.What.{What}
-use Rattle.em_lex.specs.declared.lexeme.What.TheVariants as What
+use Rattle.em_lexeme.specs.declared.lexeme.Lexeme.{Lexeme}
+use Rattle.em_lexeme.specs.declared.lexeme.What.{What}
+use Rattle.em_lexeme.specs.declared.lexeme.What.TheVariants as What
 use Rattle.em_gram.specs.Kinds.{whats, class_of, kinds, kind_of_bytes, ends_with_equals, is_equals, code_of}
 use Rattle.em_gram.specs.Shell.{shell, newlines, Expr}
 use Rattle.em_gram.specs.declared.kind.Kind.TheVariants.{Newline, Assigning, Number, BadValue, Bytes}

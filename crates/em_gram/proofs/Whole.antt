@@ -7,15 +7,15 @@ use Rattle.em_grammar.specs.Machine.{run, done, fault}
 use Rattle.em_grammar.specs.Faults.{IsFirstFault}
 use Rattle.em_grammar.specs.Gives.{Spells, Reads}
 use Rattle.em_grammar.proofs.Reading.{both}
-use Rattle.em_lex.specs.declared.lexeme.Lexeme.{Lexeme}
-use Rattle.em_lex.specs.declared.lexeme.What.{What}
-use Rattle.em_lex.specs.declared.no.LexNo.{LexNo}
+use Rattle.em_lexeme.specs.declared.lexeme.Lexeme.{Lexeme}
+use Rattle.em_lexeme.specs.declared.lexeme.What.{What}
+use Rattle.em_lexeme.specs.declared.no.LexNo.{LexNo}
 use Rattle.em_gram.specs.Kinds.{class_of, whats}
 use Rattle.em_gram.specs.Shell.{shell, Expr, list, line, newlines}
 use Rattle.em_gram.specs.Patterns.{script_pattern}
-use Rattle.em_gram.specs.declared.tree.Script.{Script}
+use Rattle.em_syntax.specs.declared.tree.Script.{Script}
 use Rattle.em_gram.specs.declared.no.GramNo.{GramNo}
-use Rattle.em_lex.specs.declared.lexeme.Lexed.{Lexed}
+use Rattle.em_lexeme.specs.declared.lexeme.Lexed.{Lexed}
 use Rattle.em_gram.specs.Line.{IsLine, IsScript, IsFault, is_function, GoesOn, lexed_of, FirstFault, UnexpectedAt, RefusedHere, ends_with, steps_back, place_at}
 use Rattle.em_gram.proofs.Checked.{line_right, line_named, line_names}
 

@@ -5,16 +5,16 @@ use Rattle.em_base.specs.declared.construct.Construct.TheVariants.{Background, F
 use Rattle.em_grammar.specs.Production.{Is, IsWith, Ending, opens, depth, ◌⨾◌}
 use Rattle.em_grammar.specs.Faults.{IsFirstFault}
 use Rattle.em_grammar.specs.Gives.{Spells}
-use Rattle.em_lex.specs.declared.lexeme.Lexeme.{Lexeme}
-use Rattle.em_lex.specs.declared.lexeme.Lexed.{Lexed}
-use Rattle.em_lex.specs.declared.lexeme.What.{What}
-use Rattle.em_lex.specs.declared.no.LexNo.{LexNo}
-use Rattle.em_lex.specs.declared.no.LexNo.TheVariants as LexNo
+use Rattle.em_lexeme.specs.declared.lexeme.Lexeme.{Lexeme}
+use Rattle.em_lexeme.specs.declared.lexeme.Lexed.{Lexed}
+use Rattle.em_lexeme.specs.declared.lexeme.What.{What}
+use Rattle.em_lexeme.specs.declared.no.LexNo.{LexNo}
+use Rattle.em_lexeme.specs.declared.no.LexNo.TheVariants as LexNo
 use Rattle.em_gram.specs.Kinds.{class_of, kinds, whats}
 use Rattle.em_gram.specs.Shell.{shell, list, line, newlines, background, function, positional}
 use Rattle.em_gram.specs.Patterns.{script_pattern}
 use Rattle.em_gram.specs.declared.kind.Kind.TheVariants.{RightParen}
-use Rattle.em_gram.specs.declared.tree.Script.{Script}
+use Rattle.em_syntax.specs.declared.tree.Script.{Script}
 use Rattle.em_gram.specs.declared.no.GramNo.{GramNo}
 use Rattle.em_gram.specs.declared.no.GramNo.TheVariants as GramNo
 

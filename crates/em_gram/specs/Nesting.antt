@@ -2,8 +2,8 @@
 use Rattle.std.specs.Prelude.{ℕ, ◌==◌, Bool, not, ◌||◌, ◌&&◌, List, [], ◌∷◌, ◌++◌, map, length}
 use Rattle.em_grammar.specs.Production.{this}
 use Rattle.em_grammar.specs.Gives.{all, begins_with}
-use Rattle.em_lex.specs.declared.lexeme.What.{What}
-use Rattle.em_lex.specs.declared.lexeme.What.TheVariants as What
+use Rattle.em_lexeme.specs.declared.lexeme.What.{What}
+use Rattle.em_lexeme.specs.declared.lexeme.What.TheVariants as What
 use Rattle.em_gram.specs.Kinds.{kinds}
 use Rattle.em_gram.specs.Shell.{Expr, shell}
 use Rattle.em_gram.specs.Patterns.{piece_spelling}
@@ -11,7 +11,7 @@ use Rattle.em_gram.specs.declared.kind.Kind.TheVariants.{ArgumentStart, Bytes, A
 use Rattle.em_gram.specs.declared.nest.Head.{Head}
 use Rattle.em_gram.specs.declared.nest.Open.{Open}
 use Rattle.em_gram.specs.declared.nest.Nest.{Nest}
-use Rattle.em_gram.specs.declared.tree.WordPiece.{WordPiece}
+use Rattle.em_syntax.specs.declared.tree.WordPiece.{WordPiece}
 
 abbrev pub piece_pattern : WordPiece → Expr
 piece_pattern p = (piece_spelling p).pattern

@@ -2,34 +2,34 @@
 use Rattle.std.specs.Prelude.{ℕ, ◌-◌, ◌==◌, nat_le, Bool, true, false, List, [], ◌∷◌, ◌++◌, map, flat_map, Option, Some, None, cond}
 use Rattle.em_grammar.specs.Production.{Production, empty, one, this, ◌⨾◌, ◌∣◌, many, refused}
 use Rattle.em_grammar.specs.Gives.{all, parted}
-use Rattle.em_lex.specs.declared.lexeme.What.{What}
-use Rattle.em_lex.specs.declared.lexeme.What.TheVariants as What
+use Rattle.em_lexeme.specs.declared.lexeme.What.{What}
+use Rattle.em_lexeme.specs.declared.lexeme.What.TheVariants as What
 use Rattle.em_gram.specs.Kinds.{kinds, words, words_but_esac, command_words, names}
 use Rattle.em_gram.specs.Shell.{Expr, key, newlines, sequential, bare, reserved, item_end}
 use Rattle.em_gram.specs.declared.kind.Kind.{Kind}
 use Rattle.em_gram.specs.declared.kind.Kind.TheVariants.{Name, Assignment, Bang, If, Then, Elif, Else, Fi, While, Until, Do, Done, For, In, Case, Esac, LeftBrace, RightBrace, WordEnd, Bytes, Assigning, Value, ArgumentStart, ArgumentEnd, SubstitutionStart, SubstitutionEnd, AndIf, OrIf, Pipe, LeftParen, RightParen, Number, Less, Great, DoubleGreat, GreatAnd}
-use Rattle.em_gram.specs.declared.tree.RedirectKind.{RedirectKind}
-use Rattle.em_gram.specs.declared.tree.RedirectKind.TheVariants as RedirectKind
-use Rattle.em_gram.specs.declared.tree.Command.TheOpen.{Command-F, Compound-F, WordWhat-F, AndOr-F, Assigned-F, Branch-F, Case-F, For-F, If-F, Item-F, Joined-F, Loop-F, Pipeline-F, Redirect-F, Script-F, Simple-F, Value-F, Word-F, WordPiece-F}
-use Rattle.em_gram.specs.declared.tree.Command.{Command as CommandTree, fold-Command}
-use Rattle.em_gram.specs.declared.tree.Compound.{Compound as CompoundTree, fold-Compound}
-use Rattle.em_gram.specs.declared.tree.WordWhat.{WordWhat as WordWhatTree, fold-WordWhat}
-use Rattle.em_gram.specs.declared.tree.AndOr.{AndOr as AndOrTree, fold-AndOr}
-use Rattle.em_gram.specs.declared.tree.Assigned.{Assigned as AssignedTree, fold-Assigned}
-use Rattle.em_gram.specs.declared.tree.Branch.{Branch as BranchTree, fold-Branch}
-use Rattle.em_gram.specs.declared.tree.Case.{Case as CaseTree, fold-Case}
-use Rattle.em_gram.specs.declared.tree.For.{For as ForTree, fold-For}
-use Rattle.em_gram.specs.declared.tree.If.{If as IfTree, fold-If}
-use Rattle.em_gram.specs.declared.tree.Item.{Item as ItemTree, fold-Item}
-use Rattle.em_gram.specs.declared.tree.Joined.{Joined as JoinedTree, fold-Joined}
-use Rattle.em_gram.specs.declared.tree.Loop.{Loop as LoopTree, fold-Loop}
-use Rattle.em_gram.specs.declared.tree.Pipeline.{Pipeline as PipelineTree, fold-Pipeline}
-use Rattle.em_gram.specs.declared.tree.Redirect.{Redirect as RedirectTree, fold-Redirect}
-use Rattle.em_gram.specs.declared.tree.Script.{Script as ScriptTree, fold-Script}
-use Rattle.em_gram.specs.declared.tree.Simple.{Simple as SimpleTree, fold-Simple}
-use Rattle.em_gram.specs.declared.tree.Value.{Value as ValueTree, fold-Value}
-use Rattle.em_gram.specs.declared.tree.Word.{Word as WordTree, fold-Word}
-use Rattle.em_gram.specs.declared.tree.WordPiece.{WordPiece as WordPieceTree, fold-WordPiece}
+use Rattle.em_syntax.specs.declared.tree.RedirectKind.{RedirectKind}
+use Rattle.em_syntax.specs.declared.tree.RedirectKind.TheVariants as RedirectKind
+use Rattle.em_syntax.specs.declared.tree.Command.TheOpen.{Command-F, Compound-F, WordWhat-F, AndOr-F, Assigned-F, Branch-F, Case-F, For-F, If-F, Item-F, Joined-F, Loop-F, Pipeline-F, Redirect-F, Script-F, Simple-F, Value-F, Word-F, WordPiece-F}
+use Rattle.em_syntax.specs.declared.tree.Command.{Command as CommandTree, fold-Command}
+use Rattle.em_syntax.specs.declared.tree.Compound.{Compound as CompoundTree, fold-Compound}
+use Rattle.em_syntax.specs.declared.tree.WordWhat.{WordWhat as WordWhatTree, fold-WordWhat}
+use Rattle.em_syntax.specs.declared.tree.AndOr.{AndOr as AndOrTree, fold-AndOr}
+use Rattle.em_syntax.specs.declared.tree.Assigned.{Assigned as AssignedTree, fold-Assigned}
+use Rattle.em_syntax.specs.declared.tree.Branch.{Branch as BranchTree, fold-Branch}
+use Rattle.em_syntax.specs.declared.tree.Case.{Case as CaseTree, fold-Case}
+use Rattle.em_syntax.specs.declared.tree.For.{For as ForTree, fold-For}
+use Rattle.em_syntax.specs.declared.tree.If.{If as IfTree, fold-If}
+use Rattle.em_syntax.specs.declared.tree.Item.{Item as ItemTree, fold-Item}
+use Rattle.em_syntax.specs.declared.tree.Joined.{Joined as JoinedTree, fold-Joined}
+use Rattle.em_syntax.specs.declared.tree.Loop.{Loop as LoopTree, fold-Loop}
+use Rattle.em_syntax.specs.declared.tree.Pipeline.{Pipeline as PipelineTree, fold-Pipeline}
+use Rattle.em_syntax.specs.declared.tree.Redirect.{Redirect as RedirectTree, fold-Redirect}
+use Rattle.em_syntax.specs.declared.tree.Script.{Script as ScriptTree, fold-Script}
+use Rattle.em_syntax.specs.declared.tree.Simple.{Simple as SimpleTree, fold-Simple}
+use Rattle.em_syntax.specs.declared.tree.Value.{Value as ValueTree, fold-Value}
+use Rattle.em_syntax.specs.declared.tree.Word.{Word as WordTree, fold-Word}
+use Rattle.em_syntax.specs.declared.tree.WordPiece.{WordPiece as WordPieceTree, fold-WordPiece}
 
 -- no tokens spell it
 abbrev pub never : Expr

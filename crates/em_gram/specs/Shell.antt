@@ -2,7 +2,7 @@
 use Rattle.std.specs.Prelude.{ℕ, List, [], ◌∷◌, ◌++◌}
 use Rattle.em_grammar.specs.Production.{Production, empty, one, ◌⨾◌, ◌∣◌, many, more, nested, inner, last, balanced, refused}
 use Rattle.em_grammar.specs.Machine.{Grammar}
-use Rattle.em_lex.specs.declared.lexeme.What.{What}
+use Rattle.em_lexeme.specs.declared.lexeme.What.{What}
 use Rattle.em_gram.specs.declared.kind.Kind.{Kind}
 use Rattle.em_gram.specs.declared.kind.Kind.TheVariants.{Plain, Name, Assignment, Bang, If, Then, Elif, Else, Fi, While, Until, Do, Done, For, In, Case, Esac, LeftBrace, RightBrace, WordEnd, Bytes, Assigning, Value, ArgumentStart, ArgumentEnd, SubstitutionStart, SubstitutionEnd, Newline, Semicolon, CaseEnd, Ampersand, AndIf, OrIf, Pipe, LeftParen, RightParen, Number, Less, Great, DoubleGreat, GreatAnd}
 use Rattle.em_gram.specs.Kinds.{kinds, words, words_but_esac, command_words, names, class_of}

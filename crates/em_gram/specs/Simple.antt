@@ -2,8 +2,8 @@
 use Rattle.std.specs.Prelude.{List, ◌++◌, map}
 use Rattle.em_gram.specs.Shell.{Expr}
 use Rattle.em_gram.specs.Patterns.{mixed, words_spelled, word_spelling, redirect_pattern}
-use Rattle.em_gram.specs.declared.tree.Word.{Word}
-use Rattle.em_gram.specs.declared.tree.Redirect.{Redirect}
+use Rattle.em_syntax.specs.declared.tree.Word.{Word}
+use Rattle.em_syntax.specs.declared.tree.Redirect.{Redirect}
 
 -- assignments, spelled so, then words, with redirections among them
 abbrev pub so_far : List Expr → List Word → List Redirect → Expr

@@ -1,6 +1,6 @@
 //! What a lexeme holds. The caller has looked at its kind, so that another lexeme doesn't come; it would count as want of memory.
 ghost use Rattle.std.specs.Prelude.{◌≡◌, IfOk};
-ghost use Rattle.em_lex.specs.declared.lexeme.What.TheVariants as What;
+ghost use Rattle.em_lexeme.specs.declared.lexeme.What.TheVariants as What;
 
 use em_base::{NoMemory, Text};
 use em_lex::What;

@@ -1,7 +1,7 @@
 //! What a lexeme is to the grammar.
 ghost use Rattle.std.specs.Prelude.{◌≡◌};
 ghost use Rattle.em_gram.specs.Kinds.{code_of, class_of, kind_of_bytes as bytes_kind};
-ghost use Rattle.em_lex.specs.declared.lexeme.What.TheVariants as What;
+ghost use Rattle.em_lexeme.specs.declared.lexeme.What.TheVariants as What;
 
 use em_lex::{Start, What};
 

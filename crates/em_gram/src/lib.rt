@@ -9,16 +9,14 @@ mod parse_line;
 mod parser;
 mod piece;
 mod read;
-mod script;
 mod stop;
-mod tree;
 
-pub use no::GramNo;
-pub use parse_line::parse;
-pub use tree::{
+pub use em_syntax::{
     AndOr, Assigned, Branch, Case, Command, Compound, For, If, Item, Joined, Loop, Pipeline,
     Redirect, RedirectKind, Script, Simple, Value, Word, WordPiece, WordWhat,
 };
+pub use no::GramNo;
+pub use parse_line::parse;
 
 #[cfg(test)]
 mod tests;

@@ -2,13 +2,13 @@
 ghost use Rattle.std.specs.Prelude.{◌≡◌, ◌==◌, not, ◌+◌, ◌<◌, ◌++◌, [], ◌∷◌, List, map, OnOk};
 ghost use Rattle.em_grammar.specs.Production.{◌⨾◌};
 ghost use Rattle.em_grammar.specs.Gives.{all, Spells};
-ghost use Rattle.em_lex.specs.declared.lexeme.What.{What};
+ghost use Rattle.em_lexeme.specs.declared.lexeme.What.{What};
 ghost use Rattle.em_gram.specs.Nesting.{piece_pattern, head_pattern, nest_parts, nest_depth};
 ghost use Rattle.em_gram.specs.Shell.{shell, key};
 ghost use Rattle.em_gram.specs.declared.kind.Kind.TheVariants as Kind;
 
-use crate::tree::{Value, Word, WordPiece, WordWhat};
 use em_base::{NoMemory, Text};
+use em_syntax::{Value, Word, WordPiece, WordWhat};
 use std::alloc::Global;
 
 /// The begin of an argument: the value that it belongs to.

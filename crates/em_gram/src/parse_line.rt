@@ -4,8 +4,8 @@ ghost use Rattle.em_grammar.specs.Production.{◌⨾◌};
 ghost use Rattle.em_grammar.specs.Machine.{run, fault};
 ghost use Rattle.em_grammar.specs.Gives.{Reads};
 ghost use Rattle.em_gram.specs.Patterns.{script_pattern};
-ghost use Rattle.em_lex.specs.declared.lexeme.Lexeme.{Lexeme};
-ghost use Rattle.em_lex.specs.declared.no.LexNo.{LexNo};
+ghost use Rattle.em_lexeme.specs.declared.lexeme.Lexeme.{Lexeme};
+ghost use Rattle.em_lexeme.specs.declared.no.LexNo.{LexNo};
 ghost use Rattle.em_gram.specs.Seen.{why_code};
 ghost use Rattle.em_gram.specs.Shell.{shell, newlines, line as line_grammar};
 ghost use Rattle.em_lex.specs.Lexing.{lexed};
@@ -17,9 +17,9 @@ use crate::no::GramNo;
 use crate::parser::line;
 use crate::read::opens;
 use crate::stop::{Stop, Why};
-use crate::tree::Script;
 use em_base::Construct;
 use em_lex::{LexNo, Lexed, Lexeme, lexemes};
+use em_syntax::Script;
 use std::alloc::Global;
 
 /// Where the lexeme of this number begins, or the line's length behind the last.

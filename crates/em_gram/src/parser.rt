@@ -3,7 +3,7 @@ ghost use Rattle.std.specs.Prelude.{◌≡◌, ◌<◌, ◌≤◌, length, map, 
 ghost use Rattle.std.specs.Option.{option_map};
 ghost use Rattle.em_grammar.specs.Production.{many, more, ◌⨾◌};
 ghost use Rattle.em_grammar.specs.Gives.{begins_with, Gives, Passes, Moves, Spells, lead_of, lead_off, all};
-ghost use Rattle.em_lex.specs.declared.lexeme.What.{What};
+ghost use Rattle.em_lexeme.specs.declared.lexeme.What.{What};
 ghost use Rattle.em_gram.specs.Kinds.{whats, kinds as kinds_of};
 ghost use Rattle.em_gram.specs.Shell as Grammar;
 ghost use Rattle.em_gram.specs.Shell.{shell, key, Expr};
@@ -26,11 +26,11 @@ use crate::read::{
     skip_word,
 };
 use crate::stop::{Stop, Why};
-use crate::tree::{
+use em_lex::Lexeme;
+use em_syntax::{
     AndOr, Assigned, Branch, Case, Command, Compound, For, If, Item, Joined, Loop, Pipeline,
     Redirect, RedirectKind, Script, Simple, Word, WordPiece,
 };
-use em_lex::Lexeme;
 use std::alloc::Global;
 
 /// The pieces of a word, and its end.

@@ -1,7 +1,7 @@
 use Rattle.std.proofs.Common.{ℕ, ◌≡◌, ◌+◌, ◌*◌, ◌<◌, ◌≤◌, length, map, List, [], ◌∷◌}
 use Rattle.em_grammar.specs.Production.{one, many, more, ◌⨾◌}
 use Rattle.em_grammar.specs.Gives.{Turns, Moves, Spells, all, parted}
-use Rattle.em_lex.specs.declared.lexeme.What.{What}
+use Rattle.em_lexeme.specs.declared.lexeme.What.{What}
 use Rattle.em_gram.specs.Kinds.{kinds, whats}
 use Rattle.em_gram.specs.Shell as Grammar
 use Rattle.em_gram.specs.Shell.{shell, Expr, key}

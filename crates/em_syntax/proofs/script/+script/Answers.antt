@@ -1,6 +1,6 @@
 use Rattle.std.proofs.Common.{◌≡◌, ◌∙◌, refl, arith}
-use Rattle.em_gram.proofs.Scripts.{bytes_outputs, output_outputs, plain_outputs, argument_outputs, found_at, next_piece, all_pieces}
-use Rattle.em_gram.proofs.script.+script.Goals as goal
+use Rattle.em_syntax.proofs.Scripts.{bytes_outputs, output_outputs, plain_outputs, argument_outputs, found_at, next_piece, all_pieces}
+use Rattle.em_syntax.proofs.script.+script.Goals as goal
 
 pub script_of-returns-in-Bytes : goal.script_of-returns-in-Bytes
 script_of-returns-in-Bytes t c = rw (bytes_outputs c.args.piece.now c.in-Bytes.field-0 c.in-Bytes.is) (omega arith)

@@ -1,7 +1,6 @@
 //! The command substitutions of a word.
-ghost use Rattle.std.specs.Prelude.{◌≡◌, ◌+◌, ◌≤◌, ◌↔◌, length, slice_get, Some, IsNone, IfSome, MatchResult};
-ghost use Rattle.em_gram.specs.Patterns as Tree;
-ghost use Rattle.em_gram.specs.declared.tree.Script.{Script};
+ghost use Rattle.std.specs.Prelude.{◌≡◌, ◌+◌, ◌≤◌, ◌^◌, length, slice_get, Some, IsNone, IfSome, MatchResult};
+ghost use Rattle.em_syntax.specs.Scripts.{scripts, piece_scripts};
 
 use crate::tree::{Script, Word, WordPiece, WordWhat};
 
@@ -9,18 +8,30 @@ impl Word {
     /// The command substitution of number n, counted from 0 from left to right. Those in an argument count, those inside another
     /// substitution don't. `None` exactly where there are not so many. It takes no memory, and time linear in the word's pieces.
     pub fn script(&self, n: usize) -> Option<&Script>
-        ensures found { IfSome result (λ s. slice_get (Tree.word_spelling self.now).outputs n ≡ Some (Tree.script_pattern s.now)) }
-        ensures none { IsNone result ↔ (length (Tree.word_spelling self.now).outputs ≤ n) }
+        ensures found { IfSome result (λ s. slice_get (scripts self.now) n ≡ Some s.now) }
+        ensures none { IsNone result → length (scripts self.now) ≤ n }
     {
         script_in(self, n).ok()
+    }
+
+    /// How many command substitutions the word has; `None` only where more than a `usize` counts. It takes no memory, and time
+    /// linear in the word's pieces.
+    pub fn script_count(&self) -> Option<usize>
+        ensures count { IfSome result (λ n. n ≡ length (scripts self.now)) }
+        ensures none { IsNone result → 2 ^ 64 ≤ length (scripts self.now) }
+    {
+        match script_in(self, usize::MAX) {
+            Ok(_) => None,
+            Err(behind) => Some(usize::MAX - behind),
+        }
     }
 }
 
 /// The substitution of number n in a word, or the number without those that it has.
 #[cycle(script)]
 fn script_in(word: &Word, n: usize) -> Result<&Script, usize>
-    ensures { MatchResult result (λ s. slice_get (Tree.word_spelling word.now).outputs n ≡ Some (Tree.script_pattern s.now))
-        (λ k. length (Tree.word_spelling word.now).outputs + k ≡ n) }
+    ensures { MatchResult result (λ s. slice_get (scripts word.now) n ≡ Some s.now)
+        (λ k. length (scripts word.now) + k ≡ n) }
 {
     let mut left = n;
     for piece in &word.pieces {
@@ -35,8 +46,8 @@ fn script_in(word: &Word, n: usize) -> Result<&Script, usize>
 /// The same for one piece.
 #[cycle(script)]
 fn script_of(piece: &WordPiece, n: usize) -> Result<&Script, usize>
-    ensures { MatchResult result (λ s. slice_get (Tree.piece_spelling piece.now).outputs n ≡ Some (Tree.script_pattern s.now))
-        (λ k. length (Tree.piece_spelling piece.now).outputs + k ≡ n) }
+    ensures { MatchResult result (λ s. slice_get (piece_scripts piece.now) n ≡ Some s.now)
+        (λ k. length (piece_scripts piece.now) + k ≡ n) }
 {
     match &piece.what {
         WordWhat::Bytes(_) => Err(n),

@@ -1,0 +1,4 @@
+pub use Rattle.em_glob.specs.Patterns
+pub mod Parts
+pub mod Forms
+pub mod Cuts

@@ -1,0 +1,51 @@
+-- What an expansion gives: bytes, quoted or not, and the places where a quoted text begins, which keep a field that is empty.
+--     marked q text        the bytes of a text, all quoted or none
+--     glyphs, bytes        the bytes with their quoting, and without
+--     fields ps            what stands between unquoted spaces, tabs and newlines, where something does
+--     without_newlines t   the text without the newlines at its end
+use Rattle.std.specs.Prelude.{ℕ, ◌-◌, ◌==◌, ◌&&◌, ◌||◌, nat_lt, Bool, true, false, not, List, [], ◌∷◌, ◌++◌, length, map, take, Option, Some, None}
+use Rattle.std.specs.List.{filter, filter_map, slice_split, suffix_len}
+use Rattle.em_glob.specs.declared.glyph.Glyph.{Glyph}
+use Rattle.em_glob.specs.Patterns.{bytes_of}
+use Rattle.em_fields.specs.declared.part.Part.{Part}
+use Rattle.em_fields.specs.declared.part.Part.TheVariants.{Byte, Quotes}
+
+abbrev pub mark : Bool → List Part
+mark true = Quotes ∷ []
+mark false = []
+
+abbrev pub part_of : Bool → ℕ → Part
+part_of quoted b = Byte (record { byte = b; quoted = quoted })
+
+abbrev pub marked : Bool → List ℕ → List Part
+marked quoted text = mark quoted ++ map (part_of quoted) text
+
+abbrev pub glyph_of : Part → Option Glyph
+glyph_of (Byte g) = Some g
+glyph_of Quotes = None
+
+abbrev pub glyphs : List Part → List Glyph
+glyphs ps = filter_map glyph_of ps
+
+abbrev pub bytes : List Part → List ℕ
+bytes ps = bytes_of (glyphs ps)
+
+-- an unquoted space, tab or newline
+abbrev pub is_space : ℕ → Bool
+is_space b = (b == 32) || ((b == 9) || (b == 10))
+
+abbrev pub is_break : Part → Bool
+is_break (Byte g) = not g.quoted && is_space g.byte
+is_break Quotes = false
+
+abbrev pub filled : List Part → List (List Part)
+filled ps = filter (λ f. nat_lt 0 (length f)) (slice_split is_break ps)
+
+abbrev pub fields : List Part → List (List Glyph)
+fields ps = map glyphs (filled ps)
+
+abbrev pub is_newline : ℕ → Bool
+is_newline b = b == 10
+
+abbrev pub without_newlines : List ℕ → List ℕ
+without_newlines text = take (length text - suffix_len is_newline text) text

@@ -1,0 +1,10 @@
+//! The syntax tree of a recipe line in a subset of the POSIX shell.
+#![tactic(auto)]
+
+mod script;
+mod tree;
+
+pub use tree::{
+    AndOr, Assigned, Branch, Case, Command, Compound, For, If, Item, Joined, Loop, Pipeline,
+    Redirect, RedirectKind, Script, Simple, Value, Word, WordPiece, WordWhat,
+};
