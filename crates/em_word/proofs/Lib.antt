@@ -1,0 +1,7 @@
+mod Planned
+mod Plans
+mod Counting
+mod Holding
+mod Stepping
+mod Landing
+mod Seeing

@@ -1,0 +1,22 @@
+use Rattle.std.proofs.Common.{◌≡◌, ◌∙◌, Bool, true, false, List, ℕ, refl, sym, ap}
+use Rattle.em_word.specs.Held.{plan_of, plan_given, word_of, mode_of, IsCounted, given, waits}
+use Rattle.em_word.specs.declared.expander.Stage.{Stage}
+use Rattle.em_word.specs.declared.expander.Stage.TheVariants.{Ready, Waiting, Given}
+use Rattle.em_word.proofs.expander.Expander.give.Goals as goal
+
+runs_on : (s : Stage) (output : List ℕ) → waits (given s output) ≡ false
+runs_on Ready output = refl
+runs_on (Waiting q) output = refl
+runs_on (Given q _) output = refl
+
+pub returns-clause-plan : goal.returns-clause-plan
+unfolding plan_given plan_of
+returns-clause-plan c = rw c.with_output.ensures refl
+
+pub returns-clause-ready : goal.returns-clause-ready
+unfolding IsCounted
+returns-clause-ready c = record { runs = ap waits c.with_output.ensures ∙ runs_on c.args.self.now.stage c.args.output; counted = c.requires.counted }
+
+pub returns-clause-same : goal.returns-clause-same
+unfolding word_of mode_of
+returns-clause-same c = (refl, refl)

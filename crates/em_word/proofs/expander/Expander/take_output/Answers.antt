@@ -1,0 +1,37 @@
+use Rattle.std.proofs.Common.{◌≡◌, ◌∙◌, ◌⊎◌, inl, inr, Bool, false, true, refl, sym, ap}
+use Rattle.em_word.specs.Held.{plan_of, word_of, mode_of, IsCounted, staged, outside}
+use Rattle.em_word.specs.Talk.{and_then}
+use Rattle.em_word.specs.declared.expander.Expander.{Expander}
+use Rattle.em_word.specs.declared.expander.Stage.{Stage}
+use Rattle.em_word.specs.declared.expander.Stage.TheVariants.{Ready, Waiting}
+use Rattle.em_word.proofs.Stepping.{is_same}
+use Rattle.em_word.proofs.Landing.{given_first}
+use Rattle.em_word.proofs.expander.Expander.take_output.Goals as goal
+
+pub use_output-requires : goal.use_output-requires
+unfolding IsCounted
+use_output-requires g c = record { runs = c.in-Given.ensures.after; counted = c.requires.counted }
+
+pub returns-in-Given-clause-goes : goal.returns-in-Given-clause-goes
+unfolding mode_of
+returns-in-Given-clause-goes g c = rw (given_first c.args.self.now c.in-Given.quoted c.in-Given.output (sym c.in-Given.ensures.value)) (rw c.bytes.ensures at c.use_output.ensures.goes)
+
+pub returns-in-Given-clause-same : goal.returns-in-Given-clause-same
+unfolding word_of mode_of
+returns-in-Given-clause-same g c = c.use_output.ensures.same
+
+-- nothing was handed in
+idle : (e : Expander) (s : Stage) → e.stage ≡ s → (s ≡ Ready) ⊎ ((x : Bool) × (s ≡ Waiting x)) → plan_of e ≡ plan_of (record e { stage = Ready })
+unfolding plan_of
+idle e s is (inl r) = ap (λ t. and_then (staged t e.parts e.rest.now) (outside e.outer)) (is ∙ r)
+idle e s is (inr w) = ap (λ t. and_then (staged t e.parts e.rest.now) (outside e.outer)) (is ∙ w.1)
+
+pub returns-in-Ready : goal.returns-in-Ready
+unfolding word_of mode_of IsCounted
+returns-in-Ready g c = record {
+  goes = record {
+    leads = is_same (idle c.args.self.now c.replace.result (sym c.replace.ensures.value) c.in-Ready.is ∙ ap (λ s. plan_of (record c.args.self.now { stage = s })) (sym c.replace.ensures.after));
+    steady = record { runs = c.replace.ensures.after; counted = c.requires.counted };
+  };
+  same = (refl, refl);
+}

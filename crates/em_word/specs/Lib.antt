@@ -1,0 +1,12 @@
+pub use Rattle.em_glob.specs.Patterns
+pub use Rattle.em_fields.specs.Parts
+pub use Rattle.em_fields.specs.Forms
+pub use Rattle.em_fields.specs.Cuts
+pub use Rattle.em_syntax.specs.Scripts
+pub mod Talk
+pub mod Values
+pub mod Words
+pub mod Ends
+pub mod Turns
+pub mod Held
+pub mod Leads

@@ -1,0 +1,17 @@
+//! The expansion of the shell's words.
+#![tactic(auto)]
+
+mod expander;
+mod fault;
+mod names;
+mod shell;
+mod step;
+mod turn;
+
+pub use expander::Expander;
+pub use fault::WordFault;
+pub use shell::Shell;
+pub use turn::{Mode, WordTurn};
+
+#[cfg(test)]
+mod tests;
