@@ -3,7 +3,7 @@
 --     glyphs, bytes        the bytes with their quoting, and without
 --     fields ps            what stands between unquoted spaces, tabs and newlines, where something does
 --     without_newlines t   the text without the newlines at its end
-use Rattle.std.specs.Prelude.{ℕ, ◌-◌, ◌==◌, ◌&&◌, ◌||◌, nat_lt, Bool, true, false, not, List, [], ◌∷◌, ◌++◌, length, map, take, Option, Some, None}
+use Rattle.std.specs.Prelude.{◌≡◌, ◌<◌, All, ℕ, ◌-◌, ◌==◌, ◌&&◌, ◌||◌, nat_lt, Bool, true, false, not, List, [], ◌∷◌, ◌++◌, length, map, take, Option, Some, None}
 use Rattle.std.specs.List.{filter, filter_map, slice_split, suffix_len}
 use Rattle.em_glob.specs.declared.glyph.Glyph.{Glyph}
 use Rattle.em_glob.specs.Patterns.{bytes_of}
@@ -14,8 +14,11 @@ abbrev pub mark : Bool → List Part
 mark true = Quotes ∷ []
 mark false = []
 
+abbrev pub glyph : Bool → ℕ → Glyph
+glyph quoted b = record { byte = b; quoted = quoted }
+
 abbrev pub part_of : Bool → ℕ → Part
-part_of quoted b = Byte (record { byte = b; quoted = quoted })
+part_of quoted b = Byte (glyph quoted b)
 
 abbrev pub marked : Bool → List ℕ → List Part
 marked quoted text = mark quoted ++ map (part_of quoted) text
@@ -49,3 +52,7 @@ is_newline b = b == 10
 
 abbrev pub without_newlines : List ℕ → List ℕ
 without_newlines text = take (length text - suffix_len is_newline text) text
+
+-- a text that is one field where it isn't quoted
+abbrev pub IsFilled : List ℕ → Type 0
+IsFilled text = (0 < length text) × All (λ b. is_space b ≡ false) text

@@ -3,6 +3,7 @@
 
 mod cut;
 mod form;
+pub mod laws;
 mod part;
 mod split;
 

@@ -3,6 +3,7 @@
 
 mod expander;
 mod fault;
+pub mod laws;
 mod names;
 mod shell;
 mod step;
