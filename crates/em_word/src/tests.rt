@@ -223,10 +223,22 @@ fn values_have_their_forms(rt: HostRuntime) -> Result<(), Fail> {
 #[test]
 fn texts_are_fields_names_or_patterns(rt: HostRuntime) -> Result<(), Fail> {
     let alloc = rt.alloc();
-    let state = trees::state(alloc, "f/a.c f/.c f/b.c")?;
+    let state = trees::state(alloc, "f/a.c f/.c f/b.c d/d f/d/x1")?;
     for (text, quoted, mode, units, wanted) in [
         ("*.c", false, Mode::Fields, 100, "[a.c][b.c] N/|2"),
         ("*.h", false, Mode::Fields, 100, "[*.h] N/|2"),
+        (".*", false, Mode::Fields, 100, "[.c] N/|2"),
+        ("*/", false, Mode::Fields, 100, "[a.c][b.c][d] N/|2"),
+        ("d//x*", false, Mode::Fields, 100, "[d/x1] K/d N/d|3"),
+        ("./*.c", false, Mode::Fields, 100, "[./a.c][./b.c] K/ N/|3"),
+        (
+            "../*.c",
+            false,
+            Mode::Fields,
+            100,
+            "[../a.c][../b.c] K/ N/|3",
+        ),
+        ("..", false, Mode::Fields, 100, "[..]|0"),
         ("*.c", true, Mode::Fields, 100, "[*.c]|0"),
         ("*.c", false, Mode::Whole, 100, "[*.c]|0"),
         ("a b", true, Mode::Fields, 100, "[a b]|0"),
@@ -247,6 +259,78 @@ fn texts_are_fields_names_or_patterns(rt: HostRuntime) -> Result<(), Fail> {
     Ok(())
 }
 
+/// Pieces: `b` and bytes, `q` and quoted ones, `v` the value of `x`, `V` the same quoted.
+fn coded(alloc: Global, codes: &str) -> Result<Word, NoMemory> {
+    let mut pieces = Vec::new(alloc);
+    for code in codes.split(' ') {
+        if let Some(text) = code.strip_prefix('b') {
+            pieces.push(bytes(alloc, false, text)?)?;
+        } else if let Some(text) = code.strip_prefix('q') {
+            pieces.push(bytes(alloc, true, text)?)?;
+        } else {
+            pieces.push(value(alloc, code == "V", "", None)?)?;
+        }
+    }
+    Ok(Word { pieces })
+}
+
+/// Where quotes begin and end within a word.
+#[test]
+fn fields_part_outside_of_quotes(rt: HostRuntime) -> Result<(), Fail> {
+    let alloc = rt.alloc();
+    let state = trees::state(alloc, "")?;
+    for (codes, x, wanted) in [
+        ("ba V bb", Some("c  d"), "[ac  db]|2"),
+        ("ba v qb", Some(" c "), "[a][c][b]|2"),
+        ("q v", Some(" "), "[]|2"),
+        ("v q", Some(" "), "[]|2"),
+        ("q v q", Some(" "), "[][]|2"),
+        ("q q", None, "[]|0"),
+        ("v v", None, "|2"),
+        ("V v", None, "[]|2"),
+    ] {
+        let word = coded(alloc, codes)?;
+        let given = told(alloc, PlainView::new(&state), &word, Mode::Fields, x, 100)?;
+        assert!(rt; given.bytes() == wanted.as_bytes());
+    }
+    Ok(())
+}
+
+fn output(alloc: Global) -> WordPiece {
+    let list = Vec::new(alloc);
+    let what = WordWhat::Output(Script { list });
+    WordPiece {
+        quoted: false,
+        what,
+    }
+}
+
+/// `${x-${x=n}$(c)}$(d)`: an argument has values and outputs, and those of one that isn't expanded are counted.
+#[test]
+fn arguments_are_words(rt: HostRuntime) -> Result<(), Fail> {
+    let alloc = rt.alloc();
+    let state = trees::state(alloc, "")?;
+    let mut inner = Vec::new(alloc);
+    inner.push(value(alloc, false, "=", Some("n"))?)?;
+    inner.push(output(alloc))?;
+    let name = Text::from_slice(alloc, b"x")?;
+    let form = Text::from_slice(alloc, b"-")?;
+    let arg = Some(Word { pieces: inner });
+    let what = WordWhat::Value(Value { name, form, arg });
+    let mut pieces = Vec::new(alloc);
+    pieces.push(WordPiece {
+        quoted: false,
+        what,
+    })?;
+    pieces.push(output(alloc))?;
+    let word = Word { pieces };
+    for (x, wanted) in [(None, "x=n;(0)(1)[nqq]|8"), (Some("v"), "(1)[vq]|4")] {
+        let given = told(alloc, PlainView::new(&state), &word, Mode::Fields, x, 100)?;
+        assert!(rt; given.bytes() == wanted.as_bytes());
+    }
+    Ok(())
+}
+
 /// `a${x=z}$(c)`, with units as they are given.
 #[test]
 fn a_value_is_set_before_an_output_is_asked_for(rt: HostRuntime) -> Result<(), Fail> {
@@ -255,12 +339,7 @@ fn a_value_is_set_before_an_output_is_asked_for(rt: HostRuntime) -> Result<(), F
     let mut pieces = Vec::new(alloc);
     pieces.push(bytes(alloc, false, "a")?)?;
     pieces.push(value(alloc, false, "=", Some("z"))?)?;
-    let list = Vec::new(alloc);
-    let what = WordWhat::Output(Script { list });
-    pieces.push(WordPiece {
-        quoted: false,
-        what,
-    })?;
+    pieces.push(output(alloc))?;
     let word = Word { pieces };
     for (units, wanted) in [
         (100, "x=z;(0)[azq]|4"),
