@@ -1,11 +1,14 @@
 //! What is expected is a text: each turn, then each question as a letter (K kind, N names) and its path, `|` and the units used. A turn is
 //! `name=value;`, `(n)` for an output, the fields in brackets, a pattern with `'` before each quoted byte, or `!` and a fault.
+ghost use Rattle.std.specs.Prelude.{◌≡◌, true, IfOk};
+ghost use Rattle.em_word.specs.Held.{IsReady};
+
 use super::*;
 use em_base::{Fuel, NoMemory, Seq, Text};
 use em_glob::Glyph;
 use em_path::Path;
 use em_syntax::{Script, Value, Word, WordPiece, WordWhat};
-use em_tree::Question;
+use em_tree::{Entry, Question};
 use em_vars::{Flavour, Origin, Var, Vars};
 use em_view::{Desk, PlainView, ScriptView, View};
 use std::alloc::Global;
@@ -18,6 +21,18 @@ fn bytes(alloc: Global, quoted: bool, text: &str) -> Result<WordPiece, NoMemory>
     Ok(WordPiece { quoted, what })
 }
 
+fn argument(alloc: Global, text: Option<&str>) -> Result<Option<Word>, NoMemory> {
+    match text {
+        Some(text) => Ok(Some(one(alloc, bytes(alloc, false, text)?)?)),
+        None => Ok(None),
+    }
+}
+
+fn named(quoted: bool, name: Text, form: Text, arg: Option<Word>) -> WordPiece {
+    let what = WordWhat::Value(Value { name, form, arg });
+    WordPiece { quoted, what }
+}
+
 /// A value of the variable `x`. The argument is one piece, not quoted; `None` is no argument.
 fn value(
     alloc: Global,
@@ -25,14 +40,18 @@ fn value(
     form: &str,
     arg: Option<&str>,
 ) -> Result<WordPiece, NoMemory> {
-    let arg = match arg {
-        Some(text) => Some(one(alloc, bytes(alloc, false, text)?)?),
-        None => None,
-    };
-    let name = Text::from_slice(alloc, b"x")?;
     let form = Text::from_slice(alloc, form.as_bytes())?;
-    let what = WordWhat::Value(Value { name, form, arg });
-    Ok(WordPiece { quoted, what })
+    let name = Text::from_slice(alloc, b"x")?;
+    Ok(named(quoted, name, form, argument(alloc, arg)?))
+}
+
+fn output(alloc: Global) -> WordPiece {
+    let list = Vec::new(alloc);
+    let what = WordWhat::Output(Script { list });
+    WordPiece {
+        quoted: false,
+        what,
+    }
 }
 
 fn one(alloc: Global, piece: WordPiece) -> Result<Word, NoMemory> {
@@ -41,13 +60,17 @@ fn one(alloc: Global, piece: WordPiece) -> Result<Word, NoMemory> {
     Ok(Word { pieces })
 }
 
+/// The word with one piece more.
+fn and(word: Word, piece: WordPiece) -> Result<Word, NoMemory> {
+    let mut word = word;
+    word.pieces.push(piece)?;
+    Ok(word)
+}
+
 /// Between `<` and `>`.
 fn framed(alloc: Global, piece: WordPiece) -> Result<Word, NoMemory> {
-    let mut pieces = Vec::new(alloc);
-    pieces.push(bytes(alloc, false, "<")?)?;
-    pieces.push(piece)?;
-    pieces.push(bytes(alloc, false, ">")?)?;
-    Ok(Word { pieces })
+    let word = and(one(alloc, bytes(alloc, false, "<")?)?, piece)?;
+    and(word, bytes(alloc, false, ">")?)
 }
 
 fn set(alloc: Global, vars: &mut Vars, name: Text, value: &[u8]) -> Result<bool, NoMemory> {
@@ -61,16 +84,22 @@ fn set(alloc: Global, vars: &mut Vars, name: Text, value: &[u8]) -> Result<bool,
     vars.set(name, var)
 }
 
-fn shell(alloc: Global, x: Option<&str>) -> Result<Shell, NoMemory> {
+fn variables(alloc: Global, x: &str) -> Result<Vars, NoMemory> {
     let mut vars = Vars::new(alloc)?;
-    if let Some(value) = x {
-        set(
-            alloc,
-            &mut vars,
-            Text::from_slice(alloc, b"x")?,
-            value.as_bytes(),
-        )?;
-    }
+    set(
+        alloc,
+        &mut vars,
+        Text::from_slice(alloc, b"x")?,
+        x.as_bytes(),
+    )?;
+    Ok(vars)
+}
+
+fn shell(alloc: Global, x: Option<&str>) -> Result<Shell, NoMemory> {
+    let vars = match x {
+        Some(value) => variables(alloc, value)?,
+        None => Vars::new(alloc)?,
+    };
     Ok(Shell {
         vars,
         cwd: Path::root(),
@@ -121,7 +150,68 @@ fn say_question(text: &mut Text, question: &Question) -> Result<(), NoMemory> {
     }
 }
 
-/// Takes the turns of a word; each output is `q` and a newline.
+fn say_set(text: &mut Text, name: &[u8], value: &[u8]) -> Result<(), NoMemory> {
+    text.add(name)?;
+    text.add(b"=")?;
+    text.add(value)?;
+    text.add(b";")
+}
+
+fn say_number(alloc: Global, text: &mut Text, number: usize) -> Result<(), Fail> {
+    text.add(format!(in alloc; "({number})")?.as_bytes())?;
+    Ok(())
+}
+
+/// Sets the variable that a turn names.
+fn assign(
+    alloc: Global,
+    vars: &mut Vars,
+    text: &mut Text,
+    name: Text,
+    value: &[u8],
+) -> Result<(), NoMemory> {
+    say_set(text, name.bytes(), value)?;
+    set(alloc, vars, name, value)?;
+    Ok(())
+}
+
+/// Takes a turn; each output is `q` and a newline. Whether the word goes on.
+fn turn<V: View>(
+    alloc: Global,
+    expander: &mut Expander,
+    shell: &mut Shell,
+    desk: &mut Desk<V>,
+    text: &mut Text,
+) -> Result<bool, Fail>
+    requires { IsReady expander.old }
+    ensures { IfOk result (λ goes. goes ≡ true → IsReady expander.new) }
+{
+    match expander.fields(alloc, shell, desk) {
+        Ok(WordTurn::Done(names)) => {
+            say_names(text, &names)?;
+            Ok(false)
+        }
+        Ok(WordTurn::Pattern(glyphs)) => {
+            say_pattern(text, &glyphs)?;
+            Ok(false)
+        }
+        Ok(WordTurn::Set(name, value)) => {
+            assign(alloc, &mut shell.vars, text, name, value.bytes())?;
+            Ok(true)
+        }
+        Ok(WordTurn::Output(number)) => {
+            say_number(alloc, text, number)?;
+            expander.give(Text::from_slice(alloc, b"q\n")?);
+            Ok(true)
+        }
+        Err(fault) => {
+            say_fault(text, &fault)?;
+            Ok(false)
+        }
+    }
+}
+
+/// Takes the turns of a word.
 fn turns<V: View>(
     alloc: Global,
     word: &Word,
@@ -132,24 +222,18 @@ fn turns<V: View>(
 ) -> Result<(), Fail> {
     let mut expander = Expander::new(alloc, word, mode)?;
     for _ in 0..9 {
-        match expander.fields(alloc, shell, desk) {
-            Ok(WordTurn::Done(names)) => return Ok(say_names(text, &names)?),
-            Ok(WordTurn::Pattern(glyphs)) => return Ok(say_pattern(text, &glyphs)?),
-            Ok(WordTurn::Set(name, value)) => {
-                text.add(name.bytes())?;
-                text.add(b"=")?;
-                text.add(value.bytes())?;
-                text.add(b";")?;
-                set(alloc, &mut shell.vars, name, value.bytes())?;
-            }
-            Ok(WordTurn::Output(number)) => {
-                text.add(format!(in alloc; "({number})")?.as_bytes())?;
-                expander.give(Text::from_slice(alloc, b"q\n")?);
-            }
-            Err(fault) => return Ok(say_fault(text, &fault)?),
+        if !turn(alloc, &mut expander, shell, desk, text)? {
+            return Ok(());
         }
     }
     Ok(())
+}
+
+fn say_usage(text: &mut Text, usage: &[Entry]) -> Result<(), NoMemory> {
+    for entry in usage {
+        say_question(text, &entry.question)?;
+    }
+    text.add(b"|")
 }
 
 fn told<V: View>(
@@ -160,15 +244,13 @@ fn told<V: View>(
     x: Option<&str>,
     units: u64,
 ) -> Result<Text, Fail> {
-    let mut desk = Desk::new(alloc, view, 1, 0, Fuel::new(units.min(100)));
     let mut shell = shell(alloc, x)?;
+    let mut desk = Desk::new(alloc, view, 1, 0, Fuel::new(units.min(100)));
     let mut text = Text::new(alloc);
     turns(alloc, word, mode, &mut shell, &mut desk, &mut text)?;
     let (usage, _, used) = desk.close();
-    for entry in &usage {
-        say_question(&mut text, &entry.question)?;
-    }
-    text.add(format!(in alloc; "|{used}")?.as_bytes())?;
+    say_usage(&mut text, &usage)?;
+    text.add(format!(in alloc; "{used}")?.as_bytes())?;
     Ok(text)
 }
 
@@ -259,17 +341,21 @@ fn texts_are_fields_names_or_patterns(rt: HostRuntime) -> Result<(), Fail> {
     Ok(())
 }
 
-/// Pieces: `b` and bytes, `q` and quoted ones, `v` the value of `x`, `V` the same quoted.
+/// A piece: `b` and bytes, `q` and quoted ones, `v` the value of `x`, `V` the same quoted.
+fn piece(alloc: Global, code: &str) -> Result<WordPiece, NoMemory> {
+    if let Some(text) = code.strip_prefix('b') {
+        return bytes(alloc, false, text);
+    }
+    if let Some(text) = code.strip_prefix('q') {
+        return bytes(alloc, true, text);
+    }
+    value(alloc, code == "V", "", None)
+}
+
 fn coded(alloc: Global, codes: &str) -> Result<Word, NoMemory> {
     let mut pieces = Vec::new(alloc);
     for code in codes.split(' ') {
-        if let Some(text) = code.strip_prefix('b') {
-            pieces.push(bytes(alloc, false, text)?)?;
-        } else if let Some(text) = code.strip_prefix('q') {
-            pieces.push(bytes(alloc, true, text)?)?;
-        } else {
-            pieces.push(value(alloc, code == "V", "", None)?)?;
-        }
+        pieces.push(piece(alloc, code)?)?;
     }
     Ok(Word { pieces })
 }
@@ -296,34 +382,26 @@ fn fields_part_outside_of_quotes(rt: HostRuntime) -> Result<(), Fail> {
     Ok(())
 }
 
-fn output(alloc: Global) -> WordPiece {
-    let list = Vec::new(alloc);
-    let what = WordWhat::Output(Script { list });
-    WordPiece {
-        quoted: false,
-        what,
-    }
+/// `${x-${x=n}$(c)}$(d)`
+fn nested(alloc: Global) -> Result<Word, NoMemory> {
+    let name = Text::from_slice(alloc, b"x")?;
+    let form = Text::from_slice(alloc, b"-")?;
+    let arg = and(
+        one(alloc, value(alloc, false, "=", Some("n"))?)?,
+        output(alloc),
+    )?;
+    and(
+        one(alloc, named(false, name, form, Some(arg)))?,
+        output(alloc),
+    )
 }
 
-/// `${x-${x=n}$(c)}$(d)`: an argument has values and outputs, and those of one that isn't expanded are counted.
+/// An argument has values and outputs, and those of one that isn't expanded are counted.
 #[test]
 fn arguments_are_words(rt: HostRuntime) -> Result<(), Fail> {
     let alloc = rt.alloc();
     let state = trees::state(alloc, "")?;
-    let mut inner = Vec::new(alloc);
-    inner.push(value(alloc, false, "=", Some("n"))?)?;
-    inner.push(output(alloc))?;
-    let name = Text::from_slice(alloc, b"x")?;
-    let form = Text::from_slice(alloc, b"-")?;
-    let arg = Some(Word { pieces: inner });
-    let what = WordWhat::Value(Value { name, form, arg });
-    let mut pieces = Vec::new(alloc);
-    pieces.push(WordPiece {
-        quoted: false,
-        what,
-    })?;
-    pieces.push(output(alloc))?;
-    let word = Word { pieces };
+    let word = nested(alloc)?;
     for (x, wanted) in [(None, "x=n;(0)(1)[nqq]|8"), (Some("v"), "(1)[vq]|4")] {
         let given = told(alloc, PlainView::new(&state), &word, Mode::Fields, x, 100)?;
         assert!(rt; given.bytes() == wanted.as_bytes());
@@ -336,11 +414,11 @@ fn arguments_are_words(rt: HostRuntime) -> Result<(), Fail> {
 fn a_value_is_set_before_an_output_is_asked_for(rt: HostRuntime) -> Result<(), Fail> {
     let alloc = rt.alloc();
     let state = trees::state(alloc, "")?;
-    let mut pieces = Vec::new(alloc);
-    pieces.push(bytes(alloc, false, "a")?)?;
-    pieces.push(value(alloc, false, "=", Some("z"))?)?;
-    pieces.push(output(alloc))?;
-    let word = Word { pieces };
+    let word = one(alloc, bytes(alloc, false, "a")?)?;
+    let word = and(
+        and(word, value(alloc, false, "=", Some("z"))?)?,
+        output(alloc),
+    )?;
     for (units, wanted) in [
         (100, "x=z;(0)[azq]|4"),
         (4, "x=z;(0)[azq]|4"),
