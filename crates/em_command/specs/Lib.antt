@@ -1,0 +1,10 @@
+pub use Rattle.em_word.specs.Talk
+pub use Rattle.em_word.specs.Turns
+pub use Rattle.em_utility.specs.Operands
+pub mod Jumps
+pub mod Heres
+pub mod Builtins
+pub mod Commands
+pub mod Streams
+pub mod Delivering
+pub mod Acting

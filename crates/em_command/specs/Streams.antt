@@ -1,0 +1,137 @@
+-- Where the streams of a command go, as its redirections say.
+--     around                       where they go without a redirection
+--     connect cwd fd kind word s   what a redirection asks and does, and where the streams go behind it
+--     redirected ..                the same; where it fails, why is written, and there are no streams
+-- `/dev/null` is empty and swallows; nothing is asked for it.
+use Rattle.std.specs.Prelude.{ℕ, ◌==◌, Bool, true, List, [], ◌∷◌, ◌++◌, length, codes, Option, Some, None, Result, Ok, Err, if◌then◌else◌}
+use Rattle.std.specs.Str.{bytes_eq}
+use Rattle.em_base.specs.declared.construct.Construct.TheVariants.{Descriptor}
+use Rattle.em_tree.specs.declared.node.Kind.{Kind}
+use Rattle.em_tree.specs.declared.node.Kind.TheVariants as kind
+use Rattle.em_view.specs.declared.no.FileNo.TheVariants as file
+use Rattle.em_view.specs.declared.done.ExecNo.TheVariants.{Refused}
+use Rattle.em_view.specs.Actions.{Action, ◌>>=◌, done, fail, Workspace}
+use Rattle.em_view.specs.Rows.{kind_at, put}
+use Rattle.em_utility.specs.declared.reason.Reason.TheVariants as reason
+use Rattle.em_utility.specs.declared.operand.OperandNo.{OperandNo}
+use Rattle.em_utility.specs.declared.operand.OperandNo.TheVariants as operand
+use Rattle.em_utility.specs.Operands.{gives, located, named, read}
+use Rattle.em_syntax.specs.declared.tree.RedirectKind.{RedirectKind}
+use Rattle.em_syntax.specs.declared.tree.RedirectKind.TheVariants.{Write, Append, Read, Duplicate}
+use Rattle.em_command.specs.declared.jump.Jump.{Jump}
+use Rattle.em_command.specs.declared.jump.Jump.TheVariants.{End}
+use Rattle.em_command.specs.declared.here.Here.{Here}
+use Rattle.em_command.specs.declared.streams.Sink.{Sink}
+use Rattle.em_command.specs.declared.streams.Sink.TheVariants.{Output, Errors, Nowhere, File}
+use Rattle.em_command.specs.declared.streams.Opened.{Opened}
+use Rattle.em_command.specs.declared.streams.Source.{Source}
+use Rattle.em_command.specs.declared.streams.Source.TheVariants.{Null, Writes, Holds}
+use Rattle.em_command.specs.declared.streams.Streams.{Streams}
+use Rattle.em_command.specs.Jumps.{Acts}
+use Rattle.em_command.specs.Heres.{complain}
+
+abbrev pub around : Streams
+around = record { output = Output; errors = Errors; input = None; files = [] }
+
+-- ---- what stands at the path
+
+-- `>`: an empty file
+unfoldable pub emptied : List ℕ → List ℕ → Action OperandNo Source
+emptied word p = do
+  u ← named word (put p [])
+  done (Writes p)
+
+-- `>>`: an empty file where nothing is there
+abbrev pub added_by : List ℕ → List ℕ → Kind → Action OperandNo Source
+added_by word p kind.Absent = emptied word p
+added_by word p kind.File = done (Writes p)
+added_by word p kind.Dir = fail (operand.Fault word (reason.File file.IsDir))
+
+unfoldable pub added : List ℕ → List ℕ → Action OperandNo Source
+added word p = do
+  k ← named word (kind_at p)
+  added_by word p k
+
+-- `<`: what a utility reads of an operand
+unfoldable pub held : List ℕ → List ℕ → Action OperandNo Source
+held cwd word = do
+  bytes ← read cwd word
+  done (Holds bytes)
+
+abbrev pub open_file : List ℕ → RedirectKind → List ℕ → List ℕ → Action OperandNo Source
+open_file cwd Write word p = emptied word p
+open_file cwd Append word p = added word p
+open_file cwd Read word p = held cwd word
+open_file cwd Duplicate word p = done Null
+
+abbrev pub is_null : List ℕ → Bool
+is_null p = bytes_eq p (codes "/dev/null")
+
+abbrev pub open_at : List ℕ → RedirectKind → List ℕ → List ℕ → Action OperandNo Source
+open_at cwd k word p = if is_null p then done Null else open_file cwd k word p
+
+unfoldable pub source_of : List ℕ → RedirectKind → List ℕ → Action OperandNo Source
+source_of cwd k word = do
+  p ← gives (located cwd word)
+  open_at cwd k word p
+
+-- ---- where a stream goes
+
+-- what is read: a file that is written is empty
+abbrev pub content_of : Source → List ℕ
+content_of (Holds bytes) = bytes
+content_of _ = []
+
+-- a file that is read swallows
+abbrev pub sink_for : Source → Streams → Sink
+sink_for (Writes p) s = File (length s.files)
+sink_for _ s = Nowhere
+
+abbrev pub files_with : List ℕ → Source → List Opened → List Opened
+files_with word (Writes p) fs = fs ++ record { word = word; path = p } ∷ []
+files_with word _ fs = fs
+
+abbrev pub attached : ℕ → List ℕ → Source → Streams → Streams
+attached fd word source s =
+    if fd == 0 then record s { input = Some (content_of source) }
+    else if fd == 1 then record s { output = sink_for source s; files = files_with word source s.files }
+    else record s { errors = sink_for source s; files = files_with word source s.files }
+
+-- ---- `>&`
+
+abbrev pub refused : {A : Type 0} → Action OperandNo A
+refused = fail (operand.End (Refused Descriptor))
+
+abbrev pub duplicate_to : ℕ → Sink → Streams → Action OperandNo Streams
+duplicate_to fd sink s =
+    if fd == 1 then done (record s { output = sink })
+    else if fd == 2 then done (record s { errors = sink })
+    else refused
+
+abbrev pub duplicated : ℕ → List ℕ → Streams → Action OperandNo Streams
+duplicated fd word s =
+    if bytes_eq word (codes "1") then duplicate_to fd s.output s
+    else if bytes_eq word (codes "2") then duplicate_to fd s.errors s
+    else refused
+
+-- ---- a redirection
+
+unfoldable pub opened : List ℕ → ℕ → RedirectKind → List ℕ → Streams → Action OperandNo Streams
+opened cwd fd k word s = do
+  source ← source_of cwd k word
+  done (attached fd word source s)
+
+abbrev pub is_standard : ℕ → Bool
+is_standard fd = if fd == 0 then true else if fd == 1 then true else fd == 2
+
+abbrev pub connect : List ℕ → ℕ → RedirectKind → List ℕ → Streams → Action OperandNo Streams
+connect cwd fd Duplicate word s = duplicated fd word s
+connect cwd fd k word s = if is_standard fd then opened cwd fd k word s else refused
+
+abbrev pub shown : Here → Result Streams OperandNo → Result (Option Streams × Here) (Jump × Here)
+shown h (Ok s) = Ok (Some s, h)
+shown h (Err (operand.Fault word r)) = Ok (None, complain word r h)
+shown h (Err (operand.End e)) = Err (End e, h)
+
+unfoldable pub redirected : ℕ → RedirectKind → List ℕ → Streams → Acts (Option Streams)
+redirected fd k word s = λ h o w. (shown h (connect h.shell.cwd fd k word s o w).0, (connect h.shell.cwd fd k word s o w).1)

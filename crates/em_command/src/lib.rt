@@ -1,0 +1,13 @@
+//! A simple command of the shell, once its words are known: the built-ins, the utilities by their names, redirections, and where
+//! what is written goes.
+#![tactic(auto)]
+
+mod builtin;
+mod here;
+mod jump;
+mod streams;
+
+pub use here::{Here, Scene};
+pub use jump::{Flow, Jump};
+pub use streams::{Opened, Sink, Streams};
+
