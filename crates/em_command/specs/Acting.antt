@@ -1,15 +1,13 @@
 -- What a simple command does once its words and redirections are known.
 --     perform words streams input in_loop
 -- The first word is its name. The blocks of what it wrote are taken before anything goes where it is written to.
-use Rattle.std.specs.Prelude.{ℕ, ◌+◌, Bool, List, [], ◌∷◌, length, Option, Some, None, Result, Ok, Err}
+use Rattle.std.specs.Prelude.{ℕ, ◌+◌, Bool, List, [], ◌∷◌, length, Result, Ok, Err}
 use Rattle.em_view.specs.declared.done.Piece.{Piece}
-use Rattle.em_view.specs.declared.done.ExecNo.{ExecNo}
 use Rattle.em_view.specs.Actions.{spend}
 use Rattle.em_view.specs.Rows.{blocks}
 use Rattle.em_view.specs.Steps.{done, refuse, below, within}
 use Rattle.em_view.specs.Do.{◌>>=◌}
 use Rattle.em_word.specs.declared.shell.Shell.{Shell}
-use Rattle.em_command.specs.declared.jump.Flow.{Flow}
 use Rattle.em_command.specs.declared.jump.Jump.{Jump}
 use Rattle.em_command.specs.declared.jump.Jump.TheVariants.{End}
 use Rattle.em_command.specs.declared.here.Here.{Here}
@@ -17,6 +15,7 @@ use Rattle.em_command.specs.declared.builtin.Ran.{Ran}
 use Rattle.em_command.specs.declared.streams.Streams.{Streams}
 use Rattle.em_command.specs.Jumps.{Acts, of_desk, jump_of}
 use Rattle.em_command.specs.Commands.{run_command}
+use Rattle.em_command.specs.Streams.{input_of}
 use Rattle.em_command.specs.Delivering.{delivered}
 
 abbrev pub total : List Piece → ℕ
@@ -25,14 +24,6 @@ total (p ∷ ps) = length p.text + total ps
 
 abbrev pub with_shell : Here → Shell → Here
 with_shell h s = record h { shell = s }
-
-abbrev pub or_else : Option (List ℕ) → List ℕ → List ℕ
-or_else None input = input
-or_else (Some bytes) input = bytes
-
--- what is read: what a redirection gives, or what is read around
-abbrev pub input_of : Streams → List ℕ → List ℕ
-input_of s input = or_else s.input input
 
 abbrev pub jumped : Result (Unit {0}) Jump → Acts (Unit {0})
 jumped (Ok u) = done tt

@@ -2,8 +2,7 @@
 --     builtin_of name            the built-in of this name
 --     asked b in_loop words      what it does to the shell and answers
 --     builtin b in_loop words    the same, with the line of its fault written
-use Rattle.std.specs.Prelude.{ℕ, ◌==◌, Bool, true, false, not, List, [], ◌∷◌, ◌++◌, codes, drop, Option, Some, None, Result, Ok, Err, if◌then◌else◌}
-use Rattle.std.specs.List.{take_while, drop_while}
+use Rattle.std.specs.Prelude.{ℕ, ◌==◌, ◌+◌, Bool, true, List, [], ◌∷◌, ◌++◌, codes, take, drop, position, Option, Some, None, Result, Ok, Err, if◌then◌else◌}
 use Rattle.std.specs.Str.{bytes_eq}
 use Rattle.em_base.specs.Numbers.{number_of}
 use Rattle.em_tree.specs.declared.node.Kind.{Kind}
@@ -60,6 +59,14 @@ name_of Continue = codes "continue"
 abbrev pub Asked : Type 0
 Asked = Steps Shell OperandNo Answer
 
+-- the same of one that asks nothing
+abbrev pub Sets : Type 0
+Sets = Shell → Result (Answer × Shell) (OperandNo × Shell)
+
+-- the same of one that changes nothing either
+abbrev pub says : (Shell → Result Answer OperandNo) → Asked
+says f = own (λ s. with_state (f s) s)
+
 abbrev pub answer : ℕ → List ℕ → Flow → Answer
 answer status text f = record { status = status; text = text; flow = f }
 
@@ -67,8 +74,8 @@ abbrev pub well : Answer
 well = answer 0 [] flow.On
 
 -- it has too few operands or too many
-abbrev pub wrong : Reason → Asked
-wrong r = refuse (operand.Fault [] r)
+abbrev pub wrong : Reason → OperandNo
+wrong r = operand.Fault [] r
 
 -- ---- cd, pwd
 
@@ -90,7 +97,7 @@ directory cwd name = action.◌>>=◌ (gives (located cwd name)) (directory_at n
 abbrev pub itself : OperandNo → OperandNo
 itself e = e
 
-abbrev pub moved : List ℕ → Shell → Result (Answer × Shell) (OperandNo × Shell)
+abbrev pub moved : List ℕ → Sets
 moved p s = Ok (well, record s { cwd = p })
 
 unfoldable pub change_directory : List ℕ → List ℕ → Asked
@@ -99,17 +106,13 @@ change_directory cwd name = do
   own (moved p)
 
 abbrev pub cd : List (List ℕ) → Asked
-cd [] = wrong reason.MissingOperand
+cd [] = refuse (wrong reason.MissingOperand)
 cd (d ∷ []) = λ s. change_directory s.cwd d s
-cd (d ∷ e ∷ es) = wrong reason.ExtraOperand
+cd (d ∷ e ∷ es) = refuse (wrong reason.ExtraOperand)
 
--- without operands alone
-abbrev pub alone : Asked → List (List ℕ) → Asked
-alone m [] = m
-alone m (o ∷ os) = wrong reason.ExtraOperand
-
-abbrev pub directory_shown : Shell → Result (Answer × Shell) (OperandNo × Shell)
-directory_shown s = Ok (answer 0 (s.cwd ++ 10 ∷ []) flow.On, s)
+abbrev pub pwd : List ℕ → List (List ℕ) → Result Answer OperandNo
+pwd cwd [] = Ok (answer 0 (cwd ++ 10 ∷ []) flow.On)
+pwd cwd (o ∷ os) = Err (wrong reason.ExtraOperand)
 
 -- ---- exit, break, continue
 
@@ -118,34 +121,29 @@ abbrev pub exit_by : List ℕ → Option ℕ → Result Answer OperandNo
 exit_by word (Some n) = Ok (answer n [] flow.Exit)
 exit_by word None = Err (operand.Fault word reason.NotANumber)
 
-abbrev pub exit_answer : ℕ → List (List ℕ) → Result Answer OperandNo
-exit_answer last [] = Ok (answer last [] flow.Exit)
-exit_answer last (n ∷ []) = exit_by n (number_of 255 n)
-exit_answer last (n ∷ o ∷ os) = Err (operand.Fault [] reason.ExtraOperand)
-
-abbrev pub exit : List (List ℕ) → Asked
-exit os = own (λ s. with_state (exit_answer s.status os) s)
+abbrev pub exit : ℕ → List (List ℕ) → Result Answer OperandNo
+exit last [] = Ok (answer last [] flow.Exit)
+exit last (n ∷ []) = exit_by n (number_of 255 n)
+exit last (n ∷ o ∷ os) = Err (wrong reason.ExtraOperand)
 
 -- outside a loop it does nothing
-abbrev pub leaves : Bool → Flow → Asked
-leaves in_loop f = done (answer 0 [] (if in_loop then f else flow.On))
+abbrev pub leave : Bool → Flow → List (List ℕ) → Result Answer OperandNo
+leave in_loop f [] = Ok (answer 0 [] (if in_loop then f else flow.On))
+leave in_loop f (o ∷ os) = Err (wrong reason.ExtraOperand)
 
 -- ---- export, unset
-
-abbrev pub isnt_equals : ℕ → Bool
-isnt_equals b = not (b == 61)
 
 abbrev pub mark : List ℕ → Option Var → Shell → Shell
 mark name None s = s
 mark name (Some v) s = with_text name v.text true s
 
--- what stands behind the name: nothing, or `=` and the value
-abbrev pub export_as : List ℕ → List ℕ → Shell → Shell
-export_as name [] s = mark name (value_of s.vars name) s
-export_as name (equals ∷ value) s = with_text name value true s
+-- a name, or one with a value behind its first `=`
+abbrev pub export_at : List ℕ → Option ℕ → Shell → Shell
+export_at word None s = mark word (value_of s.vars word) s
+export_at word (Some n) s = with_text (take n word) (drop (n + 1) word) true s
 
 abbrev pub export_one : List ℕ → Shell → Shell
-export_one word s = export_as (take_while isnt_equals word) (drop_while isnt_equals word) s
+export_one word s = export_at word (position (λ b. b == 61) word) s
 
 abbrev pub unset_one : List ℕ → Shell → Shell
 unset_one name s = record s { vars = without s.vars name }
@@ -154,24 +152,21 @@ abbrev pub each : (List ℕ → Shell → Shell) → List (List ℕ) → Shell �
 each change [] s = s
 each change (o ∷ os) s = each change os (change o s)
 
-abbrev pub changed : (List ℕ → Shell → Shell) → List (List ℕ) → Shell → Result (Answer × Shell) (OperandNo × Shell)
-changed change os s = Ok (well, each change os s)
-
 -- one operand at least
-abbrev pub some : Asked → List (List ℕ) → Asked
-some m [] = wrong reason.MissingOperand
-some m (o ∷ os) = m
+abbrev pub each_of_some : (List ℕ → Shell → Shell) → List (List ℕ) → Sets
+each_of_some change [] s = Err (wrong reason.MissingOperand, s)
+each_of_some change (o ∷ os) s = Ok (well, each change (o ∷ os) s)
 
 -- ---- all of them
 
 abbrev pub asked_of : Builtin → Bool → List (List ℕ) → Asked
 asked_of Cd in_loop os = cd os
-asked_of Pwd in_loop os = alone (own directory_shown) os
-asked_of Exit in_loop os = exit os
-asked_of Export in_loop os = some (own (changed export_one os)) os
-asked_of Unset in_loop os = some (own (changed unset_one os)) os
-asked_of Break in_loop os = alone (leaves in_loop flow.Break) os
-asked_of Continue in_loop os = alone (leaves in_loop flow.Continue) os
+asked_of Pwd in_loop os = says (λ s. pwd s.cwd os)
+asked_of Exit in_loop os = says (λ s. exit s.status os)
+asked_of Export in_loop os = own (each_of_some export_one os)
+asked_of Unset in_loop os = own (each_of_some unset_one os)
+asked_of Break in_loop os = says (λ s. leave in_loop flow.Break os)
+asked_of Continue in_loop os = says (λ s. leave in_loop flow.Continue os)
 
 -- no built-in has an option's letter
 abbrev pub with_options : Builtin → Bool → List (List ℕ) → Result Options ExecNo → Asked

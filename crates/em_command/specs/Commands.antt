@@ -2,7 +2,7 @@
 --     refused_as name                the construct under which a command of this name is refused
 --     run words input in_loop        what it leaves; the first word is its name
 --     run_command ..                 the same, and its status is the shell's
-use Rattle.std.specs.Prelude.{ℕ, ◌||◌, Bool, List, [], ◌∷◌, codes, Option, Some, None, Result, Ok, Err, if◌then◌else◌}
+use Rattle.std.specs.Prelude.{ℕ, ◌||◌, Bool, List, [], ◌∷◌, codes, drop, Option, Some, None, Result, Ok, Err, if◌then◌else◌}
 use Rattle.std.specs.List.{list_any}
 use Rattle.std.specs.Str.{bytes_eq}
 use Rattle.em_base.specs.declared.construct.Construct.{Construct}
@@ -46,7 +46,7 @@ or_unknown name (Some d) = action.done (plain d)
 or_unknown name None = action.done (plain (not_found name))
 
 unfoldable pub text_utility : List ℕ → List (List ℕ) → List ℕ → List ℕ → Action ExecNo Ran
-text_utility name words input cwd = action.◌>>=◌ (texts.utility (name ∷ words) input cwd) (or_unknown name)
+text_utility name words input cwd = action.◌>>=◌ (texts.utility words input cwd) (or_unknown name)
 
 abbrev pub or_text : List ℕ → List (List ℕ) → List ℕ → List ℕ → Option Done → Action ExecNo Ran
 or_text name words input cwd (Some d) = action.done (plain d)
@@ -54,23 +54,24 @@ or_text name words input cwd None = text_utility name words input cwd
 
 -- the utility of this name, if there is one
 unfoldable pub utility : List ℕ → List (List ℕ) → List ℕ → List ℕ → Action ExecNo Ran
-utility name words input cwd = action.◌>>=◌ (files.utility (name ∷ words) cwd) (or_text name words input cwd)
+utility name words input cwd = action.◌>>=◌ (files.utility words cwd) (or_text name words input cwd)
 
 abbrev pub itself : ExecNo → ExecNo
 itself e = e
 
+-- in these the words begin with the name
 abbrev pub by_builtin : Option Builtin → List ℕ → List (List ℕ) → List ℕ → Bool → Steps Shell ExecNo Ran
-by_builtin (Some b) name words input in_loop = builtin b in_loop words
+by_builtin (Some b) name words input in_loop = builtin b in_loop (drop 1 words)
 by_builtin None name words input in_loop = λ s. below itself (utility name words input s.cwd) s
 
 abbrev pub by_refusal : Option Construct → List ℕ → List (List ℕ) → List ℕ → Bool → Steps Shell ExecNo Ran
 by_refusal (Some c) name words input in_loop = refuse (Refused c)
 by_refusal None name words input in_loop = by_builtin (builtin_of name) name words input in_loop
 
--- words that begin with the command's name; without words nothing is done
+-- without words nothing is done
 unfoldable pub run : List (List ℕ) → List ℕ → Bool → Steps Shell ExecNo Ran
 run [] input in_loop = done (plain nothing)
-run (name ∷ words) input in_loop = by_refusal (refused_as name) name words input in_loop
+run (name ∷ words) input in_loop = by_refusal (refused_as name) name (name ∷ words) input in_loop
 
 abbrev pub ended : Ran → Shell → Result (Ran × Shell) (ExecNo × Shell)
 ended r s = Ok (r, record s { status = r.done.status })

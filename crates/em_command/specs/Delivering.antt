@@ -71,13 +71,13 @@ append f [] = action.done tt
 append f (b ∷ bs) = append_some f.word f.path (b ∷ bs)
 
 -- a refusal is written as that of a redirection that fails
-abbrev pub told : Here → Result (Unit {0}) OperandNo → Result (Unit {0} × Here) (Jump × Here)
-told h (Ok u) = Ok (tt, h)
-told h (Err (operand.Fault word r)) = Ok (tt, complain word r h)
-told h (Err (operand.End e)) = Err (End e, h)
+abbrev pub told : Result (Unit {0}) OperandNo → Does (Unit {0})
+told (Ok u) h = Ok (tt, h)
+told (Err (operand.Fault word r)) h = Ok (tt, complain word r h)
+told (Err (operand.End e)) h = Err (End e, h)
 
 unfoldable pub appended : Opened → List ℕ → Acts (Unit {0})
-appended f text = λ h o w. (told h (append f text o w).0, (append f text o w).1)
+appended f text = λ h o w. (told (append f text o w).0 h, (append f text o w).1)
 
 abbrev pub append_each : List Opened → List (List ℕ) → Acts (Unit {0})
 append_each [] ts = done tt

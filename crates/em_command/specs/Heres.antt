@@ -97,8 +97,11 @@ assigned name text h = Ok (tt, record h { shell = set_text name text h.shell })
 -- ---- faults of words
 
 -- an unset name in `${name?word}` writes its line, and ends the shell with status 1
+abbrev pub failed : List ℕ → Here → Jump × Here
+failed line h = (Exit, with_status 1 (written (piece 2 line ∷ []) h))
+
 abbrev pub faulted : WordFault → Here → Jump × Here
-faulted (fault.Unset text) h = (Exit, with_status 1 (written (piece 2 text ∷ []) h))
+faulted (fault.Unset line) h = failed line h
 faulted (fault.Refused c) h = (End (exec.Refused c), h)
 faulted fault.Spent h = (End exec.Spent, h)
 faulted fault.NoMemory h = (End exec.NoMemory, h)

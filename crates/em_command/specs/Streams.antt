@@ -3,7 +3,7 @@
 --     connect cwd fd kind word s   what a redirection asks and does, and where the streams go behind it
 --     redirected ..                the same; where it fails, why is written, and there are no streams
 -- `/dev/null` is empty and swallows; nothing is asked for it.
-use Rattle.std.specs.Prelude.{ℕ, ◌==◌, Bool, true, List, [], ◌∷◌, ◌++◌, length, codes, Option, Some, None, Result, Ok, Err, if◌then◌else◌}
+use Rattle.std.specs.Prelude.{ℕ, ◌==◌, nat_lt, Bool, List, [], ◌∷◌, ◌++◌, length, codes, Option, Some, None, Result, Ok, Err, if◌then◌else◌}
 use Rattle.std.specs.Str.{bytes_eq}
 use Rattle.em_base.specs.declared.construct.Construct.TheVariants.{Descriptor}
 use Rattle.em_tree.specs.declared.node.Kind.{Kind}
@@ -27,11 +27,19 @@ use Rattle.em_command.specs.declared.streams.Opened.{Opened}
 use Rattle.em_command.specs.declared.streams.Source.{Source}
 use Rattle.em_command.specs.declared.streams.Source.TheVariants.{Null, Writes, Holds}
 use Rattle.em_command.specs.declared.streams.Streams.{Streams}
-use Rattle.em_command.specs.Jumps.{Acts}
+use Rattle.em_command.specs.Jumps.{Acts, Does}
 use Rattle.em_command.specs.Heres.{complain}
 
 abbrev pub around : Streams
 around = record { output = Output; errors = Errors; input = None; files = [] }
+
+abbrev pub or_else : Option (List ℕ) → List ℕ → List ℕ
+or_else None input = input
+or_else (Some bytes) input = bytes
+
+-- what is read: what a redirection gives, or what is read around
+abbrev pub input_of : Streams → List ℕ → List ℕ
+input_of s input = or_else s.input input
 
 -- ---- what stands at the path
 
@@ -83,9 +91,9 @@ content_of (Holds bytes) = bytes
 content_of _ = []
 
 -- a file that is read swallows
-abbrev pub sink_for : Source → Streams → Sink
-sink_for (Writes p) s = File (length s.files)
-sink_for _ s = Nowhere
+abbrev pub sink_for : Source → List Opened → Sink
+sink_for (Writes p) fs = File (length fs)
+sink_for _ fs = Nowhere
 
 abbrev pub files_with : List ℕ → Source → List Opened → List Opened
 files_with word (Writes p) fs = fs ++ record { word = word; path = p } ∷ []
@@ -94,21 +102,21 @@ files_with word _ fs = fs
 abbrev pub attached : ℕ → List ℕ → Source → Streams → Streams
 attached fd word source s =
     if fd == 0 then record s { input = Some (content_of source) }
-    else if fd == 1 then record s { output = sink_for source s; files = files_with word source s.files }
-    else record s { errors = sink_for source s; files = files_with word source s.files }
+    else if fd == 1 then record s { output = sink_for source s.files; files = files_with word source s.files }
+    else record s { errors = sink_for source s.files; files = files_with word source s.files }
 
 -- ---- `>&`
 
-abbrev pub refused : {A : Type 0} → Action OperandNo A
-refused = fail (operand.End (Refused Descriptor))
+abbrev pub refused : Result Streams OperandNo
+refused = Err (operand.End (Refused Descriptor))
 
-abbrev pub duplicate_to : ℕ → Sink → Streams → Action OperandNo Streams
+abbrev pub duplicate_to : ℕ → Sink → Streams → Result Streams OperandNo
 duplicate_to fd sink s =
-    if fd == 1 then done (record s { output = sink })
-    else if fd == 2 then done (record s { errors = sink })
+    if fd == 1 then Ok (record s { output = sink })
+    else if fd == 2 then Ok (record s { errors = sink })
     else refused
 
-abbrev pub duplicated : ℕ → List ℕ → Streams → Action OperandNo Streams
+abbrev pub duplicated : ℕ → List ℕ → Streams → Result Streams OperandNo
 duplicated fd word s =
     if bytes_eq word (codes "1") then duplicate_to fd s.output s
     else if bytes_eq word (codes "2") then duplicate_to fd s.errors s
@@ -121,17 +129,14 @@ opened cwd fd k word s = do
   source ← source_of cwd k word
   done (attached fd word source s)
 
-abbrev pub is_standard : ℕ → Bool
-is_standard fd = if fd == 0 then true else if fd == 1 then true else fd == 2
-
 abbrev pub connect : List ℕ → ℕ → RedirectKind → List ℕ → Streams → Action OperandNo Streams
-connect cwd fd Duplicate word s = duplicated fd word s
-connect cwd fd k word s = if is_standard fd then opened cwd fd k word s else refused
+connect cwd fd Duplicate word s = gives (duplicated fd word s)
+connect cwd fd k word s = if nat_lt 2 fd then gives refused else opened cwd fd k word s
 
-abbrev pub shown : Here → Result Streams OperandNo → Result (Option Streams × Here) (Jump × Here)
-shown h (Ok s) = Ok (Some s, h)
-shown h (Err (operand.Fault word r)) = Ok (None, complain word r h)
-shown h (Err (operand.End e)) = Err (End e, h)
+abbrev pub shown : Result Streams OperandNo → Does (Option Streams)
+shown (Ok s) h = Ok (Some s, h)
+shown (Err (operand.Fault word r)) h = Ok (None, complain word r h)
+shown (Err (operand.End e)) h = Err (End e, h)
 
 unfoldable pub redirected : ℕ → RedirectKind → List ℕ → Streams → Acts (Option Streams)
-redirected fd k word s = λ h o w. (shown h (connect h.shell.cwd fd k word s o w).0, (connect h.shell.cwd fd k word s o w).1)
+redirected fd k word s = λ h o w. (shown (connect h.shell.cwd fd k word s o w).0 h, (connect h.shell.cwd fd k word s o w).1)

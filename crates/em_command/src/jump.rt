@@ -1,5 +1,5 @@
 //! Why the commands that follow aren't run.
-ghost use Rattle.std.specs.Prelude.{◌≡◌, Err};
+ghost use Rattle.std.specs.Prelude.{◌≡◌};
 ghost use Rattle.em_command.specs.declared.jump.Jump.TheVariants.{End};
 ghost use Rattle.em_command.specs.Jumps.{jump_of, of_desk};
 ghost use Rattle.em_view.specs.declared.done.ExecNo.TheVariants.{NoMemory, Spent};
@@ -54,6 +54,15 @@ impl From<ExecNo> for Jump {
 
     fn from(e: ExecNo) -> Jump {
         Jump::End(e)
+    }
+}
+
+/// What a desk's refusal is to a shell: only for the calls that never refuse an operation.
+impl From<DeskNo> for Jump {
+    ghost from_gives = { λ e r. r ≡ of_desk e };
+
+    fn from(e: DeskNo) -> Jump {
+        Jump::End(ExecNo::from(e))
     }
 }
 

@@ -1,10 +1,10 @@
 //! Where the streams of a command go.
-ghost use Rattle.std.specs.Prelude.{◌≡◌, IfOk, OnOk};
+ghost use Rattle.std.specs.Prelude.{◌≡◌, IfOk};
 ghost use Rattle.em_command.specs.Jumps as jumps;
 ghost use Rattle.em_command.specs.Streams as streams;
-ghost use Rattle.em_command.specs.Streams.{around, emptied, added, added_by, held, open_file, open_at, source_of, is_null, content_of, sink_for, attached, duplicated, opened, connect, redirected, is_standard};
+ghost use Rattle.em_command.specs.Streams.{around, input_of, emptied, added, held, open_file, source_of, is_null, content_of, sink_for, attached, duplicate_to, duplicated, opened, connect, shown, redirected};
 ghost use Rattle.em_view.specs.Performs.{Performs};
-ghost use Rattle.em_view.specs.Steps.{Does};
+ghost use Rattle.em_view.specs.Steps.{Does, Works};
 ghost use Rattle.em_utility.specs.Operands.{is_free};
 
 use crate::here::Here;
@@ -71,6 +71,26 @@ impl Streams {
             files: Seq::new(alloc),
         }
     }
+
+    /// What the command reads, where `around` is read around it. No bytes are copied.
+    pub fn input(&self, around: &Body) -> Result<Body, NoMemory>
+        ensures { IfOk result (λ b. b ≡ input_of self.now around.now) }
+    {
+        match &self.input {
+            Some(body) => body.copy(),
+            None => around.copy(),
+        }
+    }
+
+    /// The bytes that the command reads.
+    pub(crate) fn input_bytes<'a>(&'a self, around: &'a [u8]) -> &'a [u8]
+        ensures { result.now ≡ input_of self.now around.now }
+    {
+        match &self.input {
+            Some(body) => body.bytes(),
+            None => around,
+        }
+    }
 }
 
 /// Whether the path is that of the empty device.
@@ -109,6 +129,18 @@ fn added<V: View>(
     }
 }
 
+/// `<`: what the file holds.
+fn held<V: View>(
+    alloc: Global,
+    cwd: &Path,
+    word: &[u8],
+    desk: &mut Desk<V>,
+) -> Result<Source, OperandNo>
+    ensures { Performs is_free V.tells desk.old desk.new result (held cwd.now word.now) }
+{
+    Ok(Source::Holds(read(alloc, cwd, word, desk)?))
+}
+
 /// What a redirection finds at a path other than `/dev/null`.
 fn open_file<V: View>(
     alloc: Global,
@@ -124,7 +156,7 @@ fn open_file<V: View>(
     match kind {
         RedirectKind::Write => emptied(alloc, word, path, desk),
         RedirectKind::Append => added(alloc, word, path, desk),
-        RedirectKind::Read => Ok(Source::Holds(read(alloc, cwd, word, desk)?)),
+        RedirectKind::Read => held(alloc, cwd, word, desk),
         RedirectKind::Duplicate => Ok(Source::Null),
     }
 }
@@ -144,4 +176,169 @@ fn source_of<V: View>(
         return Ok(Source::Null);
     }
     open_file(alloc, cwd, kind, word, path, desk)
+}
+
+/// What is read of a source: a file that is written is empty.
+fn content_of(alloc: Global, source: Source) -> Result<Body, NoMemory>
+    ensures { IfOk result (λ b. b ≡ content_of source) }
+{
+    match source {
+        Source::Holds(body) => Ok(body),
+        Source::Null | Source::Writes(_) => Body::from_slice(alloc, b""),
+    }
+}
+
+/// Where what is written to a source goes: a file that is read swallows.
+fn sink_for(source: &Source, files: &Seq<Opened>) -> Sink
+    ensures { result ≡ sink_for source.now files.now }
+{
+    match source {
+        Source::Writes(_) => Sink::File(files.len()),
+        Source::Null | Source::Holds(_) => Sink::Nowhere,
+    }
+}
+
+/// The files with the one that is written to.
+fn files_with(
+    alloc: Global,
+    word: &[u8],
+    source: Source,
+    files: Seq<Opened>,
+) -> Result<Seq<Opened>, NoMemory>
+    ensures { IfOk result (λ fs. fs ≡ streams.files_with word.now source files) }
+{
+    let Source::Writes(path) = source else {
+        return Ok(files);
+    };
+    let mut files = files;
+    let word = Text::from_slice(alloc, word)?;
+    files.push(Opened { word, path })?;
+    Ok(files)
+}
+
+/// The streams with one of them at a source.
+fn attached(
+    alloc: Global,
+    fd: u8,
+    word: &[u8],
+    source: Source,
+    streams: Streams,
+) -> Result<Streams, NoMemory>
+    ensures { IfOk result (λ s. s ≡ attached fd word.now source streams) }
+{
+    let mut streams = streams;
+    let sink = sink_for(&source, &streams.files);
+    match fd {
+        0 => streams.input = Some(content_of(alloc, source)?),
+        1 => {
+            streams.output = sink;
+            streams.files = files_with(alloc, word, source, streams.files)?;
+        }
+        _ => {
+            streams.errors = sink;
+            streams.files = files_with(alloc, word, source, streams.files)?;
+        }
+    }
+    Ok(streams)
+}
+
+fn duplicate_to(fd: u8, sink: Sink, streams: Streams) -> Result<Streams, OperandNo>
+    ensures { result ≡ duplicate_to fd sink streams }
+{
+    let mut streams = streams;
+    match fd {
+        1 => streams.output = sink,
+        2 => streams.errors = sink,
+        _ => return Err(OperandNo::End(ExecNo::Refused(Construct::Descriptor))),
+    }
+    Ok(streams)
+}
+
+/// `>&`
+fn duplicated(fd: u8, word: &[u8], streams: Streams) -> Result<Streams, OperandNo>
+    ensures { result ≡ duplicated fd word.now streams }
+{
+    let sink = match word {
+        b"1" => streams.output,
+        b"2" => streams.errors,
+        _ => return Err(OperandNo::End(ExecNo::Refused(Construct::Descriptor))),
+    };
+    duplicate_to(fd, sink, streams)
+}
+
+fn open_for<V: View>(
+    alloc: Global,
+    cwd: &Path,
+    fd: u8,
+    kind: RedirectKind,
+    word: &[u8],
+    streams: Streams,
+    desk: &mut Desk<V>,
+) -> Result<Streams, OperandNo>
+    ensures { Performs is_free V.tells desk.old desk.new result
+        (opened cwd.now fd kind word.now streams) }
+{
+    let source = source_of(alloc, cwd, kind, word, desk)?;
+    Ok(attached(alloc, fd, word, source, streams)?)
+}
+
+/// The streams behind a redirection.
+fn connect<V: View>(
+    alloc: Global,
+    cwd: &Path,
+    fd: u8,
+    kind: RedirectKind,
+    word: &[u8],
+    streams: Streams,
+    desk: &mut Desk<V>,
+) -> Result<Streams, OperandNo>
+    ensures { Performs is_free V.tells desk.old desk.new result
+        (connect cwd.now fd kind word.now streams) }
+{
+    if kind == RedirectKind::Duplicate {
+        return duplicated(fd, word, streams);
+    }
+    if fd > 2 {
+        return Err(OperandNo::End(ExecNo::Refused(Construct::Descriptor)));
+    }
+    open_for(alloc, cwd, fd, kind, word, streams, desk)
+}
+
+/// Writes why a redirection failed, if it did.
+fn shown(
+    alloc: Global,
+    given: Result<Streams, OperandNo>,
+    here: &mut Here,
+) -> Result<Option<Streams>, Jump>
+    ensures { Works jumps.is_free here.old here.new result (shown given) }
+{
+    match given {
+        Ok(streams) => Ok(Some(streams)),
+        Err(OperandNo::Fault(word, reason)) => {
+            here.complain(alloc, word.bytes(), reason)?;
+            Ok(None)
+        }
+        Err(OperandNo::End(no)) => Err(Jump::End(no)),
+    }
+}
+
+/// A redirection acts: `>` puts an empty file, `>>` one where nothing is there, `<` reads a file,
+/// and `>&` lets a stream go where another one goes now. `/dev/null` is empty and swallows; nothing
+/// is asked for it. The streams behind it come back, or none where it failed: then why was written,
+/// and the status is 1. Errors: `Refused` by a stream other than 0, 1 and 2, and by a `>&` from or
+/// to another one than 1 and 2; `Spent`, where fuel doesn't suffice.
+pub fn redirect<V: View>(
+    alloc: Global,
+    fd: u8,
+    kind: RedirectKind,
+    word: &[u8],
+    streams: Streams,
+    here: &mut Here,
+    desk: &mut Desk<V>,
+) -> Result<Option<Streams>, Jump>
+    ensures { Does jumps.is_free V.tells desk.old desk.new here.old here.new result
+        (redirected fd kind word.now streams) }
+{
+    let given = connect(alloc, &here.shell.cwd, fd, kind, word, streams, desk);
+    shown(alloc, given, here)
 }
