@@ -1,0 +1,3 @@
+pub mod Settling
+mod Words
+mod Pieces

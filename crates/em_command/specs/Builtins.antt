@@ -187,5 +187,9 @@ settled name (Ok (a, s)) = Ok (ran a, s)
 settled name (Err (operand.Fault word r, s)) = Ok (plain (faulted name word r nothing), s)
 settled name (Err (operand.End e, s)) = Err (e, s)
 
-unfoldable pub builtin : Builtin → Bool → List (List ℕ) → Steps Shell ExecNo Ran
-builtin b in_loop words = λ s o w. (settled (name_of b) (asked b in_loop words s o w).0, (asked b in_loop words s o w).1)
+-- a fault of an operand is written
+unfoldable pub settling : List ℕ → Asked → Steps Shell ExecNo Ran
+settling name m = λ s o w. (settled name (m s o w).0, (m s o w).1)
+
+abbrev pub builtin : Builtin → Bool → List (List ℕ) → Steps Shell ExecNo Ran
+builtin b in_loop words = settling (name_of b) (asked b in_loop words)

@@ -20,7 +20,7 @@ use Rattle.em_command.specs.declared.streams.Sink.{Sink}
 use Rattle.em_command.specs.declared.streams.Sink.TheVariants.{Output, Errors, Nowhere, File}
 use Rattle.em_command.specs.declared.streams.Opened.{Opened}
 use Rattle.em_command.specs.declared.streams.Streams.{Streams}
-use Rattle.em_command.specs.Jumps.{Acts, Does}
+use Rattle.em_command.specs.Jumps.{Acts, Does, looked}
 use Rattle.em_command.specs.Heres.{piece, written, complain}
 
 abbrev pub sink_of : Streams → Piece → Sink
@@ -77,7 +77,7 @@ told (Err (operand.Fault word r)) h = Ok (tt, complain word r h)
 told (Err (operand.End e)) h = Err (End e, h)
 
 unfoldable pub appended : Opened → List ℕ → Acts (Unit {0})
-appended f text = λ h o w. (told (append f text o w).0 h, (append f text o w).1)
+appended f text = looked (λ h. append f text) told
 
 abbrev pub append_each : List Opened → List (List ℕ) → Acts (Unit {0})
 append_each [] ts = done tt

@@ -3,7 +3,9 @@ use Rattle.std.specs.Prelude.{Bool, false, Result, Ok, Err}
 use Rattle.em_view.specs.declared.no.DeskNo.{DeskNo}
 use Rattle.em_view.specs.declared.done.ExecNo.{ExecNo}
 use Rattle.em_view.specs.Ends as ends
+use Rattle.em_view.specs.Actions.{Action}
 use Rattle.em_view.specs.Steps.{Steps}
+use Rattle.em_utility.specs.declared.operand.OperandNo.{OperandNo}
 use Rattle.em_command.specs.declared.jump.Flow.{Flow}
 use Rattle.em_command.specs.declared.jump.Flow.TheVariants as flow
 use Rattle.em_command.specs.declared.jump.Jump.{Jump}
@@ -32,3 +34,7 @@ Acts A = Steps Here Jump A
 -- what is done to it without a desk
 abbrev pub Does : Type 0 → Type 0
 Does A = Here → Result (A × Here) (Jump × Here)
+
+-- what is done for a word, and then by how that ended
+unfoldable pub looked : {A B : Type 0} → (Here → Action OperandNo A) → (Result A OperandNo → Does B) → Acts B
+looked m k = λ h o w. (k (m h o w).0 h, (m h o w).1)

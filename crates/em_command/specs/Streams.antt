@@ -27,7 +27,7 @@ use Rattle.em_command.specs.declared.streams.Opened.{Opened}
 use Rattle.em_command.specs.declared.streams.Source.{Source}
 use Rattle.em_command.specs.declared.streams.Source.TheVariants.{Null, Writes, Holds}
 use Rattle.em_command.specs.declared.streams.Streams.{Streams}
-use Rattle.em_command.specs.Jumps.{Acts, Does}
+use Rattle.em_command.specs.Jumps.{Acts, Does, looked}
 use Rattle.em_command.specs.Heres.{complain}
 
 abbrev pub around : Streams
@@ -129,9 +129,12 @@ opened cwd fd k word s = do
   source ← source_of cwd k word
   done (attached fd word source s)
 
+abbrev pub at_path : List ℕ → ℕ → RedirectKind → List ℕ → Streams → Action OperandNo Streams
+at_path cwd fd k word s = if nat_lt 2 fd then gives refused else opened cwd fd k word s
+
 abbrev pub connect : List ℕ → ℕ → RedirectKind → List ℕ → Streams → Action OperandNo Streams
 connect cwd fd Duplicate word s = gives (duplicated fd word s)
-connect cwd fd k word s = if nat_lt 2 fd then gives refused else opened cwd fd k word s
+connect cwd fd k word s = at_path cwd fd k word s
 
 abbrev pub shown : Result Streams OperandNo → Does (Option Streams)
 shown (Ok s) h = Ok (Some s, h)
@@ -139,4 +142,4 @@ shown (Err (operand.Fault word r)) h = Ok (None, complain word r h)
 shown (Err (operand.End e)) h = Err (End e, h)
 
 unfoldable pub redirected : ℕ → RedirectKind → List ℕ → Streams → Acts (Option Streams)
-redirected fd k word s = λ h o w. (shown (connect h.shell.cwd fd k word s o w).0 h, (connect h.shell.cwd fd k word s o w).1)
+redirected fd k word s = looked (λ h. connect h.shell.cwd fd k word s) shown

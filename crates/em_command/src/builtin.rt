@@ -1,5 +1,5 @@
 //! The built-in commands.
-ghost use Rattle.std.specs.Prelude.{◌≡◌, ◌++◌, ◌∷◌, [], false, IfOk, OnOk};
+ghost use Rattle.std.specs.Prelude.{◌≡◌, ◌==◌, ◌++◌, ◌∷◌, [], false, position, IfOk, OnOk};
 ghost use Rattle.em_base.specs.Numbers.{number_of};
 ghost use Rattle.em_command.specs.Builtins as builtins;
 ghost use Rattle.em_command.specs.Builtins.{well, asked, asked_of, cd, change_directory, directory, settled, export_one, unset_one, each_of_some};
@@ -227,11 +227,17 @@ fn mark(alloc: Global, name: &[u8], shell: &mut Shell) -> Result<(), NoMemory>
     set_variable(alloc, name, text, true, shell)
 }
 
+fn equals_in(word: &[u8]) -> Option<usize>
+    ensures { result ≡ position (λ b. b == 61) word.now }
+{
+    word.iter().position(|b| *b == b'=')
+}
+
 /// `export` of a name, or of a name with its value.
 fn export_one(alloc: Global, word: &[u8], shell: &mut Shell) -> Result<(), NoMemory>
     ensures { OnOk result (shell.new ≡ export_one word.now shell.old) }
 {
-    match word.iter().position(|b| *b == b'=') {
+    match equals_in(word) {
         Some(at) => {
             let value = Text::from_slice(alloc, &word[at + 1..])?;
             set_variable(alloc, &word[..at], value, true, shell)
@@ -300,7 +306,14 @@ fn asked<V: View>(
         (asked builtin in_loop words.now) }
 {
     let options = read_options(alloc, name_of(builtin), b"", b"", words)?;
-    asked_of(alloc, builtin, in_loop, options.operands(words), shell, desk)
+    asked_of(
+        alloc,
+        builtin,
+        in_loop,
+        options.operands(words),
+        shell,
+        desk,
+    )
 }
 
 /// A command that goes on with what follows.

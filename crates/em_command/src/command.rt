@@ -1,5 +1,5 @@
 //! A command by its words.
-ghost use Rattle.std.specs.Prelude.{◌≡◌, map, IfOk};
+ghost use Rattle.std.specs.Prelude.{◌≡◌, drop, map, IfOk};
 ghost use Rattle.std.specs.List.{list_any};
 ghost use Rattle.std.specs.Str.{bytes_eq};
 ghost use Rattle.em_view.specs.Ends.{is_want};
@@ -119,6 +119,13 @@ fn utility<V: View>(
     }
 }
 
+/// The words behind the first.
+fn behind(words: &[Text]) -> &[Text]
+    ensures { result.now ≡ drop 1 words.now }
+{
+    words.get(1..).unwrap_or(&[])
+}
+
 fn by_builtin<V: View>(
     alloc: Global,
     name: &[u8],
@@ -132,10 +139,7 @@ fn by_builtin<V: View>(
         (by_builtin (builtins.builtin_of name.now) name.now words.now input.now in_loop) }
 {
     match builtin_of(name) {
-        Some(builtin) => {
-            let rest = words.get(1..).unwrap_or(&[]);
-            run_builtin(alloc, builtin, in_loop, rest, shell, desk)
-        }
+        Some(builtin) => { run_builtin(alloc, builtin, in_loop, behind(words), shell, desk) }
         None => utility(alloc, name, words, input, &shell.cwd, desk),
     }
 }

@@ -59,12 +59,7 @@ fn add_to(i: usize, sink: Sink, text: &[u8], all: &mut Text) -> Result<(), NoMem
 }
 
 /// What goes to the file of a number.
-fn text_for(
-    alloc: Global,
-    streams: &Streams,
-    i: usize,
-    pieces: &[Piece],
-) -> Result<Text, NoMemory>
+fn text_for(alloc: Global, streams: &Streams, i: usize, pieces: &[Piece]) -> Result<Text, NoMemory>
     ensures { IfOk result (λ t. t ≡ delivering.text_for streams.now i pieces.now) }
 {
     let mut all = Text::new(alloc);

@@ -1,7 +1,7 @@
 //! A shell on its way, with what it has written.
 ghost use Rattle.std.specs.Prelude.{◌≡◌, false, IfOk, OnOk};
 ghost use Rattle.em_command.specs.Heres as heres;
-ghost use Rattle.em_command.specs.Heres.{branch, written, wrote, complained, rejoined, overheard, ended_as, is_exported, with_text, failed, faulted};
+ghost use Rattle.em_command.specs.Heres.{branch, written, wrote, complained, rejoined, overheard, text_on, off, ended_as, is_exported, with_text, failed, faulted};
 ghost use Rattle.em_command.specs.Jumps.{is_free};
 ghost use Rattle.em_vars.specs.Entries.{value_of};
 ghost use Rattle.em_view.specs.Steps.{Works};
@@ -96,8 +96,8 @@ impl Here {
     ) -> Result<Text, Jump>
         ensures { Works is_free self.old self.new result (overheard copy ended) }
     {
-        let text = text_on(alloc, 1, copy.pieces.items())?;
-        self.add(off(1, copy.pieces)?)?;
+        let text = output_of(alloc, copy.pieces.items())?;
+        self.add(rest_of(copy.pieces))?;
         end_of(ended)?;
         Ok(text)
     }
@@ -156,13 +156,13 @@ fn end_of(ended: Result<(), Jump>) -> Result<(), Jump>
     }
 }
 
-/// What was written to a stream.
-fn text_on(alloc: Global, stream: u8, pieces: &[Piece]) -> Result<Text, NoMemory>
-    ensures { IfOk result (λ t. t ≡ heres.text_on stream pieces.now) }
+/// What was written to stream 1.
+fn output_of(alloc: Global, pieces: &[Piece]) -> Result<Text, NoMemory>
+    ensures { IfOk result (λ t. t ≡ text_on 1 pieces.now) }
 {
     let mut text = Text::new(alloc);
     for piece in pieces {
-        if piece.stream == stream {
+        if piece.stream == 1 {
             text.add(piece.text.bytes())?;
         }
     }
@@ -170,12 +170,12 @@ fn text_on(alloc: Global, stream: u8, pieces: &[Piece]) -> Result<Text, NoMemory
 }
 
 /// What was written to other streams.
-fn off(stream: u8, pieces: Seq<Piece>) -> Result<Seq<Piece>, NoMemory>
-    ensures { IfOk result (λ ps. ps ≡ heres.off stream pieces) }
+fn rest_of(pieces: Seq<Piece>) -> Seq<Piece>
+    ensures { result ≡ off 1 pieces }
 {
     let mut all = pieces.into_vec();
-    all.retain(|p| p.stream != stream);
-    Ok(Seq::from_vec(all))
+    all.retain(|p| p.stream != 1);
+    Seq::from_vec(all)
 }
 
 /// Whether the name has a variable that is exported.

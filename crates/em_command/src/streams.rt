@@ -2,7 +2,7 @@
 ghost use Rattle.std.specs.Prelude.{◌≡◌, IfOk};
 ghost use Rattle.em_command.specs.Jumps as jumps;
 ghost use Rattle.em_command.specs.Streams as streams;
-ghost use Rattle.em_command.specs.Streams.{around, input_of, emptied, added, held, open_file, source_of, is_null, content_of, sink_for, attached, duplicate_to, duplicated, opened, connect, shown, redirected};
+ghost use Rattle.em_command.specs.Streams.{around, input_of, emptied, added, held, open_file, source_of, is_null, content_of, sink_for, attached, duplicate_to, duplicated, opened, at_path, connect, shown, redirected};
 ghost use Rattle.em_view.specs.Performs.{Performs};
 ghost use Rattle.em_view.specs.Steps.{Does, Works};
 ghost use Rattle.em_utility.specs.Operands.{is_free};
@@ -282,6 +282,25 @@ fn open_for<V: View>(
     Ok(attached(alloc, fd, word, source, streams)?)
 }
 
+/// A redirection of a stream to or from a path.
+fn at_path<V: View>(
+    alloc: Global,
+    cwd: &Path,
+    fd: u8,
+    kind: RedirectKind,
+    word: &[u8],
+    streams: Streams,
+    desk: &mut Desk<V>,
+) -> Result<Streams, OperandNo>
+    ensures { Performs is_free V.tells desk.old desk.new result
+        (at_path cwd.now fd kind word.now streams) }
+{
+    if fd > 2 {
+        return Err(OperandNo::End(ExecNo::Refused(Construct::Descriptor)));
+    }
+    open_for(alloc, cwd, fd, kind, word, streams, desk)
+}
+
 /// The streams behind a redirection.
 fn connect<V: View>(
     alloc: Global,
@@ -295,13 +314,10 @@ fn connect<V: View>(
     ensures { Performs is_free V.tells desk.old desk.new result
         (connect cwd.now fd kind word.now streams) }
 {
-    if kind == RedirectKind::Duplicate {
-        return duplicated(fd, word, streams);
+    match kind {
+        RedirectKind::Duplicate => duplicated(fd, word, streams),
+        _ => at_path(alloc, cwd, fd, kind, word, streams, desk),
     }
-    if fd > 2 {
-        return Err(OperandNo::End(ExecNo::Refused(Construct::Descriptor)));
-    }
-    open_for(alloc, cwd, fd, kind, word, streams, desk)
 }
 
 /// Writes why a redirection failed, if it did.
