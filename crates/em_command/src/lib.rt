@@ -15,3 +15,6 @@ pub use delivery::{deliver, hand};
 pub use here::{Here, Scene};
 pub use jump::{Flow, Jump};
 pub use streams::{Opened, Sink, Streams, redirect};
+
+#[cfg(test)]
+mod tests;
