@@ -1,0 +1,10 @@
+mod Looking
+mod Holding
+mod Nodes
+mod Turning
+mod Listing
+mod Ending
+mod Cases
+mod Leading
+mod Closing
+mod Lawful

@@ -1,0 +1,9 @@
+pub use Rattle.em_command.specs.Jumps
+pub use Rattle.em_command.specs.Heres
+pub use Rattle.em_command.specs.Commands
+pub use Rattle.em_command.specs.Streams
+pub mod Copies
+pub mod Words
+pub mod Leads
+pub mod Running
+pub mod Exec

@@ -1,0 +1,24 @@
+//! Laws of the definitions: each function's contract is the law.
+ghost use Rattle.std.specs.Prelude.{◌≡◌, ℕ, suc, List, [], Ok};
+ghost use Rattle.em_view.specs.Actions.{Oracle, Workspace};
+ghost use Rattle.em_syntax.specs.declared.tree.Script.{Script, out-Script};
+ghost use Rattle.em_command.specs.declared.here.Here.{Here};
+ghost use Rattle.em_command.specs.declared.here.Scene.{Scene};
+ghost use Rattle.em_command.specs.Heres.{with_status};
+ghost use Rattle.em_command.specs.Jumps.{Acts};
+ghost use Rattle.em_exec.specs.Copies.{after, subshell};
+ghost use Rattle.em_exec.specs.Running.{script_at};
+
+/// An empty script does nothing: it writes nothing, changes nothing, asks nothing and costs nothing. Its status is 0.
+pub fn law_empty()
+    ensures { (left : ℕ) (script : Script) (scene : Scene) (h : Here) (o : Oracle) (w : Workspace)
+        → (out-Script script).list.items ≡ []
+        → script_at (suc left) script scene h o w ≡ (Ok (tt, with_status 0 h), w) }
+{}
+
+/// A subshell leaves the shell's variables and working directory, whatever runs in it.
+pub fn law_subshell()
+    ensures { (m : Acts (Unit {0})) (h : Here) (o : Oracle) (w : Workspace)
+        → (after (subshell m h o w).0).shell
+            ≡ record h.shell { status = (after (subshell m h o w).0).shell.status } }
+{}

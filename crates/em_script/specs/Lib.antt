@@ -1,0 +1,2 @@
+pub use Rattle.em_exec.specs.Exec
+pub mod Lines

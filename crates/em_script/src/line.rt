@@ -1,0 +1,62 @@
+//! A line for the shell.
+ghost use Rattle.std.specs.Prelude.{◌≡◌, IfOk};
+ghost use Rattle.em_exec.specs.Exec.{Session};
+ghost use Rattle.em_script.specs.Lines.{IsRead, run_line};
+ghost use Rattle.em_view.specs.Ends.{is_want};
+ghost use Rattle.em_view.specs.Steps.{Does};
+
+use em_base::{Construct, NoMemory, Text};
+use em_exec::exec;
+use em_gram::{GramNo, parse};
+use em_syntax as tree;
+use em_view::{Desk, ExecNo, View};
+use em_word::Shell;
+use std::alloc::Global;
+
+/// What a line is by the grammar.
+#[derive(Drop)]
+pub enum Line {
+    Script(tree::Script),
+    /// Its leftmost fault is an error of syntax.
+    Wrong,
+    /// Its leftmost fault is a construct that isn't supported.
+    Refused(Construct),
+}
+
+impl Line {
+    /// Reads a line, in time linear in its length.
+    pub fn read(alloc: Global, text: &[u8]) -> Result<Line, NoMemory>
+        ensures { IfOk result (λ line. IsRead text.now line) }
+    {
+        match parse(alloc, text) {
+            Ok(script) => Ok(Line::Script(script)),
+            Err(GramNo::Unexpected(_)) => Ok(Line::Wrong),
+            Err(GramNo::Unclosed(_)) => Ok(Line::Wrong),
+            Err(GramNo::Refused(construct, _)) => Ok(Line::Refused(construct)),
+            Err(GramNo::NoMemory) => Err(NoMemory),
+        }
+    }
+
+    /// Runs it as `exec` does a script. Wrong syntax is written as `emake: sh: syntax error` and has status 2. A construct that
+    /// isn't supported is refused before anything runs.
+    pub fn run<V: View>(
+        self,
+        alloc: Global,
+        shell: &mut Shell,
+        desk: &mut Desk<V>,
+        out: &mut Text,
+    ) -> Result<u8, ExecNo>
+        ensures { Does is_want V.tells desk.old desk.new
+            (record { shell = shell.old; output = out.old }) (record { shell = shell.new; output = out.new })
+            result (run_line self) }
+    {
+        match self {
+            Line::Script(script) => exec(alloc, &script, shell, desk, out),
+            Line::Wrong => {
+                out.add(b"emake: sh: syntax error\n")?;
+                Ok(2)
+            }
+            Line::Refused(construct) => Err(ExecNo::Refused(construct)),
+        }
+    }
+}
