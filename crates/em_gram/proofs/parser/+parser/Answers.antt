@@ -197,7 +197,7 @@ pub arguments-returns-clause-passes : goal.arguments-returns-clause-passes
 arguments-returns-clause-passes t c = moves_end c.loop-alloc.invariant.moves (no_argument (sym c.opens_argument.ensures ∙ c.loop-alloc-test.false))
 
 pub arguments-returns-clause-last : goal.arguments-returns-clause-last
-arguments-returns-clause-last t c = last_of _ (sym c.opens_argument.ensures ∙ c.loop-alloc-test.false)
+arguments-returns-clause-last t c = last_of (whats c.loop-alloc.rest.now) (sym c.opens_argument.ensures ∙ c.loop-alloc-test.false)
 
 pub arguments-returns-clause-spells : goal.arguments-returns-clause-spells
 arguments-returns-clause-spells t c = c.loop-alloc.invariant.spells
@@ -224,7 +224,7 @@ pub named-returns-in_err-simple-clause-reads : goal.named-returns-in_err-simple-
 named-returns-in_err-simple-clause-reads t c = off c.args.left _ _ _ _ _ c.from_residual-in_err-simple.ensures (then_off shell _ (then_on shell (c.in_ok-rest.ensures.reads c.args.left) (c.in_ok-first.ensures.reads)) _ (gives_right shell c.args.left _ _ _ _ refl (sym c.opens.ensures ∙ c.if-opens.false) (c.in_err-simple.ensures.err)))
 
 pub named-returns-clause-reads : goal.named-returns-clause-reads
-named-returns-clause-reads t c = then_passed (then_on shell (c.in_ok-rest.ensures.reads c.args.left) (c.in_ok-first.ensures.reads)) (passes_right shell refl (sym c.opens.ensures ∙ c.if-opens.false) c.in_ok-simple.ensures.passes) (c.in_ok-simple.ensures.spells _ (not_begins reserved_words (kinds (Name ∷ [])) refl _ (begins_key (kinds (Name ∷ [])) _ _ (c.in_ok-rest.ensures.reads c.args.left).spells)) (rw (c.new.ensures.items, c.new-2.ensures.items) (first_alone (kinds (Name ∷ [])) refl c.in_ok-first.first _ _ (then_on shell (c.in_ok-rest.ensures.reads c.args.left) (c.in_ok-first.ensures.reads)).spells)))
+named-returns-clause-reads t c = then_passed (then_on shell (c.in_ok-rest.ensures.reads c.args.left) (c.in_ok-first.ensures.reads)) (passes_right shell refl (sym c.opens.ensures ∙ c.if-opens.false) c.in_ok-simple.ensures.passes) (c.in_ok-simple.ensures.spells _ (not_begins reserved_words (kinds (Name ∷ [])) refl (whats c.args.tokens.now) (begins_key (kinds (Name ∷ [])) (λ us. us ≡ whats c.in_ok-rest.rest.now) (whats c.args.tokens.now) (c.in_ok-rest.ensures.reads c.args.left).spells)) (rw (c.new.ensures.items, c.new-2.ensures.items) (first_alone (kinds (Name ∷ [])) refl c.in_ok-first.first _ _ (then_on shell (c.in_ok-rest.ensures.reads c.args.left) (c.in_ok-first.ensures.reads)).spells)))
 
 pub plain-returns-in_err-rest-clause-reads : goal.plain-returns-in_err-rest-clause-reads
 plain-returns-in_err-rest-clause-reads t c = off c.args.left _ _ _ _ _ c.from_residual.ensures (then_exit shell c.args.left _ _ _ _ (then_exit shell c.args.left _ _ _ _ (c.in_err-rest.ensures.reads c.args.left)))
@@ -236,7 +236,7 @@ pub plain-returns-in_err-simple-clause-reads : goal.plain-returns-in_err-simple-
 plain-returns-in_err-simple-clause-reads t c = off c.args.left _ _ _ _ _ c.from_residual-in_err-simple.ensures (then_off shell _ (then_on shell (c.in_ok-rest.ensures.reads c.args.left) (c.in_ok-first.ensures.reads)) _ (c.in_err-simple.ensures.err))
 
 pub plain-returns-clause-reads : goal.plain-returns-clause-reads
-plain-returns-clause-reads t c = then_passed (then_on shell (c.in_ok-rest.ensures.reads c.args.left) (c.in_ok-first.ensures.reads)) c.in_ok-simple.ensures.passes (c.in_ok-simple.ensures.spells _ (not_begins reserved_words (kinds (Plain ∷ [])) refl _ (begins_key (kinds (Plain ∷ [])) _ _ (c.in_ok-rest.ensures.reads c.args.left).spells)) (rw (c.new.ensures.items, c.new-2.ensures.items) (first_alone (kinds (Plain ∷ [])) refl c.in_ok-first.first _ _ (then_on shell (c.in_ok-rest.ensures.reads c.args.left) (c.in_ok-first.ensures.reads)).spells)))
+plain-returns-clause-reads t c = then_passed (then_on shell (c.in_ok-rest.ensures.reads c.args.left) (c.in_ok-first.ensures.reads)) c.in_ok-simple.ensures.passes (c.in_ok-simple.ensures.spells _ (not_begins reserved_words (kinds (Plain ∷ [])) refl (whats c.args.tokens.now) (begins_key (kinds (Plain ∷ [])) (λ us. us ≡ whats c.in_ok-rest.rest.now) (whats c.args.tokens.now) (c.in_ok-rest.ensures.reads c.args.left).spells)) (rw (c.new.ensures.items, c.new-2.ensures.items) (first_alone (kinds (Plain ∷ [])) refl c.in_ok-first.first _ _ (then_on shell (c.in_ok-rest.ensures.reads c.args.left) (c.in_ok-first.ensures.reads)).spells)))
 
 pub prefix-returns-in_err-next-clause-err : goal.prefix-returns-in_err-next-clause-err
 prefix-returns-in_err-next-clause-err t c = exit_gives c.args.left _ _ _ _ c.from_residual.ensures (gives_left shell c.args.left _ _ _ _ (sym c.opens.ensures ∙ c.if-opens.true) (c.in_err-next.ensures.reads))
@@ -248,10 +248,10 @@ pub prefix-returns-then-opens-clause-spells : goal.prefix-returns-then-opens-cla
 prefix-returns-then-opens-clause-spells t c = λ start h. one_assigned start _ _ c.in_ok-next.next _ _ _ c.in_ok-push.ensures.items c.in_ok-next.ensures.reads.spells h
 
 pub prefix-returns-then-opens-clause-begins : goal.prefix-returns-then-opens-clause-begins
-prefix-returns-then-opens-clause-begins t c = not_begins reserved_words (kinds (Assignment ∷ [])) refl _ (sym c.opens.ensures ∙ c.if-opens.true)
+prefix-returns-then-opens-clause-begins t c = not_begins reserved_words (kinds (Assignment ∷ [])) refl (whats c.args.tokens.now) (sym c.opens.ensures ∙ c.if-opens.true)
 
 pub prefix-returns-clause-begins : goal.prefix-returns-clause-begins
-prefix-returns-clause-begins t c = not_begins reserved_words redirect_begins refl _ (spelled_redirect c.in_ok-next-2.next _ _ c.in_ok-next-2.ensures.reads.spells)
+prefix-returns-clause-begins t c = not_begins reserved_words redirect_begins refl (whats c.args.tokens.now) (spelled_redirect c.in_ok-next-2.next (whats c.args.tokens.now) _ c.in_ok-next-2.ensures.reads.spells)
 
 pub prefix-returns-in_err-next-2-clause-err : goal.prefix-returns-in_err-next-2-clause-err
 prefix-returns-in_err-next-2-clause-err t c = exit_gives c.args.left _ _ _ _ c.from_residual-in_err-next-2.ensures (gives_right shell c.args.left _ _ _ _ refl (sym c.opens.ensures ∙ c.if-opens.false) (c.in_err-next-2.ensures.reads))
