@@ -1,0 +1,4 @@
+pub mod Posts
+pub mod Codes
+pub mod Looking
+pub mod Listing
