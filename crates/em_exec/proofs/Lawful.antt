@@ -26,6 +26,10 @@ left_by h (Err Break, t) = refl
 left_by h (Err Continue, t) = refl
 left_by h (Err (End e), t) = refl
 
+from_copy : (h : Here) (e : Ended) → (let c = seen (apart h) e in (after (rejoined c.0.1 c.0.0 c.1)).shell ≡ record h.shell { status = (after (rejoined c.0.1 c.0.0 c.1)).shell.status })
+from_copy h (Ok p) = left_by h (Ok p.0, p.1)
+from_copy h (Err p) = left_by h (Err p.0, p.1)
+
 pub left : (m : Acts (Unit {0})) (h : Here) (o : Oracle) (w : Workspace) → (after (subshell m h o w).0).shell ≡ record h.shell { status = (after (subshell m h o w).0).shell.status }
 unfolding subshell and_then ◌>>=◌ looked_at own
-left m h o w = left_by h (seen (apart h) (m (branch h) o w).0).0
+left m h o w = from_copy h (m (branch h) o w).0
