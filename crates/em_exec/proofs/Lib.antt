@@ -8,3 +8,4 @@ mod Cases
 mod Leading
 mod Closing
 mod Lawful
+mod Truth

@@ -47,17 +47,17 @@ fn say_end(alloc: Global, out: &mut Text, end: &Result<u8, ExecNo>) -> Result<()
 }
 
 /// Runs a line over a desk.
-fn on_desk<V: View>(alloc: Global, line: &str, desk: &mut Desk<V>) -> Result<Text, Fail> {
+fn on_desk<V: View>(alloc: Global, line: &[u8], desk: &mut Desk<V>) -> Result<Text, Fail> {
     let mut out = Text::new(alloc);
     let mut shell = shell(alloc)?;
-    let line = Line::read(alloc, line.as_bytes())?;
+    let line = Line::read(alloc, line)?;
     let end = line.run(alloc, &mut shell, desk, &mut out);
     say_end(alloc, &mut out, &end)?;
     Ok(out)
 }
 
 /// Runs a line in an empty tree, with so many units.
-fn told(alloc: Global, line: &str, units: u64) -> Result<Text, Fail> {
+fn told(alloc: Global, line: &[u8], units: u64) -> Result<Text, Fail> {
     let state = state(alloc)?;
     let view = PlainView::new(&state);
     let mut desk = Desk::new(alloc, view, 1, 0, Fuel::new(units.min(9000)));
@@ -150,7 +150,7 @@ fn lines_run(rt: HostRuntime) -> Result<(), Fail> {
         ("echo $1", "!positional"),
         ("echo a; if", "emake: sh: syntax error\n|2"),
     ] {
-        assert!(rt; told(alloc, line, 9000)?.bytes() == wanted.as_bytes());
+        assert!(rt; told(alloc, line.as_bytes(), 9000)?.bytes() == wanted.as_bytes());
     }
     Ok(())
 }
@@ -181,8 +181,30 @@ fn units_are_counted(rt: HostRuntime) -> Result<(), Fail> {
         ("cd /", 2),
         ("x=$(:)", 3),
     ] {
-        assert!(rt; !told(alloc, line, units)?.bytes().ends_with(b"$"));
-        assert!(rt; units == 0 || told(alloc, line, units - 1)?.bytes().ends_with(b"$"));
+        assert!(rt; !told(alloc, line.as_bytes(), units)?.bytes().ends_with(b"$"));
+        assert!(rt; units == 0 || told(alloc, line.as_bytes(), units - 1)?.bytes().ends_with(b"$"));
     }
+    Ok(())
+}
+
+/// A command in so many subshells.
+fn nested(alloc: Global, levels: usize) -> Result<Text, NoMemory> {
+    let mut line = Text::new(alloc);
+    for _ in 0..levels {
+        line.add(b"(")?;
+    }
+    line.add(b":")?;
+    for _ in 0..levels {
+        line.add(b")")?;
+    }
+    Ok(line)
+}
+
+/// 64 levels run, and 65 are refused.
+#[test]
+fn levels_are_counted(rt: HostRuntime) -> Result<(), Fail> {
+    let alloc = rt.alloc();
+    assert!(rt; told(alloc, nested(alloc, 64)?.bytes(), 9)?.bytes() == b"|0".as_slice());
+    assert!(rt; told(alloc, nested(alloc, 65)?.bytes(), 9)?.bytes() == b"!depth".as_slice());
     Ok(())
 }
