@@ -8,7 +8,7 @@ MODULE = 'Rattle.em_gram.'
 TREE = 'Rattle.em_syntax.specs.declared.tree.'
 # A fold's arguments: the enums as they stand in the source, then the structs by alphabet. The name of the fold, its
 # step, and what it gives.
-E, Q, S = 'Expr', '(Bool → Spelling)', 'Spelling'
+E, Q, S, O = 'Expr', '(Bool → Spelling)', 'Spelling', '(Option Expr)'
 TYPES = [
     ('Command', 'command_pattern', 'command', E), ('Compound', 'compound_pattern', 'compound', E),
     ('WordWhat', 'what_spelled_as', 'what', Q), ('AndOr', 'and_or_pattern', 'and_or', E),
@@ -16,7 +16,7 @@ TYPES = [
     ('Case', 'case_pattern', 'case', E), ('For', 'for_pattern', 'for', E), ('If', 'if_pattern', 'if', E),
     ('Item', 'item_pattern', 'item', E), ('Joined', 'joined_pattern', 'joined', E), ('Loop', 'loop_pattern', 'loop', E),
     ('Pipeline', 'pipeline_pattern', 'pipeline', E), ('Redirect', 'redirect_pattern', 'redirect', E),
-    ('Script', 'script_pattern', 'script', E), ('Simple', 'simple_pattern', 'simple', E),
+    ('Script', 'script_listing', 'script', O), ('Simple', 'simple_pattern', 'simple', E),
     ('Value', 'value_spelled_as', 'value', Q), ('Word', 'word_spelling', 'word', S),
     ('WordPiece', 'piece_spelling', 'piece', S),
 ]
@@ -24,6 +24,9 @@ FOLD = {t: f for t, f, _, _ in TYPES}
 STEP = {t: s for t, _, s, _ in TYPES}
 ARGS = ' '.join(r for _, _, _, r in TYPES) + ' ' + ' '.join(s + '_step' for _, _, s, _ in TYPES)
 UNFOLD = 'unfolding ' + ' '.join(f for _, f, _, _ in TYPES) + '\n'
+
+# The folds of what an Option holds, as they are written in terms of its parts.
+HELD = {'Script': ('script_pattern', 'option_map some_list (%s)'), 'Word': ('word_spelling', '%s')}
 
 # What a struct's tree is spelled as, in terms of its fields.
 OPTION = {'If': ('other', 'Script'), 'Item': ('body', 'Script'), 'Value': ('arg', 'Word')}
@@ -34,7 +37,7 @@ STRUCTS = [
     ('Pipeline', [('not', 'Bool'), ('stages', 'Vec Command _')],
      'cond {not} (reserved Bang) empty ⨾ staged (map command_pattern {stages}.items)'),
     ('Simple', [('assigned', 'Vec Assigned _'), ('words', 'Vec Word _'), ('redirects', 'Vec Redirect _')],
-     'mixed (map assigned_pattern {assigned}.items ++ words_spelled (map word_spelling {words}.items)) (map redirect_pattern {redirects}.items)'),
+     'simple_spelled (map assigned_pattern {assigned}.items) (map word_spelling {words}.items) (map redirect_pattern {redirects}.items)'),
     ('Assigned', [('name', 'List ℕ'), ('value', 'Word')], 'assigned_spelled {name} (word_spelling {value})'),
     ('Redirect', [('fd', 'ℕ'), ('kind', 'RedirectKind'), ('target', 'Word')], 'redirect_spelled {kind} {fd} (word_spelling {target})'),
     ('If', [('branches', 'Vec Branch _'), ('other', 'Option Script')],
@@ -52,8 +55,6 @@ STRUCTS = [
     ('WordPiece', [('quoted', 'Bool'), ('what', 'WordWhat')], 'what_spelled_as {what} {quoted}'),
     ('Value', [('name', 'List ℕ'), ('form', 'List ℕ'), ('arg', 'Option Word')], 'value_spelling {name} {form} (OPTION)'),
 ]
-# Structs whose parts are looked at, too.
-LOOKED_AT = ['Word', 'WordPiece', 'Value']
 VARIANTS = [
     ('Command', 'Simple', '(x : Simple)', 'x', 'simple_pattern x'),
     ('Command', 'Compound', '(x : Compound) (rs : Vec Redirect _)', 'x rs', 'compound_pattern x ⨾ all (map redirect_pattern rs.items)'),
@@ -62,12 +63,22 @@ VARIANTS = [
     ('Compound', 'If', '(x : If)', 'x', 'if_pattern x'), ('Compound', 'Loop', '(x : Loop)', 'x', 'loop_pattern x'),
     ('Compound', 'For', '(x : For)', 'x', 'for_pattern x'), ('Compound', 'Case', '(x : Case)', 'x', 'case_pattern x'),
     ('WordWhat', 'Bytes', '(t : List ℕ)', 't', 'bytes_spelling t'), ('WordWhat', 'Value', '(x : Value)', 'x', 'value_spelled_as x'),
-    ('WordWhat', 'Output', '(x : Script)', 'x', 'output_spelling (script_pattern x)'),
+    ('WordWhat', 'Output', '(x : Script)', 'x', 'output_spelling (script_listing x)'),
 ]
 
 
+BEHIND = '''
+-- a script that has commands; one that may have none
+abbrev pub script_pattern : ScriptTree → Expr
+script_pattern s = some_list (script_listing s)
+
+abbrev pub body_pattern : ScriptTree → Expr
+body_pattern s = body_of (script_listing s)
+'''
+
+
 def folds():
-    return ''.join('\nunfoldable pub %s : %sTree → %s\n%s = fold-%s %s\n' % (f, t, r.strip('()'), f, t, ARGS) for t, f, _, r in TYPES)
+    return ''.join('\nunfoldable pub %s : %sTree → %s\n%s = fold-%s %s\n' % (f, t, r.strip('()'), f, t, ARGS) for t, f, _, r in TYPES) + BEHIND
 
 
 def head():
@@ -83,7 +94,7 @@ use Rattle.em_gram.specs.Kinds.{kinds}
 use Rattle.em_gram.specs.Shell.{Expr, key, newlines, sequential, bare, reserved}
 use Rattle.em_gram.specs.declared.kind.Kind.TheVariants.{Bang, If as If_, Then, Fi, Until, While, For as For_, In, Case as Case_, Esac, LeftBrace, RightBrace, LeftParen, RightParen, AndIf, OrIf}
 use Rattle.em_syntax.specs.declared.tree.RedirectKind.{RedirectKind}
-use Rattle.em_gram.specs.Patterns.{Spelling, of_pieces, bytes_spelling, output_spelling, value_spelling, any_word, name_spelled, assigned_spelled, redirect_spelled, mixed, words_spelled, list_of, block_of, do_of, staged, else_of, branches_of, body_of, patterns_of, items_of}
+use Rattle.em_gram.specs.Patterns.{script_pattern, Spelling, of_pieces, bytes_spelling, output_spelling, value_spelling, any_word, name_spelled, assigned_spelled, redirect_spelled, simple_spelled, some_list, list_of, block_of, do_of, staged, else_of, branches_of, body_of, patterns_of, items_of}
 '''
     s += 'use %sspecs.Patterns.{%s}\nuse %sspecs.Patterns.{%s}\n' % (MODULE, steps, MODULE, names)
     s += 'use %sCommand.TheOpen.{Command-F, Compound-F, WordWhat-F}\n' % TREE
@@ -93,8 +104,7 @@ use Rattle.em_gram.specs.Patterns.{Spelling, of_pieces, bytes_spelling, output_s
         s += 'use %s%s.{%s, fold-roll-%s}\n' % (TREE, t, t, t)
         s += 'use %s%s.TheVariants.{%s, %s}\n' % (TREE, t, ', '.join('%s as the-%s' % (v, v) for v in vs), ', '.join('rolls-' + v for v in vs))
     for t, _, _ in STRUCTS:
-        looked = ', out-%s, fold_out-%s' % (t, t) if t in LOOKED_AT else ''
-        s += 'use %s%s.{%s, roll-%s, fold-roll-%s%s}\n' % (TREE, t, t, t, t, looked)
+        s += 'use %s%s.{%s, roll-%s, fold-roll-%s, out-%s, fold_out-%s}\n' % (TREE, t, t, t, t, t, t)
     return s
 
 
@@ -103,8 +113,9 @@ def options():
     for t, shape in (('Script', 'If-other'), ('Word', 'Value-arg')):
         kind = next(r for n, _, _, r in TYPES if n == t)
         n = STEP[t]
-        s += '\n%s_option : (o : Option %s) → (former-%s).map %s %s %s o ≡ option_map %s o\n%s_option None = refl\n%s_option (Some x) = refl\n' % (
-            n, t, shape, t, kind, FOLD[t], FOLD[t], n, n)
+        made, seen = HELD[t]
+        s += '\n%s_option : (o : Option %s) → %s ≡ option_map %s o\n%s_option None = refl\n%s_option (Some x) = refl\n' % (
+            n, t, seen % ('(former-%s).map %s %s %s o' % (shape, t, kind, FOLD[t])), made, n, n)
     return s
 
 
@@ -114,7 +125,7 @@ def option_step(t, text, of):
         return text, ''
     field, inner = OPTION[t]
     body = text.replace('OPTION', 'z')
-    return text.replace('OPTION', 'option_map %s %s' % (FOLD[inner], of)), ' ∙ ap (λ z. %s) (%s_option %s)' % (body, STEP[inner], of)
+    return text.replace('OPTION', 'option_map %s %s' % (HELD[inner][0], of)), ' ∙ ap (λ z. %s) (%s_option %s)' % (body, STEP[inner], of)
 
 
 def equations():
@@ -129,10 +140,9 @@ def equations():
         binders = ' '.join('(%s : %s)' % (made[f], ty) for f, ty in fields)
         s += '\npub %s_made : %s → %s (roll-%s (record { %s })) ≡ (%s)\n%s%s_made %s = fold-roll-%s %s (record { %s })%s\n' % (
             name, binders, fold, t, record, text, UNFOLD, name, ' '.join(made[f] for f, _ in fields), t, ARGS, record, tail)
-        if t in LOOKED_AT:
-            part = {f: '(out-%s d).%s' % (t, f) for f, _ in fields}
-            text, tail = option_step(t, rhs.format(**part), '(out-%s d).%s' % (t, OPTION[t][0]) if t in OPTION else '')
-            s += '\npub %s_is : (d : %s) → %s d ≡ (%s)\n%s%s_is d = fold_out-%s %s d%s\n' % (name, t, fold, text, UNFOLD, name, t, ARGS, tail)
+        part = {f: '(out-%s d).%s' % (t, f) for f, _ in fields}
+        text, tail = option_step(t, rhs.format(**part), '(out-%s d).%s' % (t, OPTION[t][0]) if t in OPTION else '')
+        s += '\npub %s_is : (d : %s) → %s d ≡ (%s)\n%s%s_is d = fold_out-%s %s d%s\n' % (name, t, fold, text, UNFOLD, name, t, ARGS, tail)
     for t, v, binders, args, rhs in VARIANTS:
         fold, name = FOLD[t], STEP[t] + '_' + v
         s += '\npub %s : %s → %s (the-%s %s) ≡ (%s)\n%s%s %s = ap %s (sym (rolls-%s %s)) ∙ fold-roll-%s %s (%s-F.%s %s)\n' % (

@@ -1,13 +1,15 @@
 -- Parts of the grammar that the tree spells in another form.
-use Rattle.std.proofs.Common.{◌≡◌, ℕ, Bool, true, false, cond, List, [], ◌∷◌, map, inl, inr, refl, ap, sym}
-use Rattle.em_grammar.specs.Production.{Production, one, many, empty, ◌⨾◌, ◌∣◌}
+use Rattle.std.proofs.Common.{◌≡◌, ℕ, Bool, true, false, ◌<◌, cond, List, [], ◌∷◌, ◌++◌, length, map, inl, inr, refl, ap, sym, arith}
+use Rattle.std.proofs.lemmas.List.{length-map}
+use Rattle.em_grammar.specs.Production.{Production, one, many, empty, last, ◌⨾◌, ◌∣◌}
 use Rattle.em_grammar.specs.Machine.{first_set}
 use Rattle.em_grammar.specs.Gives.{begins_with, Spells, Reads, all}
-use Rattle.em_grammar.proofs.Giving.{left_on, right_on}
+use Rattle.em_grammar.proofs.Giving.{left_on, right_on, spell_then}
+use Rattle.em_lexeme.specs.declared.lexeme.Lexeme.{Lexeme}
 use Rattle.em_lexeme.specs.declared.lexeme.What.{What}
 use Rattle.em_gram.specs.Shell.{shell, Expr, key, word, word_of, first_pattern, item_end}
-use Rattle.em_gram.specs.Kinds.{kinds, words_but_esac}
-use Rattle.em_gram.specs.Patterns.{Spelling, any_word, word_spelled, word_spelling, assigned_pattern, simple_pattern, operator_spelled, is_duplicate, digit_spelled, target_spelled, first_pattern_of, row, items_of}
+use Rattle.em_gram.specs.Kinds.{kinds, words, words_but_esac, reserved_words, whats}
+use Rattle.em_gram.specs.Patterns.{Spelling, any_word, word_spelled, word_spelling, assigned_pattern, redirect_pattern, simple_pattern, mixed, words_spelled, some_parts, operator_spelled, is_duplicate, digit_spelled, target_spelled, first_pattern_of, row, items_of}
 use Rattle.em_gram.specs.declared.kind.Kind.TheVariants.{LeftParen}
 use Rattle.em_syntax.specs.declared.tree.RedirectKind.{RedirectKind}
 use Rattle.em_syntax.specs.declared.tree.Word.{Word}
@@ -39,5 +41,34 @@ first_left p b h = record { spells = inl h.spells; goes = (left_on shell b h).go
 pub first_right : {left : ℕ} {ts us : List What} (p : Spelling) → begins_with shell ts (first_set shell.list_first (key LeftParen ⨾ word)) ≡ false → Reads shell left (word_of words_but_esac) ts (word_spelled words_but_esac p) us → Reads shell left first_pattern ts (first_pattern_of p) us
 first_right p b h = record { spells = inr h.spells; goes = (right_on shell refl b h).goes }
 
-pub simple_spelled : (a : Vec Assigned _) (ws : Vec Word _) (rs : Vec Redirect _) (ts us : List What) → Spells shell (so_far (map assigned_pattern a.items) ws.items rs.items) ts us → Spells shell (simple_pattern (roll-Simple (record { assigned = a; words = ws; redirects = rs }))) ts us
-simple_spelled a ws rs ts us h = rw (simple_made a ws rs) h
+-- simple commands
+simple_by : (a : Vec Assigned _) (ws : Vec Word _) (rs : Vec Redirect _) (ts us : List What) → begins_with shell ts reserved_words ≡ false → begins_with shell us words ≡ false →
+    Spells shell (some_parts (map assigned_pattern a.items ++ words_spelled (map word_spelling ws.items)) (map redirect_pattern rs.items)) ts us → Spells shell (simple_pattern (roll-Simple (record { assigned = a; words = ws; redirects = rs }))) ts us
+simple_by a ws rs ts us b l h =
+    let p = some_parts (map assigned_pattern a.items ++ words_spelled (map word_spelling ws.items)) (map redirect_pattern rs.items) in
+    rw (simple_made a ws rs) (b, spell_then shell p (last words) ts us us h (l, refl))
+
+with_words : (as' : List Expr) (ws : List Word) (rs : List Expr) (ts us : List What) → 0 < length ws → Spells shell (mixed (as' ++ words_spelled (map word_spelling ws)) rs) ts us → Spells shell (some_parts (as' ++ words_spelled (map word_spelling ws)) rs) ts us
+with_words [] [] rs ts us n h = absurd (omega arith)
+with_words [] (w ∷ ws) rs ts us n h = h
+with_words (a ∷ as') ws rs ts us n h = h
+
+pub simple_words : (a : Vec Assigned _) (ws : Vec Word _) (rs : Vec Redirect _) (ts us : List What) → begins_with shell ts reserved_words ≡ false → begins_with shell us words ≡ false → 0 < length ws.items →
+    Spells shell (so_far (map assigned_pattern a.items) ws.items rs.items) ts us → Spells shell (simple_pattern (roll-Simple (record { assigned = a; words = ws; redirects = rs }))) ts us
+simple_words a ws rs ts us b l n h = simple_by a ws rs ts us b l (with_words (map assigned_pattern a.items) ws.items (map redirect_pattern rs.items) ts us n h)
+
+-- what took a token has a part
+with_parts : (ps rs : List Expr) (ts us : List What) → length us < length ts → Spells shell (mixed ps rs) ts us → Spells shell (some_parts ps rs) ts us
+with_parts [] [] ts us l h = absurd (let k : length ts ≡ length us = ap length h in omega (arith, k, l))
+with_parts [] (r ∷ rs) ts us l h = h
+with_parts (p ∷ ps) rs ts us l h = h
+
+pub simple_behind : (a : Vec Assigned _) (ws : Vec Word _) (rs : Vec Redirect _) (ts us : List What) → begins_with shell ts reserved_words ≡ false → begins_with shell us words ≡ false → length us < length ts →
+    Spells shell (so_far (map assigned_pattern a.items) ws.items rs.items) ts us → Spells shell (simple_pattern (roll-Simple (record { assigned = a; words = ws; redirects = rs }))) ts us
+simple_behind a ws rs ts us b l n h = simple_by a ws rs ts us b l (with_parts (map assigned_pattern a.items ++ words_spelled (map word_spelling ws.items)) (map redirect_pattern rs.items) ts us n h)
+
+pub shorter_whats : (xs ys : List Lexeme) → length xs < length ys → length (whats xs) < length (whats ys)
+shorter_whats xs ys l =
+    let a : length (whats xs) ≡ length xs = length-map xs (λ l. l.what) in
+    let b : length (whats ys) ≡ length ys = length-map ys (λ l. l.what) in
+    omega (arith, a, b, l)

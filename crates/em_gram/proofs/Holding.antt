@@ -15,7 +15,7 @@ use Rattle.em_lexeme.specs.declared.lexeme.What.{What}
 use Rattle.em_lexeme.specs.declared.lexeme.What.TheVariants as What
 use Rattle.em_gram.specs.Kinds.{kinds, whats, class_of}
 use Rattle.em_gram.specs.Shell.{shell, Expr, key, newlines}
-use Rattle.em_gram.specs.Patterns.{Spelling, digit_of, only_digit, bytes_spelled, piece_spelling, script_pattern, body_of, number_of, number_spelled, usual, target_spelled, redirect_pattern, word_spelling, output_spelling, list_of, never, and_or_pattern}
+use Rattle.em_gram.specs.Patterns.{Spelling, digit_of, only_digit, bytes_spelled, piece_spelling, script_listing, script_pattern, body_pattern, some_list, body_of, number_of, number_spelled, usual, target_spelled, redirect_pattern, word_spelling, output_spelling, list_of, never, and_or_pattern}
 use Rattle.em_gram.specs.Nesting.{piece_pattern, head_pattern}
 use Rattle.em_gram.specs.declared.kind.Kind.TheVariants.{Bytes, Assigning, Value, ArgumentStart, SubstitutionStart, SubstitutionEnd, Number}
 use Rattle.em_syntax.specs.declared.tree.RedirectKind.{RedirectKind}
@@ -28,6 +28,7 @@ use Rattle.em_syntax.specs.declared.tree.WordWhat.TheVariants as WordWhat
 use Rattle.em_syntax.specs.declared.tree.Value.{roll-Value}
 use Rattle.em_gram.specs.declared.nest.Head.{Head}
 use Rattle.em_gram.proofs.Spellings.{piece_made, what_Bytes, what_Value, what_Output, value_made, script_made, word_made, redirect_made}
+use Rattle.em_grammar.proofs.Giving.{spell_front}
 use Rattle.em_gram.proofs.Tokens.{assigning_is, small_number, descends_this}
 
 pub bytes_made : (q : Bool) (text : List ℕ) → piece_pattern (roll-WordPiece (record { quoted = q; what = WordWhat.Bytes text })) ≡ this (kinds (Bytes ∷ Assigning ∷ [])) (What.Bytes q text)
@@ -62,14 +63,36 @@ number_read left ts rest w n i h = rw (← i) h
 pub small_at : (w : What) (n : ℕ) → w ≡ What.Number n → is_among (class_of w) (kinds (Number ∷ [])) ≡ true → n ≤ 9
 small_at w n i m = small_number n (rw i at m)
 
-pub output_made : (q : Bool) (s : Script) → piece_pattern (roll-WordPiece (record { quoted = q; what = WordWhat.Output s })) ≡ (this (kinds (SubstitutionStart ∷ [])) (What.SubstitutionStart q) ⨾ newlines ⨾ script_pattern s ⨾ key SubstitutionEnd)
+pub output_made : (q : Bool) (s : Script) → piece_pattern (roll-WordPiece (record { quoted = q; what = WordWhat.Output s })) ≡ (this (kinds (SubstitutionStart ∷ [])) (What.SubstitutionStart q) ⨾ newlines ⨾ body_pattern s ⨾ key SubstitutionEnd)
 output_made q s = ap (λ p. p.pattern) (piece_made q (WordWhat.Output s) ∙ ap (λ g. g q) (what_Output s))
 
-pub output_none : (q : Bool) (s : Script) → script_pattern s ≡ empty → piece_pattern (roll-WordPiece (record { quoted = q; what = WordWhat.Output s })) ≡ (this (kinds (SubstitutionStart ∷ [])) (What.SubstitutionStart q) ⨾ newlines ⨾ empty ⨾ key SubstitutionEnd)
-output_none q s e = output_made q s ∙ ap (λ p. this (kinds (SubstitutionStart ∷ [])) (What.SubstitutionStart q) ⨾ newlines ⨾ p ⨾ key SubstitutionEnd) e
+-- where there are commands, they may be there
+pub script_body : (s : Script) (vs rest : List What) → Spells shell (script_pattern s) vs rest → Spells shell (body_pattern s) vs rest
+script_body s vs rest h = at (script_listing s) h
+  where
+    at : (o : Option Expr) → Spells shell (some_list o) vs rest → Spells shell (body_of o) vs rest
+    at None h = absurd (let k = h.1 in cc)
+    at (Some a) h = h
 
-pub no_commands_is : (xs : Vec AndOr _) → xs.items ≡ [] → script_pattern (roll-Script (record { list = xs })) ≡ empty
-no_commands_is xs e = script_made xs ∙ ap (λ l. list_of (map and_or_pattern l)) e
+pub output_some : (q : Bool) (s : Script) (us rest : List What) → Spells shell (this (kinds (SubstitutionStart ∷ [])) (What.SubstitutionStart q) ⨾ newlines ⨾ script_pattern s ⨾ key SubstitutionEnd) us rest →
+    Spells shell (piece_pattern (roll-WordPiece (record { quoted = q; what = WordWhat.Output s }))) us rest
+output_some q s us rest h =
+    let B = this (kinds (SubstitutionStart ∷ [])) (What.SubstitutionStart q) in
+    let E = key SubstitutionEnd in
+    rw (output_made q s)
+    (spell_front shell B (newlines ⨾ script_pattern s ⨾ E) (newlines ⨾ body_pattern s ⨾ E) us rest rest
+    (λ vs i. spell_front shell newlines (script_pattern s ⨾ E) (body_pattern s ⨾ E) vs rest rest (λ ws j. at (script_listing s) ws j) i) h)
+  where
+    at : (o : Option Expr) (ws : List What) → Spells shell (some_list o ⨾ key SubstitutionEnd) ws rest → Spells shell (body_of o ⨾ key SubstitutionEnd) ws rest
+    at None ws j = absurd (let k = j.1 in cc)
+    at (Some a) ws j = j
+
+pub output_none : (q : Bool) (s : Script) (us rest : List What) → body_pattern s ≡ empty → Spells shell (this (kinds (SubstitutionStart ∷ [])) (What.SubstitutionStart q) ⨾ newlines ⨾ empty ⨾ key SubstitutionEnd) us rest →
+    Spells shell (piece_pattern (roll-WordPiece (record { quoted = q; what = WordWhat.Output s }))) us rest
+output_none q s us rest e h = rw (output_made q s, e) h
+
+pub no_commands_is : (xs : Vec AndOr _) → xs.items ≡ [] → body_pattern (roll-Script (record { list = xs })) ≡ empty
+no_commands_is xs e = ap body_of (script_made xs ∙ ap (λ l. list_of (map and_or_pattern l)) e)
 
 digit_is : (n : ℕ) → digit_of false ((48 + n) ∷ []) ≡ Some n
 digit_is n =

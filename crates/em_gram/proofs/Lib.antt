@@ -4,6 +4,13 @@ pub mod Nested
 pub mod Tokens
 pub mod Parts
 pub mod Holding
+pub mod Starting
 pub mod Choices
 pub mod Mixed
 pub mod Whole
+pub mod Shapes
+pub mod Turns
+pub mod Alike
+pub mod Firsts
+pub mod Only
+pub mod Verdicts

@@ -192,7 +192,7 @@ moves_exit {left = left} {e = e} {f = f} {ts = ts} {us = us} m o h = at m o h
     at m None h = tt
     at m (Some x) h = record { stops = λ S. m.goes S ∙ h.stops S }
 
-last_of : (ts : List What) → begins_with shell ts (first_set shell.list_first argument) ≡ false → begins_with shell ts words ≡ false
+pub last_of : (ts : List What) → begins_with shell ts (first_set shell.list_first argument) ≡ false → begins_with shell ts words ≡ false
 last_of [] b = refl
 last_of (t ∷ ts) b = at (is_among (class_of t) words) refl
   where

@@ -13,7 +13,7 @@ use Rattle.em_lexeme.specs.declared.lexeme.What.{What}
 use Rattle.em_gram.specs.declared.stop.Stop.{Stop}
 use Rattle.em_gram.specs.Kinds.{kinds, whats}
 use Rattle.em_gram.specs.Shell.{shell, Expr, list, newlines, sequential, separator}
-use Rattle.em_gram.specs.Patterns.{row, list_of, items_of, patterns_of, first_pattern_of, pattern_behind, Spelling}
+use Rattle.em_gram.specs.Patterns.{row, list_of, some_list, items_of, patterns_of, first_pattern_of, pattern_behind, Spelling}
 use Rattle.em_gram.specs.Seen.{fault_of}
 use Rattle.em_gram.proofs.Checked.{shell_firm}
 
@@ -75,7 +75,7 @@ end_row {sep = sep} {ts = ts} {us = us} {vs = vs} {p = p} t m b y n c = last_row
 pub no_row : (sep : Expr) (ts us : List What) → Spells shell (row sep []) ts us → ⊥
 no_row sep ts us h = let k = h.1 in cc
 
-pub listed : {left : ℕ} {e : Expr} {ts us : List What} (ps : List Expr) → Reads shell left e ts (row sequential ps) us → Reads shell left e ts (list_of ps) us
+pub listed : {left : ℕ} {e : Expr} {ts us : List What} (ps : List Expr) → Reads shell left e ts (row sequential ps) us → Reads shell left e ts (some_list (list_of ps)) us
 listed {ts = ts} {us = us} [] h = absurd (no_row sequential ts us h.spells)
 listed (p ∷ ps) h = h
 

@@ -12,7 +12,7 @@ use Rattle.em_lexeme.specs.declared.lexeme.What.{What}
 use Rattle.em_lexeme.specs.declared.no.LexNo.{LexNo}
 use Rattle.em_gram.specs.Kinds.{class_of, whats}
 use Rattle.em_gram.specs.Shell.{shell, Expr, list, line, newlines}
-use Rattle.em_gram.specs.Patterns.{script_pattern}
+use Rattle.em_gram.specs.Patterns.{body_pattern}
 use Rattle.em_syntax.specs.declared.tree.Script.{Script}
 use Rattle.em_gram.specs.declared.no.GramNo.{GramNo}
 use Rattle.em_lexeme.specs.declared.lexeme.Lexed.{Lexed}
@@ -45,7 +45,7 @@ first_at items rest stop len back c n m here i j h k r =
     let l : m ≡ length f.before - back = j ∙ ap (λ x. x - back) (i ∙ sym (before_length items rest f.before f.whole)) in
     record { rest = whats rest; first = f; counts = k; place = h ∙ ap (λ x. place_at items x len) l }
 
-real : (k : ℕ) (us : List What) → ends_with (suc k) 0 us ≡ false
+pub real : (k : ℕ) (us : List What) → ends_with (suc k) 0 us ≡ false
 real k us = none (0 == suc k) refl
   where
     none : (b : Bool) → (0 == suc k) ≡ b → (b && Rattle.em_gram.specs.Line.may_be 0 us) ≡ false
@@ -80,11 +80,11 @@ nothing_left : (rest : List Lexeme) → (length rest == 0) ≡ true → rest ≡
 nothing_left [] e = refl
 nothing_left (t ∷ rest) e = absurd (let k : length (t ∷ rest) ≡ 0 = eqb-true _ _ e in omega arith)
 
-pub script_is : (items rest : List Lexeme) (stop : Option LexNo) (script : Script) → stop ≡ None → (length rest == 0) ≡ true → Reads shell 64 line (whats items) (newlines ⨾ script_pattern script) (whats rest) → IsScript (lexed_of items stop) script
+pub script_is : (items rest : List Lexeme) (stop : Option LexNo) (script : Script) → stop ≡ None → (length rest == 0) ≡ true → Reads shell 64 line (whats items) (newlines ⨾ body_pattern script) (whats rest) → IsScript (lexed_of items stop) script
 script_is items rest stop script n e h = at rest (nothing_left rest e) h
   where
-    at : (us : List Lexeme) → us ≡ [] → Reads shell 64 line (whats items) (newlines ⨾ script_pattern script) (whats us) → IsScript (lexed_of items stop) script
-    at [] i k = record { read = n; line_is = line_is (whats items) (newlines ⨾ script_pattern script) k; spells = k.spells }
+    at : (us : List Lexeme) → us ≡ [] → Reads shell 64 line (whats items) (newlines ⨾ body_pattern script) (whats us) → IsScript (lexed_of items stop) script
+    at [] i k = record { read = n; line_is = line_is (whats items) (newlines ⨾ body_pattern script) k; spells = k.spells }
     at (u ∷ us) i k = absurd cc
 
 pub lexed_same : (lexed : Lexed) (items : List Lexeme) (len : ℕ) (found : GramNo) → items ≡ lexed.items → IsFault (lexed_of items lexed.stop) len found → IsFault lexed len found

@@ -121,9 +121,12 @@ class_of what = code_of (kind_of what)
 abbrev pub whats : List Lexeme → List What
 whats ls = map (λ l. l.what) ls
 
--- what begins a name, a command's word, any word but an assignment, any word, and any word but `esac`
+-- what begins a reserved word, a name, a command's word, any word but `esac`, and any word
 abbrev pub reserved_names : List Kind
 reserved_names = If ∷ Then ∷ Elif ∷ Else ∷ Fi ∷ While ∷ Until ∷ Do ∷ Done ∷ For ∷ In ∷ Case ∷ []
+
+abbrev pub reserved_words : List ℕ
+reserved_words = kinds (Bang ∷ LeftBrace ∷ RightBrace ∷ Esac ∷ reserved_names)
 
 abbrev pub names : List ℕ
 names = kinds (Name ∷ Esac ∷ reserved_names)

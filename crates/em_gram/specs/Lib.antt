@@ -5,3 +5,4 @@ pub mod Nesting
 pub mod Seen
 pub mod Simple
 pub mod Line
+pub mod Same

@@ -12,7 +12,7 @@ use Rattle.em_lexeme.specs.declared.no.LexNo.{LexNo}
 use Rattle.em_lexeme.specs.declared.no.LexNo.TheVariants as LexNo
 use Rattle.em_gram.specs.Kinds.{class_of, kinds, whats}
 use Rattle.em_gram.specs.Shell.{shell, list, line, newlines, background, function, positional}
-use Rattle.em_gram.specs.Patterns.{script_pattern}
+use Rattle.em_gram.specs.Patterns.{body_pattern}
 use Rattle.em_gram.specs.declared.kind.Kind.TheVariants.{RightParen}
 use Rattle.em_syntax.specs.declared.tree.Script.{Script}
 use Rattle.em_gram.specs.declared.no.GramNo.{GramNo}
@@ -26,7 +26,7 @@ IsLine whats = Is class_of list 64 line whats
 pub record IsScript (lexed : Lexed) (script : Script) : Type 0 where
   pub read : lexed.stop ≡ None
   pub line_is : IsLine (whats lexed.items)
-  pub spells : Spells shell (newlines ⨾ script_pattern script) (whats lexed.items) []
+  pub spells : Spells shell (newlines ⨾ body_pattern script) (whats lexed.items) []
 
 -- A line that is a line of the grammar but for a construct with which it ends. `name (` is a function where `)` follows.
 abbrev pub is_function : List What → Bool

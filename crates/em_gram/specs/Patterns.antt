@@ -1,10 +1,10 @@
 -- How each tree is spelled by lexemes: a fold, with a step for each part of the grammar. Words are spelled with the bytes and names that they hold.
-use Rattle.std.specs.Prelude.{ℕ, ◌-◌, ◌==◌, nat_le, Bool, true, false, List, [], ◌∷◌, ◌++◌, map, flat_map, Option, Some, None, cond}
-use Rattle.em_grammar.specs.Production.{Production, empty, one, this, ◌⨾◌, ◌∣◌, many, refused}
+use Rattle.std.specs.Prelude.{ℕ, ◌-◌, ◌==◌, nat_le, Bool, true, false, List, [], ◌∷◌, ◌++◌, map, Option, Some, None, option_map, cond}
+use Rattle.em_grammar.specs.Production.{Production, empty, one, this, ◌⨾◌, ◌∣◌, many, last, refused}
 use Rattle.em_grammar.specs.Gives.{all, parted}
 use Rattle.em_lexeme.specs.declared.lexeme.What.{What}
 use Rattle.em_lexeme.specs.declared.lexeme.What.TheVariants as What
-use Rattle.em_gram.specs.Kinds.{kinds, words, words_but_esac, command_words, names}
+use Rattle.em_gram.specs.Kinds.{kinds, words, words_but_esac, command_words, reserved_words, names}
 use Rattle.em_gram.specs.Shell.{Expr, key, newlines, sequential, bare, reserved, item_end}
 use Rattle.em_gram.specs.declared.kind.Kind.{Kind}
 use Rattle.em_gram.specs.declared.kind.Kind.TheVariants.{Name, Assignment, Bang, If, Then, Elif, Else, Fi, While, Until, Do, Done, For, In, Case, Esac, LeftBrace, RightBrace, WordEnd, Bytes, Assigning, Value, ArgumentStart, ArgumentEnd, SubstitutionStart, SubstitutionEnd, AndIf, OrIf, Pipe, LeftParen, RightParen, Number, Less, Great, DoubleGreat, GreatAnd}
@@ -36,11 +36,10 @@ abbrev pub never : Expr
 never = refused [] 0
 
 -- Words
--- what spells a word's pieces, or one of them; the digit that it is, where it is one unquoted digit; what spells the substitutions in it, from left to right
+-- what spells a word's pieces, or one of them; and the digit that it is, where it is one unquoted digit
 pub record Spelling : Type 0 where
   pub pattern : Expr
   pub digit : Option ℕ
-  pub outputs : List Expr
 
 abbrev pub digit_of : Bool → List ℕ → Option ℕ
 digit_of false (d ∷ []) = cond (nat_le 48 d) (Some (d - 48)) None
@@ -51,17 +50,26 @@ only_digit (p ∷ []) = p.digit
 only_digit _ = None
 
 abbrev pub of_pieces : List Spelling → Spelling
-of_pieces ps = record { pattern = all (map (λ p. p.pattern) ps); digit = only_digit ps; outputs = flat_map (λ p. p.outputs) ps }
+of_pieces ps = record { pattern = all (map (λ p. p.pattern) ps); digit = only_digit ps }
 
 abbrev pub bytes_spelling : List ℕ → Bool → Spelling
-bytes_spelling text quoted = record { pattern = this (kinds (Bytes ∷ Assigning ∷ [])) (What.Bytes quoted text); digit = digit_of quoted text; outputs = [] }
+bytes_spelling text quoted = record { pattern = this (kinds (Bytes ∷ Assigning ∷ [])) (What.Bytes quoted text); digit = digit_of quoted text }
 
-abbrev pub output_spelling : Expr → Bool → Spelling
-output_spelling a quoted = record { pattern = this (kinds (SubstitutionStart ∷ [])) (What.SubstitutionStart quoted) ⨾ newlines ⨾ a ⨾ key SubstitutionEnd; digit = None; outputs = a ∷ [] }
+-- a list, or none; a list
+abbrev pub body_of : Option Expr → Expr
+body_of None = empty
+body_of (Some a) = a
+
+abbrev pub some_list : Option Expr → Expr
+some_list None = never
+some_list (Some a) = a
+
+abbrev pub output_spelling : Option Expr → Bool → Spelling
+output_spelling a quoted = record { pattern = this (kinds (SubstitutionStart ∷ [])) (What.SubstitutionStart quoted) ⨾ newlines ⨾ body_of a ⨾ key SubstitutionEnd; digit = None }
 
 abbrev pub value_spelling : List ℕ → List ℕ → Option Spelling → Bool → Spelling
-value_spelling name form None quoted = record { pattern = this (kinds (Value ∷ [])) (What.Value quoted name form); digit = None; outputs = [] }
-value_spelling name form (Some arg) quoted = record { pattern = this (kinds (ArgumentStart ∷ [])) (What.ArgumentStart quoted name form) ⨾ arg.pattern ⨾ key ArgumentEnd; digit = None; outputs = arg.outputs }
+value_spelling name form None quoted = record { pattern = this (kinds (Value ∷ [])) (What.Value quoted name form); digit = None }
+value_spelling name form (Some arg) quoted = record { pattern = this (kinds (ArgumentStart ∷ [])) (What.ArgumentStart quoted name form) ⨾ arg.pattern ⨾ key ArgumentEnd; digit = None }
 
 -- a whole word, which begins with one of these
 abbrev pub word_spelled : List ℕ → Spelling → Expr
@@ -129,14 +137,23 @@ abbrev pub words_spelled : List Spelling → List Expr
 words_spelled [] = []
 words_spelled (w ∷ ws) = word_spelled command_words w ∷ map any_word ws
 
+abbrev pub some_parts : List Expr → List Expr → Expr
+some_parts [] [] = never
+some_parts ws rs = mixed ws rs
+
+-- at least one part; the first is no reserved word, and all words up to the next lexeme that is none belong to it
+abbrev pub simple_spelled : List Expr → List Spelling → List Expr → Expr
+simple_spelled assigned ws rs = last reserved_words ⨾ some_parts (assigned ++ words_spelled ws) rs ⨾ last words
+
 -- Lists
 -- a row of items with a separator between two and perhaps at the end
 abbrev pub row : Expr → List Expr → Expr
 row sep ps = parted sep ps ⨾ (sep ∣ empty)
 
-abbrev pub list_of : List Expr → Expr
-list_of [] = empty
-list_of (a ∷ as') = row sequential (a ∷ as')
+-- what a script is spelled as, if it has commands
+abbrev pub list_of : List Expr → Option Expr
+list_of [] = None
+list_of (a ∷ as') = Some (row sequential (a ∷ as'))
 
 abbrev pub block_of : Expr → Expr
 block_of a = newlines ⨾ a
@@ -154,10 +171,6 @@ else_of (Some a) = reserved Else ⨾ block_of a
 abbrev pub branches_of : List Expr → Expr
 branches_of bs = parted (reserved Elif) bs
 
-abbrev pub body_of : Option Expr → Expr
-body_of None = empty
-body_of (Some a) = a
-
 abbrev pub pattern_behind : Spelling → Expr
 pattern_behind p = (key Pipe ⨾ newlines) ⨾ any_word p
 
@@ -173,125 +186,132 @@ items_of [] = empty
 items_of (i ∷ is) = row item_end (i ∷ is)
 
 -- The steps
-abbrev pub command_step : Command-F Expr Expr (Bool → Spelling) Expr Expr Expr Expr Expr Expr Expr Expr Expr Expr Expr Expr Expr (Bool → Spelling) Spelling Spelling → Expr
+abbrev pub command_step : Command-F Expr Expr (Bool → Spelling) Expr Expr Expr Expr Expr Expr Expr Expr Expr Expr Expr (Option Expr) Expr (Bool → Spelling) Spelling Spelling → Expr
 command_step (Command-F.Simple s) = s
 command_step (Command-F.Compound c rs) = c ⨾ all rs.items
 
-abbrev pub compound_step : Compound-F Expr Expr (Bool → Spelling) Expr Expr Expr Expr Expr Expr Expr Expr Expr Expr Expr Expr Expr (Bool → Spelling) Spelling Spelling → Expr
-compound_step (Compound-F.Subshell a) = key LeftParen ⨾ block_of a ⨾ key RightParen
-compound_step (Compound-F.Group a) = key LeftBrace ⨾ bare ⨾ block_of a ⨾ reserved RightBrace
+abbrev pub compound_step : Compound-F Expr Expr (Bool → Spelling) Expr Expr Expr Expr Expr Expr Expr Expr Expr Expr Expr (Option Expr) Expr (Bool → Spelling) Spelling Spelling → Expr
+compound_step (Compound-F.Subshell a) = key LeftParen ⨾ block_of (some_list a) ⨾ key RightParen
+compound_step (Compound-F.Group a) = key LeftBrace ⨾ bare ⨾ block_of (some_list a) ⨾ reserved RightBrace
 compound_step (Compound-F.If a) = a
 compound_step (Compound-F.Loop a) = a
 compound_step (Compound-F.For a) = a
 compound_step (Compound-F.Case a) = a
 
-abbrev pub what_step : WordWhat-F Expr Expr (Bool → Spelling) Expr Expr Expr Expr Expr Expr Expr Expr Expr Expr Expr Expr Expr (Bool → Spelling) Spelling Spelling → Bool → Spelling
+abbrev pub what_step : WordWhat-F Expr Expr (Bool → Spelling) Expr Expr Expr Expr Expr Expr Expr Expr Expr Expr Expr (Option Expr) Expr (Bool → Spelling) Spelling Spelling → Bool → Spelling
 what_step (WordWhat-F.Bytes text) = bytes_spelling text
 what_step (WordWhat-F.Value v) = v
 what_step (WordWhat-F.Output a) = output_spelling a
 
-abbrev pub and_or_step : AndOr-F Expr Expr (Bool → Spelling) Expr Expr Expr Expr Expr Expr Expr Expr Expr Expr Expr Expr Expr (Bool → Spelling) Spelling Spelling → Expr
+abbrev pub and_or_step : AndOr-F Expr Expr (Bool → Spelling) Expr Expr Expr Expr Expr Expr Expr Expr Expr Expr Expr (Option Expr) Expr (Bool → Spelling) Spelling Spelling → Expr
 and_or_step a = a.first ⨾ all a.rest.items
 
-abbrev pub assigned_step : Assigned-F Expr Expr (Bool → Spelling) Expr Expr Expr Expr Expr Expr Expr Expr Expr Expr Expr Expr Expr (Bool → Spelling) Spelling Spelling → Expr
+abbrev pub assigned_step : Assigned-F Expr Expr (Bool → Spelling) Expr Expr Expr Expr Expr Expr Expr Expr Expr Expr Expr (Option Expr) Expr (Bool → Spelling) Spelling Spelling → Expr
 assigned_step a = assigned_spelled a.name a.value
 
-abbrev pub branch_step : Branch-F Expr Expr (Bool → Spelling) Expr Expr Expr Expr Expr Expr Expr Expr Expr Expr Expr Expr Expr (Bool → Spelling) Spelling Spelling → Expr
-branch_step b = block_of b.test ⨾ reserved Then ⨾ block_of b.body
+abbrev pub branch_step : Branch-F Expr Expr (Bool → Spelling) Expr Expr Expr Expr Expr Expr Expr Expr Expr Expr Expr (Option Expr) Expr (Bool → Spelling) Spelling Spelling → Expr
+branch_step b = block_of (some_list b.test) ⨾ reserved Then ⨾ block_of (some_list b.body)
 
-abbrev pub case_step : Case-F Expr Expr (Bool → Spelling) Expr Expr Expr Expr Expr Expr Expr Expr Expr Expr Expr Expr Expr (Bool → Spelling) Spelling Spelling → Expr
+abbrev pub case_step : Case-F Expr Expr (Bool → Spelling) Expr Expr Expr Expr Expr Expr Expr Expr Expr Expr Expr (Option Expr) Expr (Bool → Spelling) Spelling Spelling → Expr
 case_step c = key Case ⨾ bare ⨾ any_word c.word ⨾ reserved In ⨾ newlines ⨾ items_of c.items.items ⨾ reserved Esac
 
-abbrev pub for_step : For-F Expr Expr (Bool → Spelling) Expr Expr Expr Expr Expr Expr Expr Expr Expr Expr Expr Expr Expr (Bool → Spelling) Spelling Spelling → Expr
-for_step f = key For ⨾ bare ⨾ name_spelled f.name ⨾ reserved In ⨾ all (map any_word f.words.items) ⨾ sequential ⨾ do_of f.body
+abbrev pub for_step : For-F Expr Expr (Bool → Spelling) Expr Expr Expr Expr Expr Expr Expr Expr Expr Expr Expr (Option Expr) Expr (Bool → Spelling) Spelling Spelling → Expr
+for_step f = key For ⨾ bare ⨾ name_spelled f.name ⨾ reserved In ⨾ all (map any_word f.words.items) ⨾ sequential ⨾ do_of (some_list f.body)
 
-abbrev pub if_step : If-F Expr Expr (Bool → Spelling) Expr Expr Expr Expr Expr Expr Expr Expr Expr Expr Expr Expr Expr (Bool → Spelling) Spelling Spelling → Expr
-if_step i = key If ⨾ bare ⨾ branches_of i.branches.items ⨾ else_of i.other ⨾ reserved Fi
+abbrev pub if_step : If-F Expr Expr (Bool → Spelling) Expr Expr Expr Expr Expr Expr Expr Expr Expr Expr Expr (Option Expr) Expr (Bool → Spelling) Spelling Spelling → Expr
+if_step i = key If ⨾ bare ⨾ branches_of i.branches.items ⨾ else_of (option_map some_list i.other) ⨾ reserved Fi
 
-abbrev pub item_step : Item-F Expr Expr (Bool → Spelling) Expr Expr Expr Expr Expr Expr Expr Expr Expr Expr Expr Expr Expr (Bool → Spelling) Spelling Spelling → Expr
-item_step i = patterns_of i.patterns.items ⨾ key RightParen ⨾ newlines ⨾ body_of i.body
+abbrev pub item_step : Item-F Expr Expr (Bool → Spelling) Expr Expr Expr Expr Expr Expr Expr Expr Expr Expr Expr (Option Expr) Expr (Bool → Spelling) Spelling Spelling → Expr
+item_step i = patterns_of i.patterns.items ⨾ key RightParen ⨾ newlines ⨾ body_of (option_map some_list i.body)
 
-abbrev pub joined_step : Joined-F Expr Expr (Bool → Spelling) Expr Expr Expr Expr Expr Expr Expr Expr Expr Expr Expr Expr Expr (Bool → Spelling) Spelling Spelling → Expr
+abbrev pub joined_step : Joined-F Expr Expr (Bool → Spelling) Expr Expr Expr Expr Expr Expr Expr Expr Expr Expr Expr (Option Expr) Expr (Bool → Spelling) Spelling Spelling → Expr
 joined_step j = key (cond j.and AndIf OrIf) ⨾ newlines ⨾ j.next
 
-abbrev pub loop_step : Loop-F Expr Expr (Bool → Spelling) Expr Expr Expr Expr Expr Expr Expr Expr Expr Expr Expr Expr Expr (Bool → Spelling) Spelling Spelling → Expr
-loop_step l = key (cond l.until Until While) ⨾ bare ⨾ block_of l.test ⨾ do_of l.body
+abbrev pub loop_step : Loop-F Expr Expr (Bool → Spelling) Expr Expr Expr Expr Expr Expr Expr Expr Expr Expr Expr (Option Expr) Expr (Bool → Spelling) Spelling Spelling → Expr
+loop_step l = key (cond l.until Until While) ⨾ bare ⨾ block_of (some_list l.test) ⨾ do_of (some_list l.body)
 
-abbrev pub pipeline_step : Pipeline-F Expr Expr (Bool → Spelling) Expr Expr Expr Expr Expr Expr Expr Expr Expr Expr Expr Expr Expr (Bool → Spelling) Spelling Spelling → Expr
+abbrev pub pipeline_step : Pipeline-F Expr Expr (Bool → Spelling) Expr Expr Expr Expr Expr Expr Expr Expr Expr Expr Expr (Option Expr) Expr (Bool → Spelling) Spelling Spelling → Expr
 pipeline_step p = cond p.not (reserved Bang) empty ⨾ staged p.stages.items
 
-abbrev pub redirect_step : Redirect-F Expr Expr (Bool → Spelling) Expr Expr Expr Expr Expr Expr Expr Expr Expr Expr Expr Expr Expr (Bool → Spelling) Spelling Spelling → Expr
+abbrev pub redirect_step : Redirect-F Expr Expr (Bool → Spelling) Expr Expr Expr Expr Expr Expr Expr Expr Expr Expr Expr (Option Expr) Expr (Bool → Spelling) Spelling Spelling → Expr
 redirect_step r = redirect_spelled r.kind r.fd r.target
 
-abbrev pub script_step : Script-F Expr Expr (Bool → Spelling) Expr Expr Expr Expr Expr Expr Expr Expr Expr Expr Expr Expr Expr (Bool → Spelling) Spelling Spelling → Expr
+abbrev pub script_step : Script-F Expr Expr (Bool → Spelling) Expr Expr Expr Expr Expr Expr Expr Expr Expr Expr Expr (Option Expr) Expr (Bool → Spelling) Spelling Spelling → Option Expr
 script_step s = list_of s.list.items
 
-abbrev pub simple_step : Simple-F Expr Expr (Bool → Spelling) Expr Expr Expr Expr Expr Expr Expr Expr Expr Expr Expr Expr Expr (Bool → Spelling) Spelling Spelling → Expr
-simple_step s = mixed (s.assigned.items ++ words_spelled s.words.items) s.redirects.items
+abbrev pub simple_step : Simple-F Expr Expr (Bool → Spelling) Expr Expr Expr Expr Expr Expr Expr Expr Expr Expr Expr (Option Expr) Expr (Bool → Spelling) Spelling Spelling → Expr
+simple_step s = simple_spelled s.assigned.items s.words.items s.redirects.items
 
-abbrev pub value_step : Value-F Expr Expr (Bool → Spelling) Expr Expr Expr Expr Expr Expr Expr Expr Expr Expr Expr Expr Expr (Bool → Spelling) Spelling Spelling → Bool → Spelling
+abbrev pub value_step : Value-F Expr Expr (Bool → Spelling) Expr Expr Expr Expr Expr Expr Expr Expr Expr Expr Expr (Option Expr) Expr (Bool → Spelling) Spelling Spelling → Bool → Spelling
 value_step v = value_spelling v.name v.form v.arg
 
-abbrev pub word_step : Word-F Expr Expr (Bool → Spelling) Expr Expr Expr Expr Expr Expr Expr Expr Expr Expr Expr Expr Expr (Bool → Spelling) Spelling Spelling → Spelling
+abbrev pub word_step : Word-F Expr Expr (Bool → Spelling) Expr Expr Expr Expr Expr Expr Expr Expr Expr Expr Expr (Option Expr) Expr (Bool → Spelling) Spelling Spelling → Spelling
 word_step w = of_pieces w.pieces.items
 
-abbrev pub piece_step : WordPiece-F Expr Expr (Bool → Spelling) Expr Expr Expr Expr Expr Expr Expr Expr Expr Expr Expr Expr Expr (Bool → Spelling) Spelling Spelling → Spelling
+abbrev pub piece_step : WordPiece-F Expr Expr (Bool → Spelling) Expr Expr Expr Expr Expr Expr Expr Expr Expr Expr Expr (Option Expr) Expr (Bool → Spelling) Spelling Spelling → Spelling
 piece_step p = p.what p.quoted
 
 -- FOLDS: written by tools/spellings.py
 unfoldable pub command_pattern : CommandTree → Expr
-command_pattern = fold-Command Expr Expr (Bool → Spelling) Expr Expr Expr Expr Expr Expr Expr Expr Expr Expr Expr Expr Expr (Bool → Spelling) Spelling Spelling command_step compound_step what_step and_or_step assigned_step branch_step case_step for_step if_step item_step joined_step loop_step pipeline_step redirect_step script_step simple_step value_step word_step piece_step
+command_pattern = fold-Command Expr Expr (Bool → Spelling) Expr Expr Expr Expr Expr Expr Expr Expr Expr Expr Expr (Option Expr) Expr (Bool → Spelling) Spelling Spelling command_step compound_step what_step and_or_step assigned_step branch_step case_step for_step if_step item_step joined_step loop_step pipeline_step redirect_step script_step simple_step value_step word_step piece_step
 
 unfoldable pub compound_pattern : CompoundTree → Expr
-compound_pattern = fold-Compound Expr Expr (Bool → Spelling) Expr Expr Expr Expr Expr Expr Expr Expr Expr Expr Expr Expr Expr (Bool → Spelling) Spelling Spelling command_step compound_step what_step and_or_step assigned_step branch_step case_step for_step if_step item_step joined_step loop_step pipeline_step redirect_step script_step simple_step value_step word_step piece_step
+compound_pattern = fold-Compound Expr Expr (Bool → Spelling) Expr Expr Expr Expr Expr Expr Expr Expr Expr Expr Expr (Option Expr) Expr (Bool → Spelling) Spelling Spelling command_step compound_step what_step and_or_step assigned_step branch_step case_step for_step if_step item_step joined_step loop_step pipeline_step redirect_step script_step simple_step value_step word_step piece_step
 
 unfoldable pub what_spelled_as : WordWhatTree → Bool → Spelling
-what_spelled_as = fold-WordWhat Expr Expr (Bool → Spelling) Expr Expr Expr Expr Expr Expr Expr Expr Expr Expr Expr Expr Expr (Bool → Spelling) Spelling Spelling command_step compound_step what_step and_or_step assigned_step branch_step case_step for_step if_step item_step joined_step loop_step pipeline_step redirect_step script_step simple_step value_step word_step piece_step
+what_spelled_as = fold-WordWhat Expr Expr (Bool → Spelling) Expr Expr Expr Expr Expr Expr Expr Expr Expr Expr Expr (Option Expr) Expr (Bool → Spelling) Spelling Spelling command_step compound_step what_step and_or_step assigned_step branch_step case_step for_step if_step item_step joined_step loop_step pipeline_step redirect_step script_step simple_step value_step word_step piece_step
 
 unfoldable pub and_or_pattern : AndOrTree → Expr
-and_or_pattern = fold-AndOr Expr Expr (Bool → Spelling) Expr Expr Expr Expr Expr Expr Expr Expr Expr Expr Expr Expr Expr (Bool → Spelling) Spelling Spelling command_step compound_step what_step and_or_step assigned_step branch_step case_step for_step if_step item_step joined_step loop_step pipeline_step redirect_step script_step simple_step value_step word_step piece_step
+and_or_pattern = fold-AndOr Expr Expr (Bool → Spelling) Expr Expr Expr Expr Expr Expr Expr Expr Expr Expr Expr (Option Expr) Expr (Bool → Spelling) Spelling Spelling command_step compound_step what_step and_or_step assigned_step branch_step case_step for_step if_step item_step joined_step loop_step pipeline_step redirect_step script_step simple_step value_step word_step piece_step
 
 unfoldable pub assigned_pattern : AssignedTree → Expr
-assigned_pattern = fold-Assigned Expr Expr (Bool → Spelling) Expr Expr Expr Expr Expr Expr Expr Expr Expr Expr Expr Expr Expr (Bool → Spelling) Spelling Spelling command_step compound_step what_step and_or_step assigned_step branch_step case_step for_step if_step item_step joined_step loop_step pipeline_step redirect_step script_step simple_step value_step word_step piece_step
+assigned_pattern = fold-Assigned Expr Expr (Bool → Spelling) Expr Expr Expr Expr Expr Expr Expr Expr Expr Expr Expr (Option Expr) Expr (Bool → Spelling) Spelling Spelling command_step compound_step what_step and_or_step assigned_step branch_step case_step for_step if_step item_step joined_step loop_step pipeline_step redirect_step script_step simple_step value_step word_step piece_step
 
 unfoldable pub branch_pattern : BranchTree → Expr
-branch_pattern = fold-Branch Expr Expr (Bool → Spelling) Expr Expr Expr Expr Expr Expr Expr Expr Expr Expr Expr Expr Expr (Bool → Spelling) Spelling Spelling command_step compound_step what_step and_or_step assigned_step branch_step case_step for_step if_step item_step joined_step loop_step pipeline_step redirect_step script_step simple_step value_step word_step piece_step
+branch_pattern = fold-Branch Expr Expr (Bool → Spelling) Expr Expr Expr Expr Expr Expr Expr Expr Expr Expr Expr (Option Expr) Expr (Bool → Spelling) Spelling Spelling command_step compound_step what_step and_or_step assigned_step branch_step case_step for_step if_step item_step joined_step loop_step pipeline_step redirect_step script_step simple_step value_step word_step piece_step
 
 unfoldable pub case_pattern : CaseTree → Expr
-case_pattern = fold-Case Expr Expr (Bool → Spelling) Expr Expr Expr Expr Expr Expr Expr Expr Expr Expr Expr Expr Expr (Bool → Spelling) Spelling Spelling command_step compound_step what_step and_or_step assigned_step branch_step case_step for_step if_step item_step joined_step loop_step pipeline_step redirect_step script_step simple_step value_step word_step piece_step
+case_pattern = fold-Case Expr Expr (Bool → Spelling) Expr Expr Expr Expr Expr Expr Expr Expr Expr Expr Expr (Option Expr) Expr (Bool → Spelling) Spelling Spelling command_step compound_step what_step and_or_step assigned_step branch_step case_step for_step if_step item_step joined_step loop_step pipeline_step redirect_step script_step simple_step value_step word_step piece_step
 
 unfoldable pub for_pattern : ForTree → Expr
-for_pattern = fold-For Expr Expr (Bool → Spelling) Expr Expr Expr Expr Expr Expr Expr Expr Expr Expr Expr Expr Expr (Bool → Spelling) Spelling Spelling command_step compound_step what_step and_or_step assigned_step branch_step case_step for_step if_step item_step joined_step loop_step pipeline_step redirect_step script_step simple_step value_step word_step piece_step
+for_pattern = fold-For Expr Expr (Bool → Spelling) Expr Expr Expr Expr Expr Expr Expr Expr Expr Expr Expr (Option Expr) Expr (Bool → Spelling) Spelling Spelling command_step compound_step what_step and_or_step assigned_step branch_step case_step for_step if_step item_step joined_step loop_step pipeline_step redirect_step script_step simple_step value_step word_step piece_step
 
 unfoldable pub if_pattern : IfTree → Expr
-if_pattern = fold-If Expr Expr (Bool → Spelling) Expr Expr Expr Expr Expr Expr Expr Expr Expr Expr Expr Expr Expr (Bool → Spelling) Spelling Spelling command_step compound_step what_step and_or_step assigned_step branch_step case_step for_step if_step item_step joined_step loop_step pipeline_step redirect_step script_step simple_step value_step word_step piece_step
+if_pattern = fold-If Expr Expr (Bool → Spelling) Expr Expr Expr Expr Expr Expr Expr Expr Expr Expr Expr (Option Expr) Expr (Bool → Spelling) Spelling Spelling command_step compound_step what_step and_or_step assigned_step branch_step case_step for_step if_step item_step joined_step loop_step pipeline_step redirect_step script_step simple_step value_step word_step piece_step
 
 unfoldable pub item_pattern : ItemTree → Expr
-item_pattern = fold-Item Expr Expr (Bool → Spelling) Expr Expr Expr Expr Expr Expr Expr Expr Expr Expr Expr Expr Expr (Bool → Spelling) Spelling Spelling command_step compound_step what_step and_or_step assigned_step branch_step case_step for_step if_step item_step joined_step loop_step pipeline_step redirect_step script_step simple_step value_step word_step piece_step
+item_pattern = fold-Item Expr Expr (Bool → Spelling) Expr Expr Expr Expr Expr Expr Expr Expr Expr Expr Expr (Option Expr) Expr (Bool → Spelling) Spelling Spelling command_step compound_step what_step and_or_step assigned_step branch_step case_step for_step if_step item_step joined_step loop_step pipeline_step redirect_step script_step simple_step value_step word_step piece_step
 
 unfoldable pub joined_pattern : JoinedTree → Expr
-joined_pattern = fold-Joined Expr Expr (Bool → Spelling) Expr Expr Expr Expr Expr Expr Expr Expr Expr Expr Expr Expr Expr (Bool → Spelling) Spelling Spelling command_step compound_step what_step and_or_step assigned_step branch_step case_step for_step if_step item_step joined_step loop_step pipeline_step redirect_step script_step simple_step value_step word_step piece_step
+joined_pattern = fold-Joined Expr Expr (Bool → Spelling) Expr Expr Expr Expr Expr Expr Expr Expr Expr Expr Expr (Option Expr) Expr (Bool → Spelling) Spelling Spelling command_step compound_step what_step and_or_step assigned_step branch_step case_step for_step if_step item_step joined_step loop_step pipeline_step redirect_step script_step simple_step value_step word_step piece_step
 
 unfoldable pub loop_pattern : LoopTree → Expr
-loop_pattern = fold-Loop Expr Expr (Bool → Spelling) Expr Expr Expr Expr Expr Expr Expr Expr Expr Expr Expr Expr Expr (Bool → Spelling) Spelling Spelling command_step compound_step what_step and_or_step assigned_step branch_step case_step for_step if_step item_step joined_step loop_step pipeline_step redirect_step script_step simple_step value_step word_step piece_step
+loop_pattern = fold-Loop Expr Expr (Bool → Spelling) Expr Expr Expr Expr Expr Expr Expr Expr Expr Expr Expr (Option Expr) Expr (Bool → Spelling) Spelling Spelling command_step compound_step what_step and_or_step assigned_step branch_step case_step for_step if_step item_step joined_step loop_step pipeline_step redirect_step script_step simple_step value_step word_step piece_step
 
 unfoldable pub pipeline_pattern : PipelineTree → Expr
-pipeline_pattern = fold-Pipeline Expr Expr (Bool → Spelling) Expr Expr Expr Expr Expr Expr Expr Expr Expr Expr Expr Expr Expr (Bool → Spelling) Spelling Spelling command_step compound_step what_step and_or_step assigned_step branch_step case_step for_step if_step item_step joined_step loop_step pipeline_step redirect_step script_step simple_step value_step word_step piece_step
+pipeline_pattern = fold-Pipeline Expr Expr (Bool → Spelling) Expr Expr Expr Expr Expr Expr Expr Expr Expr Expr Expr (Option Expr) Expr (Bool → Spelling) Spelling Spelling command_step compound_step what_step and_or_step assigned_step branch_step case_step for_step if_step item_step joined_step loop_step pipeline_step redirect_step script_step simple_step value_step word_step piece_step
 
 unfoldable pub redirect_pattern : RedirectTree → Expr
-redirect_pattern = fold-Redirect Expr Expr (Bool → Spelling) Expr Expr Expr Expr Expr Expr Expr Expr Expr Expr Expr Expr Expr (Bool → Spelling) Spelling Spelling command_step compound_step what_step and_or_step assigned_step branch_step case_step for_step if_step item_step joined_step loop_step pipeline_step redirect_step script_step simple_step value_step word_step piece_step
+redirect_pattern = fold-Redirect Expr Expr (Bool → Spelling) Expr Expr Expr Expr Expr Expr Expr Expr Expr Expr Expr (Option Expr) Expr (Bool → Spelling) Spelling Spelling command_step compound_step what_step and_or_step assigned_step branch_step case_step for_step if_step item_step joined_step loop_step pipeline_step redirect_step script_step simple_step value_step word_step piece_step
 
-unfoldable pub script_pattern : ScriptTree → Expr
-script_pattern = fold-Script Expr Expr (Bool → Spelling) Expr Expr Expr Expr Expr Expr Expr Expr Expr Expr Expr Expr Expr (Bool → Spelling) Spelling Spelling command_step compound_step what_step and_or_step assigned_step branch_step case_step for_step if_step item_step joined_step loop_step pipeline_step redirect_step script_step simple_step value_step word_step piece_step
+unfoldable pub script_listing : ScriptTree → Option Expr
+script_listing = fold-Script Expr Expr (Bool → Spelling) Expr Expr Expr Expr Expr Expr Expr Expr Expr Expr Expr (Option Expr) Expr (Bool → Spelling) Spelling Spelling command_step compound_step what_step and_or_step assigned_step branch_step case_step for_step if_step item_step joined_step loop_step pipeline_step redirect_step script_step simple_step value_step word_step piece_step
 
 unfoldable pub simple_pattern : SimpleTree → Expr
-simple_pattern = fold-Simple Expr Expr (Bool → Spelling) Expr Expr Expr Expr Expr Expr Expr Expr Expr Expr Expr Expr Expr (Bool → Spelling) Spelling Spelling command_step compound_step what_step and_or_step assigned_step branch_step case_step for_step if_step item_step joined_step loop_step pipeline_step redirect_step script_step simple_step value_step word_step piece_step
+simple_pattern = fold-Simple Expr Expr (Bool → Spelling) Expr Expr Expr Expr Expr Expr Expr Expr Expr Expr Expr (Option Expr) Expr (Bool → Spelling) Spelling Spelling command_step compound_step what_step and_or_step assigned_step branch_step case_step for_step if_step item_step joined_step loop_step pipeline_step redirect_step script_step simple_step value_step word_step piece_step
 
 unfoldable pub value_spelled_as : ValueTree → Bool → Spelling
-value_spelled_as = fold-Value Expr Expr (Bool → Spelling) Expr Expr Expr Expr Expr Expr Expr Expr Expr Expr Expr Expr Expr (Bool → Spelling) Spelling Spelling command_step compound_step what_step and_or_step assigned_step branch_step case_step for_step if_step item_step joined_step loop_step pipeline_step redirect_step script_step simple_step value_step word_step piece_step
+value_spelled_as = fold-Value Expr Expr (Bool → Spelling) Expr Expr Expr Expr Expr Expr Expr Expr Expr Expr Expr (Option Expr) Expr (Bool → Spelling) Spelling Spelling command_step compound_step what_step and_or_step assigned_step branch_step case_step for_step if_step item_step joined_step loop_step pipeline_step redirect_step script_step simple_step value_step word_step piece_step
 
 unfoldable pub word_spelling : WordTree → Spelling
-word_spelling = fold-Word Expr Expr (Bool → Spelling) Expr Expr Expr Expr Expr Expr Expr Expr Expr Expr Expr Expr Expr (Bool → Spelling) Spelling Spelling command_step compound_step what_step and_or_step assigned_step branch_step case_step for_step if_step item_step joined_step loop_step pipeline_step redirect_step script_step simple_step value_step word_step piece_step
+word_spelling = fold-Word Expr Expr (Bool → Spelling) Expr Expr Expr Expr Expr Expr Expr Expr Expr Expr Expr (Option Expr) Expr (Bool → Spelling) Spelling Spelling command_step compound_step what_step and_or_step assigned_step branch_step case_step for_step if_step item_step joined_step loop_step pipeline_step redirect_step script_step simple_step value_step word_step piece_step
 
 unfoldable pub piece_spelling : WordPieceTree → Spelling
-piece_spelling = fold-WordPiece Expr Expr (Bool → Spelling) Expr Expr Expr Expr Expr Expr Expr Expr Expr Expr Expr Expr Expr (Bool → Spelling) Spelling Spelling command_step compound_step what_step and_or_step assigned_step branch_step case_step for_step if_step item_step joined_step loop_step pipeline_step redirect_step script_step simple_step value_step word_step piece_step
+piece_spelling = fold-WordPiece Expr Expr (Bool → Spelling) Expr Expr Expr Expr Expr Expr Expr Expr Expr Expr Expr (Option Expr) Expr (Bool → Spelling) Spelling Spelling command_step compound_step what_step and_or_step assigned_step branch_step case_step for_step if_step item_step joined_step loop_step pipeline_step redirect_step script_step simple_step value_step word_step piece_step
+
+-- a script that has commands; one that may have none
+abbrev pub script_pattern : ScriptTree → Expr
+script_pattern s = some_list (script_listing s)
+
+abbrev pub body_pattern : ScriptTree → Expr
+body_pattern s = body_of (script_listing s)

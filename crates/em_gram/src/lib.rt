@@ -3,6 +3,7 @@
 
 mod held;
 mod kind;
+pub mod laws;
 mod nest;
 mod no;
 mod parse_line;

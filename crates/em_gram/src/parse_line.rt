@@ -3,7 +3,7 @@ ghost use Rattle.std.specs.Prelude.{◌≡◌, ℕ, length, List, [], ◌∷◌,
 ghost use Rattle.em_grammar.specs.Production.{◌⨾◌};
 ghost use Rattle.em_grammar.specs.Machine.{run, fault};
 ghost use Rattle.em_grammar.specs.Gives.{Reads};
-ghost use Rattle.em_gram.specs.Patterns.{script_pattern};
+ghost use Rattle.em_gram.specs.Patterns.{body_pattern};
 ghost use Rattle.em_lexeme.specs.declared.lexeme.Lexeme.{Lexeme};
 ghost use Rattle.em_lexeme.specs.declared.no.LexNo.{LexNo};
 ghost use Rattle.em_gram.specs.Seen.{why_code};
@@ -106,7 +106,7 @@ fn whole(
     stop: Option<LexNo>,
     length: usize,
 ) -> Result<Script, GramNo>
-    requires { Reads shell 64 line_grammar (whats tokens.now) (newlines ⨾ script_pattern script) (whats rest.now) }
+    requires { Reads shell 64 line_grammar (whats tokens.now) (newlines ⨾ body_pattern script) (whats rest.now) }
     ensures tree { IfOk result (λ s. IsScript (lexed_of tokens.now stop) s) }
     ensures fault { IfErr result (λ e. IsFault (lexed_of tokens.now stop) length e) }
 {

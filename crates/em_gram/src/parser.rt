@@ -4,7 +4,7 @@ ghost use Rattle.std.specs.Option.{option_map};
 ghost use Rattle.em_grammar.specs.Production.{many, more, ◌⨾◌};
 ghost use Rattle.em_grammar.specs.Gives.{begins_with, Gives, Passes, Moves, Spells, lead_of, lead_off, all};
 ghost use Rattle.em_lexeme.specs.declared.lexeme.What.{What};
-ghost use Rattle.em_gram.specs.Kinds.{whats, kinds as kinds_of};
+ghost use Rattle.em_gram.specs.Kinds.{whats, words as word_kinds, reserved_words, kinds as kinds_of};
 ghost use Rattle.em_gram.specs.Shell as Grammar;
 ghost use Rattle.em_gram.specs.Shell.{shell, key, Expr};
 ghost use Rattle.em_gram.specs.Patterns as Tree;
@@ -296,6 +296,8 @@ fn arguments<'a>(
         → Spells shell (so_far assigned words.old.items redirects.old.items) start
         (whats tokens.now)
         → Spells shell (so_far assigned words.new.items redirects.new.items) start (whats x.now)) }
+    ensures some { IfOk result (λ x. 0 < length words.old.items → 0 < length words.new.items) }
+    ensures last { IfOk result (λ x. begins_with shell (whats x.now) word_kinds ≡ false) }
     ensures err { IfErr result (λ x. Gives shell left Grammar.arguments (whats tokens.now)
         (lead_off (fault_of x))) }
     ensures within { IfOk result (λ x. length x.now ≤ length tokens.now) }
@@ -321,6 +323,7 @@ fn with_arguments<'a>(
     ensures passes { IfOk result (λ x. Passes shell left Grammar.arguments (whats tokens.now)
         (whats x.1.now)) }
     ensures spells { IfOk result (λ x. (start : List What)
+        → begins_with shell start reserved_words ≡ false
         → Spells shell (so_far (map Tree.assigned_pattern assigned.items) (first ∷ [])
         redirects.items) start (whats tokens.now)
         → Spells shell (Tree.simple_pattern x.0) start (whats x.1.now)) }
@@ -407,6 +410,8 @@ fn prefix<'a>(
         [] redirects.old.items) start (whats tokens.now)
         → Spells shell (so_far (map Tree.assigned_pattern assignments.new.items)
         [] redirects.new.items) start (whats x.now)) }
+    ensures begins { IfOk result (λ x. begins_with shell (whats tokens.now) reserved_words
+        ≡ false) }
     ensures err { IfErr result (λ x. Gives shell left Grammar.prefix (whats tokens.now)
         (lead_off (fault_of x))) }
     ensures shorter { IfOk result (λ x. length x.now < length tokens.now) }
@@ -434,6 +439,8 @@ fn words_behind<'a>(
     ensures passes { IfOk result (λ x. Passes shell left Grammar.words_behind (whats tokens.now)
         (whats x.1.now)) }
     ensures spells { IfOk result (λ x. (start : List What)
+        → begins_with shell start reserved_words ≡ false
+        → length (whats tokens.now) < length start
         → Spells shell (so_far (map Tree.assigned_pattern assigned.items) [] redirects.items) start
         (whats tokens.now)
         → Spells shell (Tree.simple_pattern x.0) start (whats x.1.now)) }
@@ -1082,7 +1089,7 @@ fn pattern_behind<'a>(
 pub fn line<'a>(alloc: Global, tokens: &'a [Lexeme]) -> Result<(Script, &'a [Lexeme]), Stop<'a>>
     ensures { Gives shell 64 Grammar.line (whats tokens.now)
         (lead_of (λ x. (
-          Grammar.newlines ⨾ Tree.script_pattern x.0,
+          Grammar.newlines ⨾ Tree.body_pattern x.0,
           whats x.1.now,
         )) fault_of result) }
 {

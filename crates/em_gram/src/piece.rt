@@ -244,8 +244,11 @@ pub fn redirection(number: Option<u8>, kind: RedirectKind, target: Word) -> Redi
 
 /// The piece for a substitution; where it has no commands, their list is empty.
 pub fn output_piece(alloc: Global, quoted: bool, script: Option<Script>) -> WordPiece
-    ensures { piece_pattern result ≡ (this (kinds_of (Kind.SubstitutionStart ∷ [])) (What.SubstitutionStart quoted)
-        ⨾ Grammar.newlines ⨾ Tree.body_of (option_map Tree.script_pattern script) ⨾ key Kind.SubstitutionEnd) }
+    ensures { (us rest : List What)
+        → Spells shell (this (kinds_of (Kind.SubstitutionStart ∷ [])) (What.SubstitutionStart quoted)
+        ⨾ Grammar.newlines ⨾ Tree.body_of (option_map Tree.script_pattern script)
+        ⨾ key Kind.SubstitutionEnd) us rest
+        → Spells shell (piece_pattern result) us rest }
 {
     match script {
         Some(script) => WordPiece {
@@ -261,7 +264,7 @@ pub fn output_piece(alloc: Global, quoted: bool, script: Option<Script>) -> Word
 
 /// The script without commands.
 pub fn no_commands(alloc: Global) -> Script
-    ensures { Tree.script_pattern result ≡ empty }
+    ensures { Tree.body_pattern result ≡ empty }
 {
     Script {
         list: Vec::new(alloc),

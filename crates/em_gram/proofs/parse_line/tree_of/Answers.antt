@@ -1,9 +1,11 @@
-use Rattle.std.proofs.Common.{◌≡◌, ◌∙◌, ap, [], ◌∷◌, inl, inr, refl, sym, Some, None, arith}
-use Rattle.em_grammar.specs.Machine.{fault}
-use Rattle.em_gram.specs.Kinds.{whats}
-use Rattle.em_gram.specs.Seen.{why_code}
-use Rattle.em_gram.proofs.Whole.{unexpected_at, refused_at, none_expected, no_function, not_empty, fault_at_rest, script_is, lexed_same, goes_on_whole, goes_on_fault}
+use Rattle.std.proofs.Common.{◌≡◌, List, IfErr, subst}
+use Rattle.em_lexeme.specs.declared.lexeme.Lexeme.{Lexeme}
+use Rattle.em_gram.specs.Line.{IsFault, lexed_of}
+use Rattle.em_gram.proofs.Whole.{lexed_same}
 use Rattle.em_gram.proofs.parse_line.tree_of.Goals as goal
 
 pub returns-in-Err-Fault-clause-fault : goal.returns-in-Err-Fault-clause-fault
 returns-in-Err-Fault-clause-fault c = lexed_same c.args.lexed c.items-tokens.result.now c.args.length c.fault_or_stop.result c.items-tokens.ensures c.fault_or_stop.ensures
+
+pub returns-in-Ok-clause-fault : goal.returns-in-Ok-clause-fault
+returns-in-Ok-clause-fault c = subst (λ (l : List Lexeme). IfErr c.whole.result (λ e. IsFault (lexed_of l c.args.lexed.stop) c.args.length e)) c.items-tokens.ensures c.whole.ensures.fault

@@ -2,16 +2,17 @@ use Rattle.std.proofs.Common.{◌≡◌, ◌∙◌, sym, refl, map, Some, [], �
 use Rattle.em_grammar.specs.Production.{one, many, nested, refused, ◌⨾◌, ◌∣◌}
 use Rattle.em_grammar.specs.Gives.{lead_off}
 use Rattle.em_grammar.proofs.Giving.{then_on, then_off, then_exit, left_on, right_on, gives_left, gives_right, reads_empty, reads_last, end_many, end_more, exit_many, exit_many_then, exit_sep, exit_row, turn_on, turn_off, begun, is_refused, passes_left, passes_right, passes_then, moves_many, moves_past, moves_then}
-use Rattle.em_gram.specs.Kinds.{kinds, whats, words}
+use Rattle.em_gram.specs.Kinds.{kinds, whats, words, reserved_words}
 use Rattle.em_gram.specs.Nesting.{nest_depth}
 use Rattle.em_gram.specs.Shell.{shell, arguments, key, newlines, sequential, reserved, item_end, function}
 use Rattle.em_gram.specs.Patterns.{any_word, word_spelling, redirect_pattern, assigned_pattern, and_or_pattern, joined_pattern, command_pattern, branch_pattern, item_pattern}
-use Rattle.em_gram.specs.declared.kind.Kind.TheVariants.{Pipe, Elif, WordEnd, Name, Plain, LeftParen}
+use Rattle.em_gram.specs.declared.kind.Kind.TheVariants.{Pipe, Elif, WordEnd, Name, Plain, Assignment, LeftParen}
 use Rattle.em_gram.proofs.Checked.{shell_firm}
 use Rattle.em_gram.proofs.Nested.{word_pattern}
 use Rattle.em_gram.proofs.Parts.{off, inner_gives, inner_on, assoc_both, row_end, start_parted, start_after, start_patterns, step_all, step_parted, step_after, step_row, step_patterns, end_row, listed}
-use Rattle.em_gram.proofs.Choices.{words_map, file_target, respelled, rows_of_items, first_left, first_right, simple_spelled}
-use Rattle.em_gram.proofs.Mixed.{exit_gives, exit_step, passes_of, moved, still_open, no_more, open_moves, close_moves, piece_moves, piece_exit, piece_next, end_is_open, part_spelled, one_word, one_redirect, one_assigned, first_alone, first_behind, no_word, then_passed, moves_on, moves_end, moves_exit, no_argument, not_wrong, go_at, some_first, no_assignment, none_open, one_there}
+use Rattle.em_gram.proofs.Choices.{words_map, file_target, respelled, rows_of_items, first_left, first_right, simple_words, simple_behind, shorter_whats}
+use Rattle.em_gram.proofs.Starting.{begins_key, spelled_redirect, not_begins, redirect_begins}
+use Rattle.em_gram.proofs.Mixed.{exit_gives, exit_step, passes_of, moved, still_open, no_more, open_moves, close_moves, piece_moves, piece_exit, piece_next, end_is_open, part_spelled, one_word, one_redirect, one_assigned, first_alone, first_behind, no_word, then_passed, moves_on, moves_end, moves_exit, no_argument, not_wrong, go_at, some_first, no_assignment, none_open, one_there, last_of}
 use Rattle.em_gram.proofs.Spellings.{script_made, and_or_made, joined_made, pipeline_made, simple_made, assigned_made, branch_made, if_made, loop_made, for_made, case_made, item_made, command_Simple, command_Compound, compound_Subshell, compound_Group, compound_If, compound_Loop, compound_For, compound_Case}
 use Rattle.em_gram.proofs.parser.+parser.Goals as goal
 
@@ -91,7 +92,7 @@ pub output-returns-in_err-rest-clause-reads : goal.output-returns-in_err-rest-cl
 output-returns-in_err-rest-clause-reads t c = off c.args.left _ _ _ _ _ c.from_residual-in_err-rest.ensures (turn_off shell (c.in_ok-quoted.ensures.turns _) _ (then_off shell _ (c.newlines-rest.ensures.reads c.args.left) _ (then_off shell _ (c.in_ok-script.ensures.reads) _ (c.in_err-rest.ensures.reads c.args.left))))
 
 pub output-returns-clause-reads : goal.output-returns-clause-reads
-output-returns-clause-reads t c = rw c.output_piece.ensures (turn_on shell (c.in_ok-quoted.ensures.turns _) (then_on shell (c.newlines-rest.ensures.reads c.args.left) (then_on shell (c.in_ok-script.ensures.reads) (c.in_ok-rest.ensures.reads c.args.left))))
+output-returns-clause-reads t c = respelled (turn_on shell (c.in_ok-quoted.ensures.turns _) (then_on shell (c.newlines-rest.ensures.reads c.args.left) (then_on shell (c.in_ok-script.ensures.reads) (c.in_ok-rest.ensures.reads c.args.left)))) c.output_piece.ensures
 
 pub word-returns-in_err-rest-clause-reads : goal.word-returns-in_err-rest-clause-reads
 word-returns-in_err-rest-clause-reads t c = off c.args.left _ _ _ _ _ c.from_residual.ensures (then_exit shell c.args.left _ _ _ _ (c.in_err-rest.ensures.reads c.args.left))
@@ -195,6 +196,9 @@ arguments-loop-alloc-preserved t c = record { within = omega (arith, c.loop-allo
 pub arguments-returns-clause-passes : goal.arguments-returns-clause-passes
 arguments-returns-clause-passes t c = moves_end c.loop-alloc.invariant.moves (no_argument (sym c.opens_argument.ensures ∙ c.loop-alloc-test.false))
 
+pub arguments-returns-clause-last : goal.arguments-returns-clause-last
+arguments-returns-clause-last t c = last_of (whats c.loop-alloc.rest.now) (sym c.opens_argument.ensures ∙ c.loop-alloc-test.false)
+
 pub arguments-returns-clause-spells : goal.arguments-returns-clause-spells
 arguments-returns-clause-spells t c = c.loop-alloc.invariant.spells
 
@@ -205,7 +209,7 @@ pub with_arguments-returns-clause-passes : goal.with_arguments-returns-clause-pa
 with_arguments-returns-clause-passes t c = c.in_ok-rest.ensures.passes
 
 pub with_arguments-returns-clause-spells : goal.with_arguments-returns-clause-spells
-with_arguments-returns-clause-spells t c = λ start h. simple_spelled _ _ _ _ _ (c.in_ok-rest.ensures.spells start (map assigned_pattern c.args.assigned.items) (some_first _ _ _ c.new-words.ensures.items c.in_ok-push.ensures.items) (rw (c.in_ok-push.ensures.items, c.new-words.ensures.items) h))
+with_arguments-returns-clause-spells t c = λ start b h. let n = some_first _ _ _ c.new-words.ensures.items c.in_ok-push.ensures.items in simple_words _ _ _ start _ b c.in_ok-rest.ensures.last (c.in_ok-rest.ensures.some n) (c.in_ok-rest.ensures.spells start (map assigned_pattern c.args.assigned.items) n (rw (c.in_ok-push.ensures.items, c.new-words.ensures.items) h))
 
 pub named-returns-in_err-rest-clause-reads : goal.named-returns-in_err-rest-clause-reads
 named-returns-in_err-rest-clause-reads t c = off c.args.left _ _ _ _ _ c.from_residual.ensures (then_exit shell c.args.left _ _ _ _ (then_exit shell c.args.left _ _ _ _ (c.in_err-rest.ensures.reads c.args.left)))
@@ -220,7 +224,7 @@ pub named-returns-in_err-simple-clause-reads : goal.named-returns-in_err-simple-
 named-returns-in_err-simple-clause-reads t c = off c.args.left _ _ _ _ _ c.from_residual-in_err-simple.ensures (then_off shell _ (then_on shell (c.in_ok-rest.ensures.reads c.args.left) (c.in_ok-first.ensures.reads)) _ (gives_right shell c.args.left _ _ _ _ refl (sym c.opens.ensures ∙ c.if-opens.false) (c.in_err-simple.ensures.err)))
 
 pub named-returns-clause-reads : goal.named-returns-clause-reads
-named-returns-clause-reads t c = then_passed (then_on shell (c.in_ok-rest.ensures.reads c.args.left) (c.in_ok-first.ensures.reads)) (passes_right shell refl (sym c.opens.ensures ∙ c.if-opens.false) c.in_ok-simple.ensures.passes) (c.in_ok-simple.ensures.spells _ (rw (c.new.ensures.items, c.new-2.ensures.items) (first_alone (kinds (Name ∷ [])) refl c.in_ok-first.first _ _ (then_on shell (c.in_ok-rest.ensures.reads c.args.left) (c.in_ok-first.ensures.reads)).spells)))
+named-returns-clause-reads t c = then_passed (then_on shell (c.in_ok-rest.ensures.reads c.args.left) (c.in_ok-first.ensures.reads)) (passes_right shell refl (sym c.opens.ensures ∙ c.if-opens.false) c.in_ok-simple.ensures.passes) (c.in_ok-simple.ensures.spells _ (not_begins reserved_words (kinds (Name ∷ [])) refl (whats c.args.tokens.now) (begins_key (kinds (Name ∷ [])) (λ us. us ≡ whats c.in_ok-rest.rest.now) (whats c.args.tokens.now) (c.in_ok-rest.ensures.reads c.args.left).spells)) (rw (c.new.ensures.items, c.new-2.ensures.items) (first_alone (kinds (Name ∷ [])) refl c.in_ok-first.first _ _ (then_on shell (c.in_ok-rest.ensures.reads c.args.left) (c.in_ok-first.ensures.reads)).spells)))
 
 pub plain-returns-in_err-rest-clause-reads : goal.plain-returns-in_err-rest-clause-reads
 plain-returns-in_err-rest-clause-reads t c = off c.args.left _ _ _ _ _ c.from_residual.ensures (then_exit shell c.args.left _ _ _ _ (then_exit shell c.args.left _ _ _ _ (c.in_err-rest.ensures.reads c.args.left)))
@@ -232,7 +236,7 @@ pub plain-returns-in_err-simple-clause-reads : goal.plain-returns-in_err-simple-
 plain-returns-in_err-simple-clause-reads t c = off c.args.left _ _ _ _ _ c.from_residual-in_err-simple.ensures (then_off shell _ (then_on shell (c.in_ok-rest.ensures.reads c.args.left) (c.in_ok-first.ensures.reads)) _ (c.in_err-simple.ensures.err))
 
 pub plain-returns-clause-reads : goal.plain-returns-clause-reads
-plain-returns-clause-reads t c = then_passed (then_on shell (c.in_ok-rest.ensures.reads c.args.left) (c.in_ok-first.ensures.reads)) c.in_ok-simple.ensures.passes (c.in_ok-simple.ensures.spells _ (rw (c.new.ensures.items, c.new-2.ensures.items) (first_alone (kinds (Plain ∷ [])) refl c.in_ok-first.first _ _ (then_on shell (c.in_ok-rest.ensures.reads c.args.left) (c.in_ok-first.ensures.reads)).spells)))
+plain-returns-clause-reads t c = then_passed (then_on shell (c.in_ok-rest.ensures.reads c.args.left) (c.in_ok-first.ensures.reads)) c.in_ok-simple.ensures.passes (c.in_ok-simple.ensures.spells _ (not_begins reserved_words (kinds (Plain ∷ [])) refl (whats c.args.tokens.now) (begins_key (kinds (Plain ∷ [])) (λ us. us ≡ whats c.in_ok-rest.rest.now) (whats c.args.tokens.now) (c.in_ok-rest.ensures.reads c.args.left).spells)) (rw (c.new.ensures.items, c.new-2.ensures.items) (first_alone (kinds (Plain ∷ [])) refl c.in_ok-first.first _ _ (then_on shell (c.in_ok-rest.ensures.reads c.args.left) (c.in_ok-first.ensures.reads)).spells)))
 
 pub prefix-returns-in_err-next-clause-err : goal.prefix-returns-in_err-next-clause-err
 prefix-returns-in_err-next-clause-err t c = exit_gives c.args.left _ _ _ _ c.from_residual.ensures (gives_left shell c.args.left _ _ _ _ (sym c.opens.ensures ∙ c.if-opens.true) (c.in_err-next.ensures.reads))
@@ -242,6 +246,12 @@ prefix-returns-then-opens-clause-passes t c = passes_left shell (sym c.opens.ens
 
 pub prefix-returns-then-opens-clause-spells : goal.prefix-returns-then-opens-clause-spells
 prefix-returns-then-opens-clause-spells t c = λ start h. one_assigned start _ _ c.in_ok-next.next _ _ _ c.in_ok-push.ensures.items c.in_ok-next.ensures.reads.spells h
+
+pub prefix-returns-then-opens-clause-begins : goal.prefix-returns-then-opens-clause-begins
+prefix-returns-then-opens-clause-begins t c = not_begins reserved_words (kinds (Assignment ∷ [])) refl (whats c.args.tokens.now) (sym c.opens.ensures ∙ c.if-opens.true)
+
+pub prefix-returns-clause-begins : goal.prefix-returns-clause-begins
+prefix-returns-clause-begins t c = not_begins reserved_words redirect_begins refl (whats c.args.tokens.now) (spelled_redirect c.in_ok-next-2.next (whats c.args.tokens.now) _ c.in_ok-next-2.ensures.reads.spells)
 
 pub prefix-returns-in_err-next-2-clause-err : goal.prefix-returns-in_err-next-2-clause-err
 prefix-returns-in_err-next-2-clause-err t c = exit_gives c.args.left _ _ _ _ c.from_residual-in_err-next-2.ensures (gives_right shell c.args.left _ _ _ _ refl (sym c.opens.ensures ∙ c.if-opens.false) (c.in_err-next-2.ensures.reads))
@@ -265,13 +275,13 @@ pub words_behind-returns-then-opens_command_word-clause-passes : goal.words_behi
 words_behind-returns-then-opens_command_word-clause-passes t c = passes_left shell (sym c.opens_command_word.ensures ∙ c.if-opens_command_word.true) (passes_then shell (then_on shell (c.in_ok-rest.ensures.reads c.args.left) (c.in_ok-first.ensures.reads)) c.in_ok-simple.ensures.passes)
 
 pub words_behind-returns-then-opens_command_word-clause-spells : goal.words_behind-returns-then-opens_command_word-clause-spells
-words_behind-returns-then-opens_command_word-clause-spells t c = λ start h. c.in_ok-simple.ensures.spells start (first_behind start (map assigned_pattern c.args.assigned.items) c.in_ok-first.first c.args.redirects.items _ _ (then_on shell (c.in_ok-rest.ensures.reads c.args.left) (c.in_ok-first.ensures.reads)).spells h)
+words_behind-returns-then-opens_command_word-clause-spells t c = λ start b l h. c.in_ok-simple.ensures.spells start b (first_behind start (map assigned_pattern c.args.assigned.items) c.in_ok-first.first c.args.redirects.items _ _ (then_on shell (c.in_ok-rest.ensures.reads c.args.left) (c.in_ok-first.ensures.reads)).spells h)
 
 pub words_behind-returns-clause-passes : goal.words_behind-returns-clause-passes
 words_behind-returns-clause-passes t c = passes_right shell refl (sym c.opens_command_word.ensures ∙ c.if-opens_command_word.false) (passes_of (reads_last shell c.args.left words (whats c.args.tokens.now) (no_word (whats c.args.tokens.now) (sym c.opens_command_word.ensures ∙ c.if-opens_command_word.false) c.requires)))
 
 pub words_behind-returns-clause-spells : goal.words_behind-returns-clause-spells
-words_behind-returns-clause-spells t c = λ start h. rw (simple_made c.args.assigned c.new-words.result c.args.redirects, c.new-words.ensures.items) h
+words_behind-returns-clause-spells t c = λ start b l h. simple_behind c.args.assigned c.new-words.result c.args.redirects start _ b (no_word (whats c.args.tokens.now) (sym c.opens_command_word.ensures ∙ c.if-opens_command_word.false) c.requires) l (rw c.new-words.ensures.items h)
 
 pub prefixed-returns-in_err-rest-clause-reads : goal.prefixed-returns-in_err-rest-clause-reads
 prefixed-returns-in_err-rest-clause-reads t c = off c.args.left _ _ _ _ _ c.from_residual.ensures (then_exit shell c.args.left _ _ _ _ (c.in_err-rest.ensures.err))
@@ -292,7 +302,7 @@ pub prefixed-returns-in_err-simple-clause-reads : goal.prefixed-returns-in_err-s
 prefixed-returns-in_err-simple-clause-reads t c = off c.args.left _ _ _ _ _ c.from_residual-in_err-simple.ensures (moves_exit (moves_on c.loop-assignments.invariant.moves (moves_past shell (sym c.opens_prefix.ensures ∙ c.loop-assignments-test.false))) _ c.in_err-simple.ensures.err)
 
 pub prefixed-returns-clause-reads : goal.prefixed-returns-clause-reads
-prefixed-returns-clause-reads t c = record { spells = c.in_ok-simple.ensures.spells _ c.loop-assignments.invariant.spells; goes = (moves_end (moves_on c.loop-assignments.invariant.moves (moves_past shell (sym c.opens_prefix.ensures ∙ c.loop-assignments-test.false))) c.in_ok-simple.ensures.passes).goes }
+prefixed-returns-clause-reads t c = record { spells = c.in_ok-simple.ensures.spells _ c.in_ok-rest.ensures.begins (shorter_whats _ _ c.loop-assignments.invariant.shorter) c.loop-assignments.invariant.spells; goes = (moves_end (moves_on c.loop-assignments.invariant.moves (moves_past shell (sym c.opens_prefix.ensures ∙ c.loop-assignments-test.false))) c.in_ok-simple.ensures.passes).goes }
 
 pub simple-returns-in_err-named-clause-reads : goal.simple-returns-in_err-named-clause-reads
 simple-returns-in_err-named-clause-reads t c = off c.args.left _ _ _ _ _ c.from_residual.ensures (gives_left shell c.args.left _ _ _ _ (sym c.opens.ensures ∙ c.if-opens.true) (c.in_err-named.ensures.reads))
