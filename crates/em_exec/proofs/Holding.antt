@@ -34,7 +34,7 @@ module _ (deeper : Deeper) (scene : Scene) where
   module _ (m : Mode) (h : Here) where
     by_names : (z : Result (List (List ℕ)) WordFault × Workspace) (o : Oracle)
         → (let y : Result Stop WordFault × Workspace = go_on z.0 z.1 (λ ns. done (Finished ns)) o in
-           go_on (come_to y.0 h) y.1 (λ (p : Stop × Here). steps.done (expansion_of p.0) p.1) o ≡ go_on (come_to y.0 h) y.1 (λ (p : Stop × Here). then_stop m p.0 p.1) o)
+        go_on (come_to y.0 h) y.1 (λ (p : Stop × Here). steps.done (expansion_of p.0) p.1) o ≡ go_on (come_to y.0 h) y.1 (λ (p : Stop × Here). then_stop m p.0 p.1) o)
     unfolding done
     by_names (Ok ns, w) o = refl
     by_names (Err f, w) o = refl
@@ -48,7 +48,7 @@ module _ (deeper : Deeper) (scene : Scene) where
   module _ {A : Type 0} (k : A → Acts Expansion) (h : Here) where
     by_units : (z : Result (Unit {0}) WordFault × Workspace) (o : Oracle) (b : Here → Action WordFault A)
         → go_on (come_to z.0 h) z.1 (λ (p : Unit {0} × Here) o w. go_on (come_to (b p.1 o w).0 p.1) (b p.1 o w).1 (λ (q : A × Here). k q.0 q.1) o) o
-            ≡ (let y : Result A WordFault × Workspace = go_on z.0 z.1 (λ u. b h) o in go_on (come_to y.0 h) y.1 (λ (q : A × Here). k q.0 q.1) o)
+        ≡ (let y : Result A WordFault × Workspace = go_on z.0 z.1 (λ u. b h) o in go_on (come_to y.0 h) y.1 (λ (q : A × Here). k q.0 q.1) o)
     by_units (Ok u, w) o b = refl
     by_units (Err f, w) o b = refl
 

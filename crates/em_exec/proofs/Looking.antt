@@ -100,7 +100,7 @@ module _ {V : Type 0} {tells : V → Told} {old new : DeskState V} {h t : Here} 
     performs = record {
       grows = p.performs.grows;
       plain = λ n o all. ap (λ (z : Ended × Workspace). let y : Result (Turn × Here) (Jump × Here) × Workspace = (settled z.0, z.1) in y)
-              (p.performs.plain (free_with r t ∙ sym (free_turn r) ∙ sym (free_with (turn_of r) t) ∙ n) o all)
+          (p.performs.plain (free_with r t ∙ sym (free_turn r) ∙ sym (free_with (turn_of r) t) ∙ n) o all)
           ∙ ap (λ (y : Result (Turn × Here) (Jump × Here)). let z : Result (Turn × Here) (Jump × Here) × Workspace = (y, new.work) in z) (settled_with r t);
     };
   })

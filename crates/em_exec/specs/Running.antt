@@ -177,7 +177,6 @@ goes_on until n = if until then not (n == 0) else n == 0
 abbrev pub ends_with : ℕ → Does (Option ℕ)
 ends_with last h = Ok (None, with_status last h)
 
-
 abbrev pub body_status : Turn → ℕ → Option ℕ
 body_status Broken n = None
 body_status _ n = Some n

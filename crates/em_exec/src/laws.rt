@@ -24,12 +24,12 @@ pub fn law_empty()
 pub fn law_subshell()
     ensures { (m : Acts (Unit {0})) (h : Here) (o : Oracle) (w : Workspace)
         → (after (subshell m h o w).0).shell
-            ≡ record h.shell { status = (after (subshell m h o w).0).shell.status } }
+        ≡ record h.shell { status = (after (subshell m h o w).0).shell.status } }
 {}
 
 /// `true` changes nothing but the status, writes nothing and asks nothing.
 pub fn law_true()
     ensures { (input : List ℕ) (in_loop : Bool) (s : Shell) (o : Oracle) (w : Workspace)
         → run_command (codes "true" ∷ []) input in_loop s o w
-            ≡ (Ok (plain nothing, record s { status = 0 }), w) }
+        ≡ (Ok (plain nothing, record s { status = 0 }), w) }
 {}

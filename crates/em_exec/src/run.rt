@@ -296,7 +296,15 @@ fn acted<V: View>(
         here.shell.status = here.substituted;
         return Ok(());
     }
-    perform(alloc, words.items(), streams, scene.input.bytes(), scene.in_loop, here, desk)
+    perform(
+        alloc,
+        words.items(),
+        streams,
+        scene.input.bytes(),
+        scene.in_loop,
+        here,
+        desk,
+    )
 }
 
 /// The assignments of a simple command: whether they set variables, or are expanded alone.
@@ -582,7 +590,7 @@ fn turn_in<V: View>(
 ) -> Result<Option<u8>, Jump>
     ensures { Does is_free V.tells desk.old desk.new here.old here.new result
         (steps.one_turn (out-Loop it.now).until (script_at left (out-Loop it.now).test scene.now)
-            (script_at left (out-Loop it.now).body scene.now) last) }
+        (script_at left (out-Loop it.now).body scene.now) last) }
 {
     let turn = turn_of(script_in(alloc, left, &it.test, scene, here, desk))?;
     tested(alloc, left, it, turn, last, scene, here, desk)
@@ -602,7 +610,7 @@ fn tested<V: View>(
 ) -> Result<Option<u8>, Jump>
     ensures { Does is_free V.tells desk.old desk.new here.old here.new result
         (steps.after_test (out-Loop it.now).until (script_at left (out-Loop it.now).body scene.now)
-            last turn) }
+        last turn) }
 {
     match turn {
         Turn::Broken => {
@@ -668,7 +676,7 @@ fn rounds_in<V: View>(
 ) -> Result<(), Jump>
     ensures { Does is_free V.tells desk.old desk.new here.old here.new result
         (steps.all_rounds (out-For it.now).name (script_at left (out-For it.now).body scene.now)
-            words.now) }
+        words.now) }
 {
     if words.is_empty() {
         here.shell.status = 0;

@@ -46,7 +46,7 @@ fn close(
 ) -> Result<u8, ExecNo>
     ensures { is_free is_want result ≡ false →
         with_state result (record { shell = shell.new; output = out.new })
-            ≡ closed (record { shell = shell.old; output = out.old }) (with_state ended here) }
+        ≡ closed (record { shell = shell.old; output = out.old }) (with_state ended here) }
 {
     say(out, here.pieces.items())?;
     let status = here.shell.status;

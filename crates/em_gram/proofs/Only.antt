@@ -300,7 +300,7 @@ module _ (n : ℕ) (H : (s t : Script) → Agree n (body_pattern s) (body_patter
       at : (ts r s : List What) → length ts < suc n → Spells shell (redirect_spelled k fd (word_spelling v)) ts r → Spells shell (redirect_spelled j gd (word_spelling w)) ts s → Ends [] r → Ends [] s → ((fd ≡ gd) × ((k ≡ j) × (word_shape v ≡ word_shape w))) × (r ≡ s)
       at ts r s l (inl h) (inl g) e f =
           let a : Agree (suc n) (this (kinds (Number ∷ [])) (What.Number fd) ⨾ Target k v) (this (kinds (Number ∷ [])) (What.Number gd) ⨾ Target j w) [] ((What.Number fd ≡ What.Number gd) × ((k ≡ j) × (word_shape v ≡ word_shape w))) =
-              agree_then (agree_this (kinds (Number ∷ [])) (kinds (Number ∷ [])) (What.Number fd) (What.Number gd)) (λ i. agree_target k j v w) fit_none fit_none in
+          agree_then (agree_this (kinds (Number ∷ [])) (kinds (Number ∷ [])) (What.Number fd) (What.Number gd)) (λ i. agree_target k j v w) fit_none fit_none in
           let x = a.agrees ts r s l h g e f in
           ((number_same fd gd x.0.0, x.0.1), x.1)
       at ts r s l (inl h) (inr g) e f =
@@ -359,13 +359,13 @@ module _ (n : ℕ) (H : (s t : Script) → Agree n (body_pattern s) (body_patter
   after_step m k ws rs vs qs l ts r s o e f (word w us i h) (word v xs j g) =
       let z : length ws ≡ suc (length us) = ap length i in
       let a : Agree (suc n) (any_word (word_spelling w) ⨾ after us rs) (any_word (word_spelling v) ⨾ after xs qs) part_end ((word_shape w ≡ word_shape v) × SameAfter us rs xs qs) =
-          agree_then (agree_word words words w v) (λ u. k us rs xs qs (omega (arith, l, z))) fit_none fit_none in
+      agree_then (agree_word words words w v) (λ u. k us rs xs qs (omega (arith, l, z))) fit_none fit_none in
       let x = a.agrees ts r s o h g e f in
       ((rw (i, j, x.0.0, x.0.1.0) refl, x.0.1.1), x.1)
   after_step m k ws rs vs qs l ts r s o e f (redirect q ps i h) (redirect u us j g) =
       let z : length rs ≡ suc (length ps) = ap length i in
       let a : Agree (suc n) (redirect_pattern q ⨾ after ws ps) (redirect_pattern u ⨾ after vs us) part_end ((redirect_shape q ≡ redirect_shape u) × SameAfter ws ps vs us) =
-          agree_then (agree_redirect q u) (λ y. k ws ps vs us (omega (arith, l, z))) fit_none fit_none in
+      agree_then (agree_redirect q u) (λ y. k ws ps vs us (omega (arith, l, z))) fit_none fit_none in
       let x = a.agrees ts r s o h g e f in
       ((x.0.1.0, rw (i, j, x.0.0, x.0.1.1) refl), x.1)
 
@@ -397,18 +397,18 @@ module _ (n : ℕ) (H : (s t : Script) → Agree n (body_pattern s) (body_patter
   before_step m k as' ws rs bs vs qs l ts r s o e f (assigned d ds i h) (assigned c cs j g) =
       let z : length as' ≡ suc (length ds) = ap length i in
       let a : Agree (suc n) (assigned_pattern d ⨾ before ds ws rs) (assigned_pattern c ⨾ before cs vs qs) part_end ((assigned_shape d ≡ assigned_shape c) × SameParts ds ws rs cs vs qs) =
-          agree_then (agree_assigned d c) (λ u. k ds ws rs cs vs qs (omega (arith, l, z))) fit_none fit_none in
+      agree_then (agree_assigned d c) (λ u. k ds ws rs cs vs qs (omega (arith, l, z))) fit_none fit_none in
       let x = a.agrees ts r s o h g e f in
       ((rw (i, j, x.0.0, x.0.1.0) refl, x.0.1.1), x.1)
   before_step m k as' ws rs bs vs qs l ts r s o e f (first_word w us p i h) (first_word v xs q j g) =
       let a : Agree (suc n) (word_spelled command_words (word_spelling w) ⨾ after us rs) (word_spelled command_words (word_spelling v) ⨾ after xs qs) part_end ((word_shape w ≡ word_shape v) × SameAfter us rs xs qs) =
-          agree_then (agree_word command_words command_words w v) (λ u. agree_after (suc (length us + length rs)) us rs xs qs (omega arith)) fit_none fit_none in
+      agree_then (agree_word command_words command_words w v) (λ u. agree_after (suc (length us + length rs)) us rs xs qs (omega arith)) fit_none fit_none in
       let x = a.agrees ts r s o h g e f in
       ((rw (p, q) refl, (rw (i, j, x.0.0, x.0.1.0) refl, x.0.1.1)), x.1)
   before_step m k as' ws rs bs vs qs l ts r s o e f (redirect_first q ps i h) (redirect_first u us j g) =
       let z : length rs ≡ suc (length ps) = ap length i in
       let a : Agree (suc n) (redirect_pattern q ⨾ before as' ws ps) (redirect_pattern u ⨾ before bs vs us) part_end ((redirect_shape q ≡ redirect_shape u) × SameParts as' ws ps bs vs us) =
-          agree_then (agree_redirect q u) (λ y. k as' ws ps bs vs us (omega (arith, l, z))) fit_none fit_none in
+      agree_then (agree_redirect q u) (λ y. k as' ws ps bs vs us (omega (arith, l, z))) fit_none fit_none in
       let x = a.agrees ts r s o h g e f in
       ((x.0.1.0, (x.0.1.1.0, rw (i, j, x.0.0, x.0.1.1.1) refl)), x.1)
 

@@ -73,7 +73,10 @@ fn lines_run(rt: HostRuntime) -> Result<(), Fail> {
     for (line, wanted) in [
         ("", "|0"),
         ("echo a | cat; false", "a\n|1"),
-        ("mkdir -p d/e; echo q > d/e/f; mv d g; cat g/e/f; test -e d", "q\n|1"),
+        (
+            "mkdir -p d/e; echo q > d/e/f; mv d g; cat g/e/f; test -e d",
+            "q\n|1",
+        ),
         ("sed x", "emake: sh: sed: not found\n|127"),
         ("ls -l", "!letter"),
         ("while true; do :; done", "$"),
@@ -96,39 +99,63 @@ fn lines_run(rt: HostRuntime) -> Result<(), Fail> {
         ("{ x=2; }; echo $x", "2\n|0"),
         ("(exit); echo $?", "0\n|0"),
         ("mkdir d; (cd d; pwd); pwd", "/d\n/\n|0"),
-        ("if false; then echo a; elif true; then echo b; else echo c; fi", "b\n|0"),
+        (
+            "if false; then echo a; elif true; then echo b; else echo c; fi",
+            "b\n|0",
+        ),
         ("if false; then echo a; fi", "|0"),
         ("if false; then echo a; else false; fi", "|1"),
-        ("case ab in b*) echo b;; a?|c) echo a;; *) echo c;; esac", "a\n|0"),
+        (
+            "case ab in b*) echo b;; a?|c) echo a;; *) echo c;; esac",
+            "a\n|0",
+        ),
         ("false; case a in b) ;; esac", "|0"),
         ("case a in a) ;; esac", "|0"),
         ("case '*' in \\*) echo s;; esac", "s\n|0"),
-        ("for i in a 'b c' $(echo d e); do echo $i; done", "a\nb c\nd\ne\n|0"),
+        (
+            "for i in a 'b c' $(echo d e); do echo $i; done",
+            "a\nb c\nd\ne\n|0",
+        ),
         ("false; for i in; do echo a; done", "|0"),
         ("x=; until test \"$x\" = aa; do x=a$x; false; done", "|1"),
-        ("for i in 1 2; do for j in 1 2; do echo $i$j; break; done; done", "11\n21\n|0"),
+        (
+            "for i in 1 2; do for j in 1 2; do echo $i$j; break; done; done",
+            "11\n21\n|0",
+        ),
         ("for i in 1 2; do continue; echo a; done", "|0"),
         ("while break; do echo a; done", "|0"),
         ("while true; do (break); echo a; break; done", "a\n|0"),
         ("break; echo a", "a\n|0"),
-        ("while true; do { echo a; break; } > f; done; cat f", "a\n|0"),
+        (
+            "while true; do { echo a; break; } > f; done; cat f",
+            "a\n|0",
+        ),
         ("echo a; exit 3; echo b", "a\n|3"),
         ("false; exit", "|1"),
         ("exit x; echo $?", "emake: exit: x: not a number\n2\n|0"),
         ("{ echo a; exit 3; } > f | cat; echo $?; cat f", "0\na\n|0"),
         ("echo ${x?w}; echo a", "emake: sh: x: w\n|1"),
         ("(echo ${x?w}); echo $?", "emake: sh: x: w\n1\n|0"),
-        ("echo $(echo a; echo b; ls n) c", "emake: ls: n: absent\na b c\n|0"),
+        (
+            "echo $(echo a; echo b; ls n) c",
+            "emake: ls: n: absent\na b c\n|0",
+        ),
         ("x=$(false); echo $?", "1\n|0"),
         ("x=$(echo a; exit 3)", "|3"),
         ("false; echo $(echo $?)", "1\n|0"),
         ("echo ${y=a b} $y", "a b a b\n|0"),
         ("ls n > f 2>&1; cat f", "emake: ls: n: absent\n|0"),
         ("ls n 2>&1 > f; cat f", "emake: ls: n: absent\n|0"),
-        ("(ls n 2>&1 > f) | cat > g; cat g", "emake: ls: n: absent\n|0"),
+        (
+            "(ls n 2>&1 > f) | cat > g; cat g",
+            "emake: ls: n: absent\n|0",
+        ),
         ("echo a > f > g; cat f; cat g", "a\n|0"),
         ("echo a > f; echo b >> f; cat < f", "a\nb\n|0"),
-        ("echo a > no/f; echo $?", "emake: sh: no/f: no parent\n1\n|0"),
+        (
+            "echo a > no/f; echo $?",
+            "emake: sh: no/f: no parent\n1\n|0",
+        ),
         ("cat < n || echo b", "emake: sh: n: absent\nb\n|0"),
         ("mkdir d; echo a >> d", "emake: sh: d: is a directory\n|1"),
         ("echo a > /dev/null; cat < /dev/null", "|0"),
@@ -138,14 +165,20 @@ fn lines_run(rt: HostRuntime) -> Result<(), Fail> {
         ("echo a > f; echo b 1< f; cat f", "a\n|0"),
         ("echo a > f; cat < f 0> g; wc -c g", "0 g\n|0"),
         ("mkdir d; { echo a; rm d/f; rmdir d; } > d/f; ls", "|0"),
-        ("mkdir d; { echo a; rm d/f; mkdir d/f; } > d/f; ls d", "f\n|0"),
+        (
+            "mkdir d; { echo a; rm d/f; mkdir d/f; } > d/f; ls d",
+            "f\n|0",
+        ),
         ("x=1 > f; echo $x; ls", "1\nf\n|0"),
         ("x=1 echo $x", "\n|0"),
         ("x=1 y=$x; echo $y", "1\n|0"),
         ("echo a; eval b", "a\n!command"),
         ("echo a; make", "a\n!make"),
         ("ls -l > f", "!letter"),
-        ("{ echo a; ls n; set; } > f", "emake: ls: n: absent\n!command"),
+        (
+            "{ echo a; ls n; set; } > f",
+            "emake: ls: n: absent\n!command",
+        ),
         ("echo a >&3", "!descriptor"),
         ("echo $1", "!positional"),
         ("echo a; if", "emake: sh: syntax error\n|2"),
@@ -182,7 +215,12 @@ fn units_are_counted(rt: HostRuntime) -> Result<(), Fail> {
         ("x=$(:)", 3),
     ] {
         assert!(rt; !told(alloc, line.as_bytes(), units)?.bytes().ends_with(b"$"));
-        assert!(rt; units == 0 || told(alloc, line.as_bytes(), units - 1)?.bytes().ends_with(b"$"));
+        assert!(rt;
+            units == 0
+                || told(alloc, line.as_bytes(), units - 1)?
+                    .bytes()
+                    .ends_with(b"$")
+        );
     }
     Ok(())
 }

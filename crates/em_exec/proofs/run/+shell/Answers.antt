@@ -526,9 +526,11 @@ loop_in-loop-scene-smaller g t c = omega (arith, c.in_ok-charge_unit.ensures.bur
 pub loop_in-loop-scene-preserved : goal.loop_in-loop-scene-preserved
 loop_in-loop-scene-preserved g t c =
     let inv = c.loop-scene.invariant in
-    let more = above _ _ inv.1 in
-    (inv.0 - 1, omega (arith, inv.1, c.in_ok-charge_unit.ensures.burns, c.in_ok-status.ensures.performs.grows.burns),
-        λ new u r p. end_s (rw more at inv.2) (then_s _ (c.in_ok-charge_unit.ensures.does _) (then_s _ (rw c.in-Some.is at c.in_ok-status.ensures) p)))
+    let more = above _ _ inv.1 in (
+      inv.0 - 1,
+      omega (arith, inv.1, c.in_ok-charge_unit.ensures.burns, c.in_ok-status.ensures.performs.grows.burns),
+      λ new u r p. end_s (rw more at inv.2) (then_s _ (c.in_ok-charge_unit.ensures.does _) (then_s _ (rw c.in-Some.is at c.in_ok-status.ensures) p)),
+    )
 
 pub expanded-returns-in_err-expander : goal.expanded-returns-in_err-expander
 expanded-returns-in_err-expander g t c = out_s _ refl c.from_residual.ensures.1
@@ -564,10 +566,10 @@ turn_of_word-returns-in_err-assign-in-Ok-Set g t c = turned_err _ _ _ _ _ c.from
 
 pub turn_of_word-returns-in_ok-assign-in-Ok-Set : goal.turn_of_word-returns-in_ok-assign-in-Ok-Set
 turn_of_word-returns-in_ok-assign-in-Ok-Set g t c = record {
-    goes = λ end u r p. rw (by_turns (script_at c.args.left) c.args.scene.now (mode_of c.args.expander.now) (plan_of c.args.expander.now)) (then_s _ (worded_ok (λ (h : Here). turn (mode_of c.args.expander.now) (plan_of c.args.expander.now) h.shell) (rw c.in-Ok-Set.field-0-is at c.in-Ok-Set.ensures.turn)) (then_s _ (owned_s {r = Ok tt} _ (rw c.bytes.ensures at c.in_ok-assign-in-Ok-Set.ensures)) (rw c.in-Ok-Set.ensures.same.1 at p)));
-    ready = rw c.in-Ok-Set.field-0-is at c.in-Ok-Set.ensures.stands;
-    same = c.in-Ok-Set.ensures.same;
-  }
+  goes = λ end u r p. rw (by_turns (script_at c.args.left) c.args.scene.now (mode_of c.args.expander.now) (plan_of c.args.expander.now)) (then_s _ (worded_ok (λ (h : Here). turn (mode_of c.args.expander.now) (plan_of c.args.expander.now) h.shell) (rw c.in-Ok-Set.field-0-is at c.in-Ok-Set.ensures.turn)) (then_s _ (owned_s {r = Ok tt} _ (rw c.bytes.ensures at c.in_ok-assign-in-Ok-Set.ensures)) (rw c.in-Ok-Set.ensures.same.1 at p)));
+  ready = rw c.in-Ok-Set.field-0-is at c.in-Ok-Set.ensures.stands;
+  same = c.in-Ok-Set.ensures.same;
+}
 
 pub turn_of_word-give-requires : goal.turn_of_word-give-requires
 turn_of_word-give-requires g t c = rw c.in-Ok-Output.field-0-is at c.in-Ok-Output.ensures.stands
