@@ -96,9 +96,9 @@ fn copy_of(alloc: Global, here: &Here) -> Result<Here, Jump> {
 }
 
 /// Each variable with its text, and `!` where it is exported.
-fn vars_of(alloc: Global, vars: &Vars) -> Result<Text, NoMemory> {
+fn vars_of(alloc: Global, here: &Here) -> Result<Text, NoMemory> {
     let mut log = Text::new(alloc);
-    for (name, v) in vars.iter() {
+    for (name, v) in here.shell.vars.iter() {
         log.add(name.as_slice())?;
         log.add(b"=")?;
         log.add(v.text.bytes())?;
@@ -137,7 +137,7 @@ fn call<V: View>(
     match name {
         b"INPUT" => here.write(1, input_of(alloc, streams)?),
         b"SET" => here.assign(alloc, b"a", text(alloc, b"3")?),
-        b"VARS" => here.write(1, vars_of(alloc, &here.shell.vars)?),
+        b"VARS" => here.write(1, vars_of(alloc, here)?),
         b"HAND" => hand(streams, copy_of(alloc, here)?.pieces, here),
         b"DELIVER" => deliver(alloc, streams, copy_of(alloc, here)?.pieces, here, desk),
         b"REJOIN" => here.rejoin(copy_of(alloc, here)?, Err(Jump::Exit)),
