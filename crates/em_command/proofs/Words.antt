@@ -1,7 +1,6 @@
 -- What a command comes to, by its words and its options, and a built-in by its operands.
-use Rattle.std.proofs.Common.{◌≡◌, ◌<◌, ◌≤◌, ℕ, suc, Bool, true, false, List, [], ◌∷◌, length, get_or, Option, Some, None, Result, Ok, Err, refl, sym, ap, subst, ◌∙◌, arith}
+use Rattle.std.proofs.Common.{◌≡◌, ◌<◌, ◌≤◌, ℕ, Bool, false, List, [], ◌∷◌, length, get_or, Option, Some, None, Result, Ok, Err, refl, sym, subst, arith}
 use Rattle.std.specs.Prelude.{◌==◌, drop, slice_get, IsErrAnd}
-use Rattle.std.proofs.lemmas.Bool.{eqb-true}
 use Rattle.em_base.proofs.Lemmas.{by_cases}
 use Rattle.em_base.specs.declared.construct.Construct.{Construct}
 use Rattle.em_view.specs.declared.done.ExecNo.{ExecNo}

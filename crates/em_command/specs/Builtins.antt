@@ -8,14 +8,14 @@ use Rattle.em_base.specs.Numbers.{number_of}
 use Rattle.em_tree.specs.declared.node.Kind.{Kind}
 use Rattle.em_tree.specs.declared.node.Kind.TheVariants as kind
 use Rattle.em_vars.specs.declared.var.Var.{Var}
-use Rattle.em_vars.specs.Entries.{Entries, value_of, without}
+use Rattle.em_vars.specs.Entries.{value_of, without}
 use Rattle.em_view.specs.declared.no.FileNo.TheVariants as file
 use Rattle.em_view.specs.declared.done.Done.{Done}
 use Rattle.em_view.specs.declared.done.ExecNo.{ExecNo}
 use Rattle.em_view.specs.Actions as action
 use Rattle.em_view.specs.Actions.{Action}
 use Rattle.em_view.specs.Rows.{kind_at}
-use Rattle.em_view.specs.Steps.{Steps, done, refuse, own, below, with_state}
+use Rattle.em_view.specs.Steps.{Steps, refuse, own, below, with_state}
 use Rattle.em_view.specs.Do.{◌>>=◌}
 use Rattle.em_utility.specs.declared.options.Options.{Options}
 use Rattle.em_utility.specs.declared.reason.Reason.{Reason}

@@ -2,7 +2,7 @@
 --     refused_as name                the construct under which a command of this name is refused
 --     run words input in_loop        what it leaves; the first word is its name
 --     run_command ..                 the same, and its status is the shell's
-use Rattle.std.specs.Prelude.{ℕ, ◌||◌, Bool, List, [], ◌∷◌, codes, drop, Option, Some, None, Result, Ok, Err, if◌then◌else◌}
+use Rattle.std.specs.Prelude.{ℕ, ◌||◌, Bool, List, [], ◌∷◌, codes, drop, Option, Some, None, Result, Ok, if◌then◌else◌}
 use Rattle.std.specs.List.{list_any}
 use Rattle.std.specs.Str.{bytes_eq}
 use Rattle.em_base.specs.declared.construct.Construct.{Construct}

@@ -3,7 +3,7 @@
 --     texts_for s ps       what goes to each file, in the order of the files
 --     append word p text   the text is appended to a file, where it isn't empty and the file is there
 --     delivered s ps       it is handed on, and then appended to one file after another
-use Rattle.std.specs.Prelude.{ℕ, suc, ◌==◌, Bool, List, [], ◌∷◌, ◌++◌, length, Option, Some, None, Result, Ok, Err, if◌then◌else◌}
+use Rattle.std.specs.Prelude.{ℕ, suc, ◌==◌, List, [], ◌∷◌, ◌++◌, Option, Some, None, Result, Ok, Err, if◌then◌else◌}
 use Rattle.em_view.specs.declared.done.Piece.{Piece}
 use Rattle.em_view.specs.Actions as action
 use Rattle.em_view.specs.Actions.{Action}
@@ -13,9 +13,7 @@ use Rattle.em_view.specs.Do.{◌>>=◌}
 use Rattle.em_utility.specs.declared.operand.OperandNo.{OperandNo}
 use Rattle.em_utility.specs.declared.operand.OperandNo.TheVariants as operand
 use Rattle.em_utility.specs.Operands.{named}
-use Rattle.em_command.specs.declared.jump.Jump.{Jump}
 use Rattle.em_command.specs.declared.jump.Jump.TheVariants.{End}
-use Rattle.em_command.specs.declared.here.Here.{Here}
 use Rattle.em_command.specs.declared.streams.Sink.{Sink}
 use Rattle.em_command.specs.declared.streams.Sink.TheVariants.{Output, Errors, Nowhere, File}
 use Rattle.em_command.specs.declared.streams.Opened.{Opened}

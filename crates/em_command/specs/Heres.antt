@@ -12,7 +12,7 @@ use Rattle.std.specs.List.{filter}
 use Rattle.em_vars.specs.declared.var.Var.{Var}
 use Rattle.em_vars.specs.declared.var.Flavour.TheVariants.{Simple}
 use Rattle.em_vars.specs.declared.var.Origin.TheVariants.{Automatic}
-use Rattle.em_vars.specs.Entries.{Entries, value_of, with_value}
+use Rattle.em_vars.specs.Entries.{value_of, with_value}
 use Rattle.em_view.specs.declared.done.Piece.{Piece}
 use Rattle.em_view.specs.declared.done.ExecNo.TheVariants as exec
 use Rattle.em_view.specs.Steps.{with_state}

@@ -1,7 +1,6 @@
 -- Why the commands that follow aren't run, as callers see it.
 use Rattle.std.specs.Prelude.{Bool, false, Result, Ok, Err}
 use Rattle.em_view.specs.declared.no.DeskNo.{DeskNo}
-use Rattle.em_view.specs.declared.done.ExecNo.{ExecNo}
 use Rattle.em_view.specs.Ends as ends
 use Rattle.em_view.specs.Actions.{Action}
 use Rattle.em_view.specs.Steps.{Steps}

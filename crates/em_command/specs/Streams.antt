@@ -10,7 +10,7 @@ use Rattle.em_tree.specs.declared.node.Kind.{Kind}
 use Rattle.em_tree.specs.declared.node.Kind.TheVariants as kind
 use Rattle.em_view.specs.declared.no.FileNo.TheVariants as file
 use Rattle.em_view.specs.declared.done.ExecNo.TheVariants.{Refused}
-use Rattle.em_view.specs.Actions.{Action, ◌>>=◌, done, fail, Workspace}
+use Rattle.em_view.specs.Actions.{Action, ◌>>=◌, done, fail}
 use Rattle.em_view.specs.Rows.{kind_at, put}
 use Rattle.em_utility.specs.declared.reason.Reason.TheVariants as reason
 use Rattle.em_utility.specs.declared.operand.OperandNo.{OperandNo}
@@ -18,9 +18,7 @@ use Rattle.em_utility.specs.declared.operand.OperandNo.TheVariants as operand
 use Rattle.em_utility.specs.Operands.{gives, located, named, read}
 use Rattle.em_syntax.specs.declared.tree.RedirectKind.{RedirectKind}
 use Rattle.em_syntax.specs.declared.tree.RedirectKind.TheVariants.{Write, Append, Read, Duplicate}
-use Rattle.em_command.specs.declared.jump.Jump.{Jump}
 use Rattle.em_command.specs.declared.jump.Jump.TheVariants.{End}
-use Rattle.em_command.specs.declared.here.Here.{Here}
 use Rattle.em_command.specs.declared.streams.Sink.{Sink}
 use Rattle.em_command.specs.declared.streams.Sink.TheVariants.{Output, Errors, Nowhere, File}
 use Rattle.em_command.specs.declared.streams.Opened.{Opened}

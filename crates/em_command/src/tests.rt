@@ -2,7 +2,8 @@
 //! redirections with a blank between them; `~` is an empty word. Its transcript has for each
 //! command what it wrote, the errors between `<` and `>`, its status, and a letter where what
 //! follows isn't run: `E` for `exit`, `B` for `break` and `C` for `continue`. A command without an
-//! end has `!` and what is refused, or `$` for spent fuel.
+//! end has `!` and what is refused, or `$` for spent fuel. A command in capitals makes a call that
+//! em_exec makes.
 ghost use Rattle.std.specs.Prelude.{◌≡◌, ◌≤◌, Some};
 ghost use Rattle.std.specs.FinMap as map;
 ghost use Rattle.em_path.specs.Paths.{IsPath, parent_text};
@@ -51,6 +52,10 @@ fn redirection(word: &[u8]) -> Option<(u8, RedirectKind, &[u8])> {
     Some((fd.unwrap_or(usual), kind, target))
 }
 
+fn text(alloc: Global, bytes: &[u8]) -> Result<Text, NoMemory> {
+    Text::from_slice(alloc, bytes)
+}
+
 fn add_word(alloc: Global, word: &[u8], words: &mut Vec<Text>) -> Result<(), NoMemory> {
     let word = if word == b"~".as_slice() { b"" } else { word };
     words.push(Text::from_slice(alloc, word)?)?;
@@ -80,6 +85,87 @@ fn read_command<V: View>(
     Ok(Some(streams))
 }
 
+/// A copy of the shell with the status 7, which has written to both streams.
+fn copy_of(alloc: Global, here: &Here) -> Result<Here, Jump> {
+    let mut copy = here.branch(alloc)?;
+    for (stream, bytes) in [(1, b"b"), (2, b"c"), (1, b"d")] {
+        copy.write(stream, text(alloc, bytes)?)?;
+    }
+    copy.shell.status = 7;
+    Ok(copy)
+}
+
+/// Each variable with its text, and `!` where it is exported.
+fn vars_of(alloc: Global, here: &Here) -> Result<Text, NoMemory> {
+    let mut log = Text::new(alloc);
+    for (name, v) in here.shell.vars.iter() {
+        log.add(name.as_slice())?;
+        log.add(b"=")?;
+        log.add(v.text.bytes())?;
+        log.add(if v.exported { b"!" } else { b"," })?;
+    }
+    Ok(log)
+}
+
+fn input_of(alloc: Global, streams: &Streams) -> Result<Text, NoMemory> {
+    let around = Body::from_slice(alloc, b"around")?;
+    text(alloc, streams.input(&around)?.bytes())
+}
+
+fn overhear(alloc: Global, here: &mut Here) -> Result<(), Jump> {
+    let copy = copy_of(alloc, here)?;
+    let output = here.overhear(alloc, copy, Err(Jump::Exit))?;
+    here.write(1, output)
+}
+
+fn name_fault(alloc: Global, name: &[u8]) -> Result<WordFault, NoMemory> {
+    Ok(match name {
+        b"UNSET" => WordFault::Unset(text(alloc, b"line")?),
+        b"REFUSED" => WordFault::Refused(Construct::Submake),
+        _ => WordFault::Spent,
+    })
+}
+
+/// What a command in capitals does, which calls what em_exec calls.
+fn call<V: View>(
+    alloc: Global,
+    name: &[u8],
+    streams: &Streams,
+    here: &mut Here,
+    desk: &mut Desk<V>,
+) -> Result<(), Jump> {
+    match name {
+        b"INPUT" => here.write(1, input_of(alloc, streams)?),
+        b"SET" => here.assign(alloc, b"a", text(alloc, b"3")?),
+        b"VARS" => here.write(1, vars_of(alloc, here)?),
+        b"HAND" => hand(streams, copy_of(alloc, here)?.pieces, here),
+        b"DELIVER" => deliver(alloc, streams, copy_of(alloc, here)?.pieces, here, desk),
+        b"REJOIN" => here.rejoin(copy_of(alloc, here)?, Err(Jump::Exit)),
+        b"STUCK" => here.rejoin(copy_of(alloc, here)?, Err(Jump::End(ExecNo::Spent))),
+        b"OVERHEAR" => overhear(alloc, here),
+        b"COMPLAIN" => here.complain(alloc, b"w", Reason::File(FileNo::TooBig)),
+        _ => Err(here.fault(name_fault(alloc, name)?)),
+    }
+}
+
+fn is_call(name: &[u8]) -> bool {
+    name.first().is_some_and(|b| b.is_ascii_uppercase())
+}
+
+fn run_words<V: View>(
+    alloc: Global,
+    in_loop: bool,
+    words: &[Text],
+    streams: &Streams,
+    here: &mut Here,
+    desk: &mut Desk<V>,
+) -> Result<(), Jump> {
+    match words.first() {
+        Some(name) if is_call(name.bytes()) => call(alloc, name.bytes(), streams, here, desk),
+        _ => perform(alloc, words, streams, b"in", in_loop, here, desk),
+    }
+}
+
 fn run_command<V: View>(
     alloc: Global,
     in_loop: bool,
@@ -88,10 +174,10 @@ fn run_command<V: View>(
     desk: &mut Desk<V>,
 ) -> Result<(), Jump> {
     let mut words = Vec::new(alloc);
-    let Some(streams) = read_command(alloc, command, &mut words, here, desk)? else {
-        return Ok(());
-    };
-    perform(alloc, &words, &streams, b"in", in_loop, here, desk)
+    match read_command(alloc, command, &mut words, here, desk)? {
+        Some(streams) => run_words(alloc, in_loop, &words, &streams, here, desk),
+        None => Ok(()),
+    }
 }
 
 fn show_pieces(pieces: &[Piece], log: &mut Text) -> Result<(), NoMemory> {
@@ -231,51 +317,6 @@ fn a_redirected_command_costs(rt: HostRuntime) -> Result<(), Fail> {
     Ok(())
 }
 
-fn text(alloc: Global, bytes: &[u8]) -> Result<Text, NoMemory> {
-    Text::from_slice(alloc, bytes)
-}
-
-/// Each variable with its text, and `!` where it is exported.
-fn show_vars(vars: &Vars, log: &mut Text) -> Result<(), NoMemory> {
-    for (name, v) in vars.iter() {
-        log.add(name.as_slice())?;
-        log.add(b"=")?;
-        log.add(v.text.bytes())?;
-        log.add(if v.exported { b"!" } else { b";" })?;
-    }
-    Ok(())
-}
-
-/// The variables after a script, where `a` was set to 1 before and `b` to 2.
-fn variables(alloc: Global, script: &str) -> Result<Text, Fail> {
-    let state = alone(alloc)?;
-    let mut desk = Desk::new(alloc, PlainView::new(&state), 1, 0, Fuel::new(9));
-    let mut here = shell(alloc)?;
-    here.assign(alloc, b"a", text(alloc, b"1")?)?;
-    here.assign(alloc, b"b", text(alloc, b"2")?)?;
-    let _log = run(alloc, false, script, &mut here, &mut desk)?;
-    here.assign(alloc, b"b", text(alloc, b"3")?)?;
-    let mut log = Text::new(alloc);
-    show_vars(&here.shell.vars, &mut log)?;
-    Ok(log)
-}
-
-#[test]
-fn variables_are_exported_and_unset(rt: HostRuntime) -> Result<(), Fail> {
-    for (script, wanted) in [
-        ("true", "a=1;b=3;"),
-        ("export b", "a=1;b=3!"),
-        ("export x=1 y=2=3 z=", "a=1;b=3;x=1!y=2=3!z=!"),
-        ("export x a", "a=1!b=3;"),
-        ("unset a x", "b=3;"),
-        ("unset b", "a=1;b=3;"),
-    ] {
-        let given = variables(rt.alloc(), script)?;
-        assert!(rt; given.bytes() == wanted.as_bytes(), "{script}");
-    }
-    Ok(())
-}
-
 /// A file `f` of two bytes, or a directory of this name.
 fn with_f(alloc: Global, is_dir: bool) -> Result<State, Fail> {
     let mut state = alone(alloc)?;
@@ -338,133 +379,8 @@ fn an_append_that_is_refused_is_told_around(rt: HostRuntime) -> Result<(), Fail>
     Ok(())
 }
 
-/// A shell that has written `a`, and a copy of it with the status 7 that has written to both
-/// streams.
-fn branched(alloc: Global) -> Result<(Here, Here), Fail> {
-    let mut here = shell(alloc)?;
-    here.write(1, text(alloc, b"a")?)?;
-    let mut copy = here.branch(alloc)?;
-    copy.write(1, text(alloc, b"b")?)?;
-    copy.write(2, text(alloc, b"c")?)?;
-    copy.write(1, text(alloc, b"d")?)?;
-    copy.shell.status = 7;
-    Ok((here, copy))
-}
-
-fn rejoined(alloc: Global, ended: Result<(), Jump>) -> Result<Text, Fail> {
-    let (mut here, copy) = branched(alloc)?;
-    let end = here.rejoin(copy, ended);
-    let mut log = Text::new(alloc);
-    show(&end, &here, &mut log)?;
-    Ok(log)
-}
-
 #[test]
-fn a_copy_ends_by_itself_alone(rt: HostRuntime) -> Result<(), Fail> {
-    let alloc = rt.alloc();
-    assert!(rt; rejoined(alloc, Ok(()))?.bytes() == b"ab<c>d7;".as_slice());
-    assert!(rt; rejoined(alloc, Err(Jump::Exit))?.bytes() == b"ab<c>d7;".as_slice());
-    let spent = rejoined(alloc, Err(Jump::End(ExecNo::Spent)))?;
-    assert!(rt; spent.bytes() == b"ab<c>d$;".as_slice());
-    Ok(())
-}
-
-fn overheard(alloc: Global) -> Result<Text, Fail> {
-    let (mut here, copy) = branched(alloc)?;
-    let mut log = here.overhear(alloc, copy, Err(Jump::Exit))?;
-    show(&Ok(()), &here, &mut log)?;
-    Ok(log)
-}
-
-#[test]
-fn an_output_is_overheard(rt: HostRuntime) -> Result<(), Fail> {
-    assert!(rt; overheard(rt.alloc())?.bytes() == b"bda<c>0;".as_slice());
-    Ok(())
-}
-
-fn faulted(alloc: Global, fault: WordFault) -> Result<Text, Fail> {
-    let mut here = shell(alloc)?;
-    let jump = here.fault(fault);
-    let mut log = Text::new(alloc);
-    show(&Err(jump), &here, &mut log)?;
-    Ok(log)
-}
-
-#[test]
-fn faults_of_words_end_commands(rt: HostRuntime) -> Result<(), Fail> {
-    let alloc = rt.alloc();
-    let unset = faulted(alloc, WordFault::Unset(text(alloc, b"line")?))?;
-    assert!(rt; unset.bytes() == b"<line>1E;".as_slice());
-    let refused = faulted(alloc, WordFault::Refused(Construct::Submake))?;
-    assert!(rt; refused.bytes() == b"!emake;".as_slice());
-    assert!(rt; faulted(alloc, WordFault::Spent)?.bytes() == b"$;".as_slice());
-    Ok(())
-}
-
-fn complained(alloc: Global) -> Result<Text, Fail> {
-    let mut here = shell(alloc)?;
-    let end = here.complain(alloc, b"w", Reason::File(FileNo::TooBig));
-    let mut log = Text::new(alloc);
-    show(&end, &here, &mut log)?;
-    Ok(log)
-}
-
-#[test]
-fn a_redirection_says_why_it_failed(rt: HostRuntime) -> Result<(), Fail> {
-    assert!(rt; complained(rt.alloc())?.bytes() == b"<emake: sh: w: too big\n>1;".as_slice());
-    Ok(())
-}
-
-/// What is read behind a redirection, where `around` is read around it.
-fn read_behind(alloc: Global, redirection: &str) -> Result<Text, Fail> {
-    let state = with_f(alloc, false)?;
-    let mut desk = Desk::new(alloc, PlainView::new(&state), 1, 0, Fuel::new(9));
-    let mut words = Vec::new(alloc);
-    let mut here = shell(alloc)?;
-    let around = Body::from_slice(alloc, b"around")?;
-    match read_command(alloc, redirection, &mut words, &mut here, &mut desk)? {
-        Some(streams) => Ok(text(alloc, streams.input(&around)?.bytes())?),
-        None => Ok(Text::new(alloc)),
-    }
-}
-
-#[test]
-fn a_redirection_gives_the_input(rt: HostRuntime) -> Result<(), Fail> {
-    for (redirection, wanted) in [("x", "around"), ("<f", "b\n"), ("</dev/null", "")] {
-        let given = read_behind(rt.alloc(), redirection)?;
-        assert!(rt; given.bytes() == wanted.as_bytes(), "{redirection}");
-    }
-    Ok(())
-}
-
-/// What goes on where stream 2 goes to the output and stream 1 nowhere.
-fn handed(alloc: Global) -> Result<Text, Fail> {
-    let (mut here, copy) = branched(alloc)?;
-    let mut streams = Streams::around(alloc);
-    streams.output = Sink::Nowhere;
-    streams.errors = Sink::Output;
-    let end = hand(&streams, copy.pieces, &mut here);
-    let mut log = Text::new(alloc);
-    show(&end, &here, &mut log)?;
-    Ok(log)
-}
-
-/// The same, but that stream 1 goes to a file.
-fn delivered(alloc: Global) -> Result<Text, Fail> {
-    let state = alone(alloc)?;
-    let mut desk = Desk::new(alloc, PlainView::new(&state), 1, 0, Fuel::new(9));
-    let (mut here, copy) = branched(alloc)?;
-    let mut words = Vec::new(alloc);
-    if let Some(streams) = read_command(alloc, "2>&1 >g", &mut words, &mut here, &mut desk)? {
-        deliver(alloc, &streams, copy.pieces, &mut here, &mut desk)?;
-    }
-    Ok(run(alloc, false, "cat g", &mut here, &mut desk)?)
-}
-
-#[test]
-fn pieces_go_where_the_streams_go(rt: HostRuntime) -> Result<(), Fail> {
-    assert!(rt; handed(rt.alloc())?.bytes() == b"ac0;".as_slice());
-    assert!(rt; delivered(rt.alloc())?.bytes() == b"acbd0;".as_slice());
+fn flows_are_jumps(rt: HostRuntime) -> Result<(), Fail> {
     assert!(rt; Flow::Break.jump() == Err(Jump::Break));
     assert!(rt; Flow::On.jump() == Ok(()));
     Ok(())

@@ -4,7 +4,7 @@
 /// A script whose commands stand in a loop or not, and its transcript.
 type Case = (bool, &'static str, &'static str);
 
-pub(crate) static SCRIPTS: [Case; 63] = [
+pub(crate) static SCRIPTS: [Case; 77] = [
     (false, "exit 3", "3E;"),
     (false, "false;exit", "1;1E;"),
     (false, "exit 255", "255E;"),
@@ -88,4 +88,18 @@ pub(crate) static SCRIPTS: [Case; 63] = [
     ),
     (false, "ls -l >f;cat f", "!ls -l;0;"),
     (false, "make >f;cat f", "!emake;0;"),
+    (false, "export x=1 y=2=3 z=;VARS", "0;x=1!y=2=3!z=!0;"),
+    (false, "SET;export x a;VARS", "0;0;a=3!0;"),
+    (false, "export a=1 b=2;SET;unset b c;VARS", "0;0;0;a=3!0;"),
+    (false, "INPUT;INPUT <f", "around0;b\n0;"),
+    (false, "INPUT </dev/null", "0;"),
+    (false, "HAND 2>&1 >/dev/null", "c0;"),
+    (false, "DELIVER 2>&1 >g;cat g", "c0;bd0;"),
+    (false, "REJOIN;true", "b<c>d7;0;"),
+    (false, "STUCK", "b<c>d$;"),
+    (false, "OVERHEAR", "<c>bd0;"),
+    (false, "COMPLAIN", "<emake: sh: w: too big\n>1;"),
+    (false, "UNSET", "<line>1E;"),
+    (false, "REFUSED", "!emake;"),
+    (false, "SPENT", "$;"),
 ];

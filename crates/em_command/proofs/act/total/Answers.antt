@@ -1,4 +1,4 @@
-use Rattle.std.proofs.Common.{◌≡◌, ◌+◌, ◌-◌, ◌^◌, min, length, arith}
+use Rattle.std.proofs.Common.{◌≡◌, ◌-◌, ◌^◌, min, arith}
 use Rattle.em_base.proofs.Lemmas.{left_at, none_at}
 use Rattle.em_command.specs.Acting as acting
 use Rattle.em_command.proofs.act.total.Goals as goal

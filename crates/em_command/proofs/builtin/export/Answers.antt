@@ -1,4 +1,4 @@
-use Rattle.std.proofs.Common.{refl, sym}
+use Rattle.std.proofs.Common.{refl}
 use Rattle.em_base.proofs.Lemmas.{left_at, none_at}
 use Rattle.em_command.specs.Builtins.{export_one}
 use Rattle.em_command.proofs.Words.{each_some}

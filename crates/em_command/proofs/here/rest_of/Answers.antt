@@ -1,4 +1,4 @@
-use Rattle.std.proofs.Common.{◌∙◌, rules, tests, ap, List}
+use Rattle.std.proofs.Common.{◌∙◌, rules, tests, ap}
 use Rattle.std.specs.Prelude.{◌==◌, not}
 use Rattle.std.proofs.lemmas.List.Elements.{filter_from_retain}
 use Rattle.em_view.specs.declared.done.Piece.{Piece}
