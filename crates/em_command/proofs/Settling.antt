@@ -36,7 +36,7 @@ gave_any (Err e) x is = gave_none is
 
 -- ---- how what was done for a word ended
 
-module _ {A B : Type 0} (m : Here → Action OperandNo A) (k : Result A OperandNo → jumps.Does B) (strict : (h : Here) (e : ExecNo) → k (Err (operand.End e)) h ≡ Err (End e, h)) (h t : Here) where
+module _ {A B : Type 0} (m : Here → Action OperandNo A) (k : Result A OperandNo → jumps.Change B) (strict : (h : Here) (e : ExecNo) → k (Err (operand.End e)) h ≡ Err (End e, h)) (h t : Here) where
   same_end : (e : ExecNo) (x : Result B Jump) → performs.is_free is_free x ≡ false → with_state x t ≡ Err (End e, h) → is_want e ≡ false
   same_end e (Ok b) n is = absurd (let never : Ok (b, t) ≡ Err (End e, h) = is in cc)
   same_end e (Err j) n is =

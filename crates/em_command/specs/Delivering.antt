@@ -18,7 +18,7 @@ use Rattle.em_command.specs.declared.streams.Sink.{Sink}
 use Rattle.em_command.specs.declared.streams.Sink.TheVariants.{Output, Errors, Nowhere, File}
 use Rattle.em_command.specs.declared.streams.Opened.{Opened}
 use Rattle.em_command.specs.declared.streams.Streams.{Streams}
-use Rattle.em_command.specs.Jumps.{Acts, Does, looked}
+use Rattle.em_command.specs.Jumps.{Acts, Change, looked}
 use Rattle.em_command.specs.Heres.{piece, written, complain}
 
 abbrev pub sink_of : Streams → Piece → Sink
@@ -36,7 +36,7 @@ abbrev pub handed : Streams → List Piece → List Piece
 handed s [] = []
 handed s (p ∷ ps) = through (sink_of s p) p.text ++ handed s ps
 
-abbrev pub hand : Streams → List Piece → Does (Unit {0})
+abbrev pub hand : Streams → List Piece → Change (Unit {0})
 hand s ps h = Ok (tt, written (handed s ps) h)
 
 -- ---- what goes to files
@@ -69,7 +69,7 @@ append f [] = action.done tt
 append f (b ∷ bs) = append_some f.word f.path (b ∷ bs)
 
 -- a refusal is written as that of a redirection that fails
-abbrev pub told : Result (Unit {0}) OperandNo → Does (Unit {0})
+abbrev pub told : Result (Unit {0}) OperandNo → Change (Unit {0})
 told (Ok u) h = Ok (tt, h)
 told (Err (operand.Fault word r)) h = Ok (tt, complain word r h)
 told (Err (operand.End e)) h = Err (End e, h)

@@ -24,7 +24,7 @@ use Rattle.em_word.specs.declared.fault.WordFault.TheVariants as fault
 use Rattle.em_command.specs.declared.jump.Jump.{Jump}
 use Rattle.em_command.specs.declared.jump.Jump.TheVariants.{Exit, End}
 use Rattle.em_command.specs.declared.here.Here.{Here}
-use Rattle.em_command.specs.Jumps.{Does}
+use Rattle.em_command.specs.Jumps.{Change}
 
 abbrev pub begun : Shell → Here
 begun shell = record { shell = shell; pieces = []; substituted = 0 }
@@ -41,7 +41,7 @@ written ps h = record h { pieces = h.pieces ++ ps }
 abbrev pub piece : ℕ → List ℕ → Piece
 piece n text = record { stream = n; text = text }
 
-abbrev pub wrote : ℕ → List ℕ → Does (Unit {0})
+abbrev pub wrote : ℕ → List ℕ → Change (Unit {0})
 wrote n text h = Ok (tt, written (piece n text ∷ []) h)
 
 abbrev pub complaint : List ℕ → Reason → List ℕ
@@ -50,7 +50,7 @@ complaint word r = error_line (codes "sh") word (reason_text r)
 abbrev pub complain : List ℕ → Reason → Here → Here
 complain word r h = with_status 1 (written (piece 2 (complaint word r) ∷ []) h)
 
-abbrev pub complained : List ℕ → Reason → Does (Unit {0})
+abbrev pub complained : List ℕ → Reason → Change (Unit {0})
 complained word r h = Ok (tt, complain word r h)
 
 -- ---- copies of the shell
@@ -68,10 +68,10 @@ abbrev pub ended_as : {A : Type 0} → A → Result (Unit {0}) Jump → Result A
 ended_as a (Err (End e)) = Err (End e)
 ended_as a _ = Ok a
 
-abbrev pub rejoined : Here → Result (Unit {0}) Jump → Does (Unit {0})
+abbrev pub rejoined : Here → Result (Unit {0}) Jump → Change (Unit {0})
 rejoined copy ended h = with_state (ended_as tt ended) (with_status copy.shell.status (written copy.pieces h))
 
-abbrev pub overheard : Here → Result (Unit {0}) Jump → Does (List ℕ)
+abbrev pub overheard : Here → Result (Unit {0}) Jump → Change (List ℕ)
 overheard copy ended h = with_state (ended_as (text_on 1 copy.pieces) ended) (written (off 1 copy.pieces) h)
 
 -- ---- variables
@@ -91,7 +91,7 @@ with_text name text exported s = record s { vars = with_value s.vars name (varia
 abbrev pub set_text : List ℕ → List ℕ → Shell → Shell
 set_text name text s = with_text name text (is_exported (value_of s.vars name)) s
 
-abbrev pub assigned : List ℕ → List ℕ → Does (Unit {0})
+abbrev pub assigned : List ℕ → List ℕ → Change (Unit {0})
 assigned name text h = Ok (tt, record h { shell = set_text name text h.shell })
 
 -- ---- faults of words

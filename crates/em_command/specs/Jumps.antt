@@ -31,9 +31,9 @@ abbrev pub Acts : Type 0 → Type 0
 Acts A = Steps Here Jump A
 
 -- what is done to it without a desk
-abbrev pub Does : Type 0 → Type 0
-Does A = Here → Result (A × Here) (Jump × Here)
+abbrev pub Change : Type 0 → Type 0
+Change A = Here → Result (A × Here) (Jump × Here)
 
 -- what is done for a word, and then by how that ended
-unfoldable pub looked : {A B : Type 0} → (Here → Action OperandNo A) → (Result A OperandNo → Does B) → Acts B
+unfoldable pub looked : {A B : Type 0} → (Here → Action OperandNo A) → (Result A OperandNo → Change B) → Acts B
 looked m k = λ h o w. (k (m h o w).0 h, (m h o w).1)

@@ -25,7 +25,7 @@ use Rattle.em_command.specs.declared.streams.Opened.{Opened}
 use Rattle.em_command.specs.declared.streams.Source.{Source}
 use Rattle.em_command.specs.declared.streams.Source.TheVariants.{Null, Writes, Holds}
 use Rattle.em_command.specs.declared.streams.Streams.{Streams}
-use Rattle.em_command.specs.Jumps.{Acts, Does, looked}
+use Rattle.em_command.specs.Jumps.{Acts, Change, looked}
 use Rattle.em_command.specs.Heres.{complain}
 
 abbrev pub around : Streams
@@ -134,7 +134,7 @@ abbrev pub connect : List ℕ → ℕ → RedirectKind → List ℕ → Streams 
 connect cwd fd Duplicate word s = gives (duplicated fd word s)
 connect cwd fd k word s = at_path cwd fd k word s
 
-abbrev pub shown : Result Streams OperandNo → Does (Option Streams)
+abbrev pub shown : Result Streams OperandNo → Change (Option Streams)
 shown (Ok s) h = Ok (Some s, h)
 shown (Err (operand.Fault word r)) h = Ok (None, complain word r h)
 shown (Err (operand.End e)) h = Err (End e, h)

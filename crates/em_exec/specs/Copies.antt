@@ -10,7 +10,7 @@ use Rattle.em_view.specs.Do.{◌>>=◌}
 use Rattle.em_command.specs.declared.jump.Jump.{Jump}
 use Rattle.em_command.specs.declared.jump.Jump.TheVariants.{Exit, Break, Continue, End}
 use Rattle.em_command.specs.declared.here.Here.{Here}
-use Rattle.em_command.specs.Jumps.{Acts, Does}
+use Rattle.em_command.specs.Jumps.{Acts, Change}
 use Rattle.em_command.specs.Heres.{branch, rejoined, overheard}
 use Rattle.em_exec.specs.declared.turn.Turn.{Turn}
 use Rattle.em_exec.specs.declared.turn.Turn.TheVariants.{Whole, Broken, Continued}
@@ -51,7 +51,7 @@ heard m = do
   own (overheard c.1 c.0)
 
 -- the same of a command substitution, whose status is kept
-abbrev pub substitute : Copy → Does (List ℕ)
+abbrev pub substitute : Copy → Change (List ℕ)
 substitute c h = overheard c.1 c.0 (record h { substituted = c.1.shell.status })
 
 unfoldable pub substituted : Acts (Unit {0}) → Acts (List ℕ)

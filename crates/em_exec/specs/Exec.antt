@@ -22,11 +22,6 @@ abbrev pub said : List Piece → List ℕ
 said [] = []
 said (p ∷ ps) = p.text ++ said ps
 
--- the shell ends by itself alone
-abbrev pub status_or : ℕ → Result (Unit {0}) Jump → Result ℕ ExecNo
-status_or n (Err (End e)) = Err e
-status_or n ended = Ok n
-
 abbrev pub left_by : Here → Session → Session
 left_by h s = record { shell = h.shell; output = s.output ++ said h.pieces }
 

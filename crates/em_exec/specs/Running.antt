@@ -36,7 +36,7 @@ use Rattle.em_command.specs.declared.jump.Jump.TheVariants.{End}
 use Rattle.em_command.specs.declared.here.Here.{Here}
 use Rattle.em_command.specs.declared.here.Scene.{Scene}
 use Rattle.em_command.specs.declared.streams.Streams.{Streams}
-use Rattle.em_command.specs.Jumps.{Acts, Does, of_desk}
+use Rattle.em_command.specs.Jumps.{Acts, Change, of_desk}
 use Rattle.em_command.specs.Heres.{with_status, assigned}
 use Rattle.em_command.specs.Streams.{around, input_of, redirected}
 use Rattle.em_command.specs.Delivering.{hand, delivered}
@@ -50,7 +50,7 @@ use Rattle.em_exec.specs.Words.{Deeper, in_copy, fields, whole, pattern}
 abbrev pub by_status : {A : Type 0} → (ℕ → Acts A) → Acts A
 by_status f = λ h. f h.shell.status h
 
-abbrev pub status_is : ℕ → Does (Unit {0})
+abbrev pub status_is : ℕ → Change (Unit {0})
 status_is n h = Ok (tt, with_status n h)
 
 abbrev pub assign_if : Bool → List ℕ → List ℕ → Acts (Unit {0})
@@ -64,11 +64,11 @@ abbrev pub is_none : List (List ℕ) → Bool
 is_none [] = true
 is_none (w ∷ ws) = false
 
-abbrev pub unsubstituted : Does (Unit {0})
+abbrev pub unsubstituted : Change (Unit {0})
 unsubstituted h = Ok (tt, record h { substituted = 0 })
 
 -- without a command the status is that of the last substitution
-abbrev pub status_of_last : Does (Unit {0})
+abbrev pub status_of_last : Change (Unit {0})
 status_of_last h = Ok (tt, with_status h.substituted h)
 
 abbrev pub if_zero : ℕ → Acts (Unit {0}) → Acts (Unit {0}) → Acts (Unit {0})
@@ -174,14 +174,14 @@ abbrev pub goes_on : Bool → ℕ → Bool
 goes_on until n = if until then not (n == 0) else n == 0
 
 -- none: the loop has ended; else the status of the last turn
-abbrev pub ends_with : ℕ → Does (Option ℕ)
+abbrev pub ends_with : ℕ → Change (Option ℕ)
 ends_with last h = Ok (None, with_status last h)
 
 abbrev pub body_status : Turn → ℕ → Option ℕ
 body_status Broken n = None
 body_status _ n = Some n
 
-abbrev pub after_body : Turn → Does (Option ℕ)
+abbrev pub after_body : Turn → Change (Option ℕ)
 after_body t h = Ok (body_status t h.shell.status, h)
 
 unfoldable pub body_turn : Acts (Unit {0}) → Acts (Option ℕ)
@@ -321,7 +321,7 @@ stages deeper scene (c ∷ d ∷ cs) = piped deeper [] (c ∷ d ∷ cs)
 abbrev pub opposite : ℕ → ℕ
 opposite n = if n == 0 then 1 else 0
 
-abbrev pub turn_status : Does (Unit {0})
+abbrev pub turn_status : Change (Unit {0})
 turn_status h = Ok (tt, with_status (opposite h.shell.status) h)
 
 abbrev pub turned : Bool → Acts (Unit {0})
