@@ -40,23 +40,24 @@ left-with : {E : Type 0} (end : E → Outcome) (r : Result Outcome E) (output : 
 left-with end (Ok o) output w = refl
 left-with end (Err e) output w = refl
 
-module _ {V S E : Type 0} {effect : S → State → Effect} {used : S → State → ℕ} {free : E → Bool} {tells : V → Told} {old new : DeskState V} {view : V} {w : Workspace}
-    {before output : List ℕ} {r : Result Outcome E} {end : E → Outcome} {steps : Steps (List ℕ) E Outcome} {p : Parts S} where
+module _ {V S E : Type 0} {makes : S → State → Effect → ℕ → Type 0} {free : E → Bool} {tells : V → Told} {old new : DeskState V} {view : V} {w : Workspace}
+    {before output : List ℕ} {r : Result Outcome E} (end : E → Outcome) {steps : Steps (List ℕ) E Outcome} {p : Parts S} where
   -- the clauses of `new` and of the steps; that the steps tell the spec's meanings, and that memory didn't run out; the four clauses
   -- of `close`; the output and the outcome
   pub valid : old ≡ record { view = view; usage = []; work = w } → before ≡ [] → Does free tells old new before output r steps
-      → IsToldBy effect used p.spec end steps w → is_free free r ≡ false
+      → ((s : State) → IsTree s.tree → Agrees s new.usage → IsToldBy makes p.spec end steps w s) → is_free free r ≡ false
       → p.usage ≡ new.usage → p.delta ≡ new.work.changes → p.fuel + new.work.fuel ≡ new.work.given → Fits new.usage new.work.changes
-      → p.output ≡ output → p.outcome ≡ end_in end r → IsValid effect used p
+      → p.output ≡ output → p.outcome ≡ end_in end r → IsValid makes p
   unfolding effect_by used_by
   valid begun empty did by plain usage delta fuel fits says ends = record {
     gives = λ s tree agrees.
         let agree : Agrees s new.usage = subst (λ (es : List Entry). Agrees s es) usage agrees in
         let e = ap (λ (o : List ℕ). steps o (snapshot s) w) (sym empty) ∙ on_agreeing begun did.performs (plain-with free r output plain) s agree in
         let given = did.performs.grows.given ∙ ap (λ (d : DeskState V). d.work.given) begun in
+        let effects = ap (λ (z : Result (Outcome × List ℕ) (E × List ℕ) × Workspace). left_by end z.0 z.1) e ∙ left-with end r output new.work ∙ (cc) in
+        let used = ap (λ (z : Result (Outcome × List ℕ) (E × List ℕ) × Workspace). w.given - z.1.fuel) e ∙ omega (arith, given) in
         record {
-          effects = by.effects s ∙ ap (λ (z : Result (Outcome × List ℕ) (E × List ℕ) × Workspace). left_by end z.0 z.1) e ∙ left-with end r output new.work ∙ (cc);
-          fuel = by.fuel s ∙ ap (λ (z : Result (Outcome × List ℕ) (E × List ℕ) × Workspace). w.given - z.1.fuel) e ∙ omega (arith, given);
+          effect = subst (λ (f : Effect). makes p.spec s f p.fuel) effects (subst (λ (n : ℕ). makes p.spec s (effect_by end steps w s) n) used (by s tree agree));
           fits = subst (λ (d : Changes). IsTree (laid_over d s.tree)) (sym delta) (fits s tree agree);
         };
   }

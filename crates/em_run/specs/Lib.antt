@@ -1,4 +1,5 @@
 pub mod Codes
 pub mod Runs
 pub mod Meanings
+pub mod Serial
 pub mod Examples

@@ -2,7 +2,7 @@
 --     fresh base job units       the workspace of a job that has done nothing yet
 --     end_in end r               how the job ended: by its outcome, or by the one that its error comes to
 --     effect_by, used_by         what the steps make of a state, and the fuel that they take there
---     IsToldBy ..                these are the spec's meanings
+--     IsToldBy .. s              that is what the spec makes of the state
 use Rattle.std.specs.Prelude.{◌≡◌, ℕ, ◌-◌, List, [], Result, Ok, Err}
 use Rattle.std.specs.FinMap as map
 use Rattle.em_tree.specs.declared.outcome.Outcome.{Outcome}
@@ -29,6 +29,6 @@ effect_by end steps w s = left_by end (steps [] (snapshot s) w).0 (steps [] (sna
 unfoldable pub used_by : {E : Type 0} → Steps (List ℕ) E Outcome → Workspace → State → ℕ
 used_by steps w s = w.given - (steps [] (snapshot s) w).1.fuel
 
-pub record IsToldBy {S E : Type 0} (effect : S → State → Effect) (used : S → State → ℕ) (spec : S) (end : E → Outcome) (steps : Steps (List ℕ) E Outcome) (w : Workspace) : Type 0 where
-  pub effects : (s : State) → effect spec s ≡ effect_by end steps w s
-  pub fuel : (s : State) → used spec s ≡ used_by steps w s
+-- the spec makes of the state what the steps make of it
+abbrev pub IsToldBy : {S E : Type 0} → (S → State → Effect → ℕ → Type 0) → S → (E → Outcome) → Steps (List ℕ) E Outcome → Workspace → State → Type 0
+IsToldBy makes spec end steps w s = makes spec s (effect_by end steps w s) (used_by steps w s)

@@ -24,8 +24,8 @@ pub struct Parts<S> {
     pub fuel: u64,
 }
 
-/// A valid run. On each state that agrees with every entry of its usage, its spec has this delta, output and outcome as its
-/// effect and uses this fuel, and the delta laid over the state's tree gives a tree. Contracts see the parts.
+/// A valid run. On each state that agrees with every entry of its usage, its spec may have this delta, output and outcome as its
+/// effect and use this fuel, and the delta laid over the state's tree gives a tree. Contracts see the parts.
 #[derive(Drop)]
 pub struct Run<S: Spec> {
     parts: Parts<S>,
@@ -42,7 +42,7 @@ impl<S: Spec> Model for Run<S> {
 
     ghost view = { λ r. r.parts };
 
-    ghost invariant = { λ r. IsValid S.effect S.used r.parts };
+    ghost invariant = { λ r. IsValid S.makes r.parts };
 }
 
 impl<S: Spec> Run<S> {
@@ -55,7 +55,7 @@ impl<S: Spec> Run<S> {
         outcome: Outcome,
         fuel: u64,
     ) -> Run<S>
-        requires { IsValid S.effect S.used
+        requires { IsValid S.makes
             (record { spec = spec; usage = usage; delta = delta; output = output; outcome = outcome; fuel = fuel }) }
         ensures { result
             ≡ record { spec = spec; usage = usage; delta = delta; output = output; outcome = outcome; fuel = fuel } }
@@ -116,7 +116,7 @@ impl<S: Spec> Run<S> {
 
     /// Hands out that the run is valid, and does nothing.
     pub fn valid(&self)
-        ensures { IsValid S.effect S.used self.now }
+        ensures { IsValid S.makes self.now }
     {
         let _ = &self.parts;
     }
@@ -124,7 +124,7 @@ impl<S: Spec> Run<S> {
     /// What it holds. It takes no memory.
     pub fn into_parts(self) -> Parts<S>
         ensures parts { result ≡ self }
-        ensures valid { IsValid S.effect S.used self }
+        ensures valid { IsValid S.makes self }
     {
         let Run { parts } = self;
         parts

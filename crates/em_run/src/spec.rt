@@ -17,11 +17,8 @@ pub trait Spec: Eq + Drop + Send + Sync {
     /// Whether the serial run ends after this job, where the job ends so.
     ghost ends_after: { Self → Outcome → Bool };
 
-    /// What the job changes in a state, what it says, and how it ends.
-    ghost effect: { Self → State → Effect };
-
-    /// How much fuel it takes there.
-    ghost used: { Self → State → ℕ };
+    /// On this state the job may have this effect, and take this fuel.
+    ghost makes: { Self → State → Effect → ℕ → Type 0 };
 
     /// The job's number.
     fn job(&self) -> u32
@@ -37,5 +34,5 @@ pub trait Spec: Eq + Drop + Send + Sync {
 
     /// Equal specs mean the same.
     ghost means_same: { (a b : Self) → Self.eq a b ≡ true
-        → MeansSame job_of ends_after effect used a b };
+        → MeansSame job_of ends_after makes a b };
 }

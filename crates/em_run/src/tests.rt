@@ -1,6 +1,6 @@
 //! A small job, and who runs it. The tests of it stand apart, so that a wrong body here can be tried without them.
 ghost use Rattle.std.specs.Prelude.{◌≡◌, [], false, refl, IfOk, OnOk};
-ghost use Rattle.std.proofs.Common.{ap};
+ghost use Rattle.std.proofs.Common.{ap, ◌∙◌};
 ghost use Rattle.em_view.specs.Performs.{is_free};
 ghost use Rattle.em_view.specs.Rows.{is_memory};
 ghost use Rattle.em_view.specs.Steps.{Does, Works};
@@ -30,15 +30,16 @@ impl Spec for Mark {
 
     ghost ends_after = { λ m o. is_failed o };
 
-    ghost effect = { λ m s. effect_by end_of (mark m.path) (fresh 100 m.job m.fuel) s };
-
-    ghost used = { λ m s. used_by (mark m.path) (fresh 100 m.job m.fuel) s };
+    ghost makes = { λ m s e n. (e ≡ effect_by end_of (mark m.path) (fresh 100 m.job m.fuel) s)
+        × (n ≡ used_by (mark m.path) (fresh 100 m.job m.fuel) s) };
 
     ghost means_same = { λ a b h. let e = same_parts (a.job, (a.fuel, a.path)) (b.job, (b.fuel, b.path)) h in record {
       number = ap (λ x. x.0) e;
       ends = λ o. refl;
-      effects = λ s. ap (λ x. effect_by end_of (mark x.1.1) (fresh 100 x.0 x.1.0) s) e;
-      fuel = λ s. ap (λ x. used_by (mark x.1.1) (fresh 100 x.0 x.1.0) s) e;
+      effects = λ s f n. λ made. (
+        made.0 ∙ ap (λ x. effect_by end_of (mark x.1.1) (fresh 100 x.0 x.1.0) s) e,
+        made.1 ∙ ap (λ x. used_by (mark x.1.1) (fresh 100 x.0 x.1.0) s) e,
+      );
     } };
 
     fn job(&self) -> u32 {
