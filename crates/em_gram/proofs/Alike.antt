@@ -5,11 +5,11 @@ use Rattle.em_grammar.specs.Checks.{apart, within}
 use Rattle.em_grammar.specs.Gives.{begins_with, Spells, all, parted}
 use Rattle.em_grammar.proofs.Cutting.{cut, shorter}
 use Rattle.em_lexeme.specs.declared.lexeme.What.{What}
-use Rattle.em_gram.specs.Kinds.{kinds, class_of}
-use Rattle.em_gram.specs.Shell.{shell, Expr, key, newlines}
+use Rattle.em_token.specs.Kinds.{kinds, class_of}
+use Rattle.em_token.specs.Shell.{shell, Expr, key, newlines}
 use Rattle.em_gram.specs.Patterns.{row as row_of}
 use Rattle.em_gram.specs.Same.{Shape, pair, row}
-use Rattle.em_gram.specs.declared.kind.Kind.TheVariants.{Newline}
+use Rattle.em_token.specs.declared.kind.Kind.TheVariants.{Newline}
 use Rattle.em_gram.proofs.Starting.{Pat, begins_key, begins_wider, not_begins}
 
 -- none of these follows

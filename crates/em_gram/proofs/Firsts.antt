@@ -7,13 +7,13 @@ use Rattle.em_grammar.proofs.Reading.{among-append}
 use Rattle.em_grammar.specs.Gives.{begins_with, Spells, all, parted}
 use Rattle.em_lexeme.specs.declared.lexeme.What.{What}
 use Rattle.em_lexeme.specs.declared.lexeme.What.TheVariants as What
-use Rattle.em_gram.specs.Kinds.{kinds, class_of, words, words_but_esac, command_words, reserved_words}
-use Rattle.em_gram.specs.Shell.{shell, Expr, key, newlines, bare, reserved}
+use Rattle.em_token.specs.Kinds.{kinds, class_of, words, words_but_esac, command_words, reserved_words}
+use Rattle.em_token.specs.Shell.{shell, Expr, key, newlines, bare, reserved}
 use Rattle.em_gram.specs.Nesting.{piece_pattern}
 use Rattle.em_gram.specs.Patterns.{Spelling, digit_of, bytes_spelling, output_spelling, value_spelling, body_of, some_list, list_of, word_spelled, any_word, words_spelled, weave, mixed, some_parts, simple_spelled, block_of, staged, first_pattern_of, pattern_behind, patterns_of}
 use Rattle.em_gram.specs.Patterns.{command_pattern, compound_pattern, what_spelled_as, and_or_pattern, assigned_pattern, branch_pattern, case_pattern, for_pattern, if_pattern, item_pattern, joined_pattern, loop_pattern, pipeline_pattern, redirect_pattern, script_listing, script_pattern, body_pattern, simple_pattern, value_spelled_as, word_spelling, piece_spelling}
 use Rattle.em_gram.specs.Same.{Shape, nothing, pair, bytes, flag, variant, row, optional, what_shape, value_shape, word_shape, script_shape, piece_shape, command_shape, compound_shape, simple_shape, redirect_shape, if_shape, loop_shape, for_shape, case_shape}
-use Rattle.em_gram.specs.declared.kind.Kind.TheVariants.{Plain, Name, Assignment, Bang, If as If_, Elif, Else, While, Until, For as For_, Case as Case_, LeftBrace, WordEnd, Bytes, Assigning, Value as Value_, ArgumentStart, ArgumentEnd, SubstitutionStart, SubstitutionEnd, Newline, Semicolon, CaseEnd, AndIf, OrIf, Pipe, LeftParen, RightParen, RightBrace, Number}
+use Rattle.em_token.specs.declared.kind.Kind.TheVariants.{Plain, Name, Assignment, Bang, If as If_, Elif, Else, While, Until, For as For_, Case as Case_, LeftBrace, WordEnd, Bytes, Assigning, Value as Value_, ArgumentStart, ArgumentEnd, SubstitutionStart, SubstitutionEnd, Newline, Semicolon, CaseEnd, AndIf, OrIf, Pipe, LeftParen, RightParen, RightBrace, Number}
 use Rattle.std.specs.declared.vec.Vec.{Vec}
 use Rattle.em_syntax.specs.declared.tree.Command.{Command}
 use Rattle.em_syntax.specs.declared.tree.Compound.{Compound}

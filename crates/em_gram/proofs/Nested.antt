@@ -7,11 +7,11 @@ use Rattle.em_grammar.specs.Gives.{all, Spells}
 use Rattle.em_grammar.proofs.Giving.{spell_front, spell_then, spell_all_tail}
 use Rattle.em_lexeme.specs.declared.lexeme.What.{What}
 use Rattle.em_lexeme.specs.declared.lexeme.What.TheVariants as What
-use Rattle.em_gram.specs.Kinds.{kinds}
-use Rattle.em_gram.specs.Shell.{shell, Expr, key}
+use Rattle.em_token.specs.Kinds.{kinds}
+use Rattle.em_token.specs.Shell.{shell, Expr, key}
 use Rattle.em_gram.specs.Patterns.{Spelling, piece_spelling, word_spelling, value_spelling}
 use Rattle.em_gram.specs.Nesting.{piece_pattern, head_pattern, flat}
-use Rattle.em_gram.specs.declared.kind.Kind.TheVariants.{ArgumentStart, ArgumentEnd}
+use Rattle.em_token.specs.declared.kind.Kind.TheVariants.{ArgumentStart, ArgumentEnd}
 use Rattle.em_gram.specs.declared.nest.Head.{Head}
 use Rattle.em_gram.specs.declared.nest.Open.{Open}
 use Rattle.em_syntax.specs.declared.tree.Word.{Word, roll-Word}

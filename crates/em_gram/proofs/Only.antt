@@ -11,14 +11,15 @@ use Rattle.em_lexeme.specs.declared.lexeme.Lexed.{Lexed}
 use Rattle.em_gram.specs.Line.{IsScript}
 use Rattle.em_lexeme.specs.declared.lexeme.What.{What}
 use Rattle.em_lexeme.specs.declared.lexeme.What.TheVariants as What
-use Rattle.em_gram.specs.Kinds.{kinds, class_of, whats, words, words_but_esac, command_words, reserved_words, names}
-use Rattle.em_gram.specs.Shell.{shell, Expr, key, newlines, bare, reserved, sequential, item_end}
+use Rattle.em_token.specs.Kinds.{kinds, class_of, whats, words, words_but_esac, command_words, reserved_words, names}
+use Rattle.em_token.specs.Shell.{shell, Expr, key, newlines, bare, reserved, sequential, item_end}
 use Rattle.em_gram.specs.Nesting.{piece_pattern}
-use Rattle.em_gram.specs.Patterns.{Spelling, digit_of, only_digit, never, body_of, some_list, list_of, word_spelled, any_word, bytes_spelled, name_spelled, assigned_spelled, number_spelled, digit_spelled, operator_spelled, target_spelled, is_duplicate, usual, redirect_spelled, words_spelled, weave, mixed, some_parts, simple_spelled, block_of, do_of, staged, else_of, branches_of, first_pattern_of, pattern_behind, patterns_of, items_of, row as row_of}
+use Rattle.em_gram.specs.Patterns.{Spelling, digit_of, only_digit, never, body_of, some_list, list_of, word_spelled, any_word, assigned_spelled, number_spelled, digit_spelled, operator_spelled, target_spelled, is_duplicate, usual, redirect_spelled, words_spelled, weave, mixed, some_parts, simple_spelled, block_of, do_of, staged, else_of, branches_of, first_pattern_of, pattern_behind, patterns_of, items_of, row as row_of}
+use Rattle.em_token.specs.Words.{bytes_spelled, name_spelled}
 use Rattle.em_gram.specs.Patterns.{command_pattern, compound_pattern, and_or_pattern, assigned_pattern, branch_pattern, case_pattern, for_pattern, if_pattern, item_pattern, joined_pattern, loop_pattern, pipeline_pattern, redirect_pattern, script_listing, script_pattern, body_pattern, simple_pattern, word_spelling, piece_spelling}
 use Rattle.em_gram.specs.Same.{Shape, nothing, pair, bytes, flag, number, kind, variant, row, optional}
 use Rattle.em_gram.specs.Same.{command_shape, compound_shape, and_or_shape, assigned_shape, branch_shape, case_shape, for_shape, if_shape, item_shape, joined_shape, loop_shape, pipeline_shape, redirect_shape, script_shape, simple_shape, word_shape, piece_shape}
-use Rattle.em_gram.specs.declared.kind.Kind.TheVariants.{Plain, Name, Assignment, Bang, If as If_, Then, Elif, Else, Fi, While, Until, Do, Done, For as For_, In, Case as Case_, Esac, LeftBrace, RightBrace, WordEnd, Bytes, Assigning, Value as Value_, ArgumentStart, ArgumentEnd, SubstitutionStart, SubstitutionEnd, Newline, Semicolon, CaseEnd, AndIf, OrIf, Pipe, LeftParen, RightParen, Number, Less, Great, DoubleGreat, GreatAnd}
+use Rattle.em_token.specs.declared.kind.Kind.TheVariants.{Plain, Name, Assignment, Bang, If as If_, Then, Elif, Else, Fi, While, Until, Do, Done, For as For_, In, Case as Case_, Esac, LeftBrace, RightBrace, WordEnd, Bytes, Assigning, Value as Value_, ArgumentStart, ArgumentEnd, SubstitutionStart, SubstitutionEnd, Newline, Semicolon, CaseEnd, AndIf, OrIf, Pipe, LeftParen, RightParen, Number, Less, Great, DoubleGreat, GreatAnd}
 use Rattle.em_syntax.specs.declared.tree.RedirectKind.{RedirectKind}
 use Rattle.em_syntax.specs.declared.tree.RedirectKind.TheVariants as RedirectKind
 use Rattle.em_syntax.specs.declared.tree.Command.{Command}

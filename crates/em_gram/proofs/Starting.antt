@@ -6,10 +6,10 @@ use Rattle.em_grammar.specs.Gives.{begins_with, Spells}
 use Rattle.em_grammar.proofs.Reading.{apart_at, within_at}
 use Rattle.em_lexeme.specs.declared.lexeme.What.{What}
 use Rattle.em_lexeme.specs.declared.lexeme.What.TheVariants as What
-use Rattle.em_gram.specs.Kinds.{kinds, class_of}
-use Rattle.em_gram.specs.Shell.{shell, Expr}
+use Rattle.em_token.specs.Kinds.{kinds, class_of}
+use Rattle.em_token.specs.Shell.{shell, Expr}
 use Rattle.em_gram.specs.Patterns.{Spelling, never, redirect_pattern, redirect_spelled, number_spelled, operator_spelled, target_spelled, is_duplicate, digit_spelled, any_word, usual, word_spelling}
-use Rattle.em_gram.specs.declared.kind.Kind.TheVariants.{Number, Less, Great, DoubleGreat, GreatAnd}
+use Rattle.em_token.specs.declared.kind.Kind.TheVariants.{Number, Less, Great, DoubleGreat, GreatAnd}
 use Rattle.em_syntax.specs.declared.tree.RedirectKind.{RedirectKind}
 use Rattle.em_syntax.specs.declared.tree.RedirectKind.TheVariants as RedirectKind
 use Rattle.em_syntax.specs.declared.tree.Redirect.{Redirect, out-Redirect}

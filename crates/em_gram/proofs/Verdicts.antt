@@ -13,12 +13,12 @@ use Rattle.em_lexeme.specs.declared.lexeme.What.{What}
 use Rattle.em_lexeme.specs.declared.no.LexNo.{LexNo}
 use Rattle.em_lexeme.specs.declared.no.LexNo.TheVariants as LexNo
 use Rattle.em_syntax.specs.declared.tree.Script.{Script}
-use Rattle.em_gram.specs.Kinds.{whats}
-use Rattle.em_gram.specs.Shell.{shell, line, background, function, positional}
+use Rattle.em_token.specs.Kinds.{whats}
+use Rattle.em_token.specs.Shell.{shell, line, background, function, positional}
 use Rattle.em_gram.specs.Line.{IsLine, IsScript, IsUpTo, IsFault, ends_with, may_be, steps_back, place_at, FirstFault, StopIs, GoesOn, number_of, RefusedHere, UnexpectedAt}
 use Rattle.em_gram.specs.declared.no.GramNo.{GramNo}
 use Rattle.em_gram.specs.declared.no.GramNo.TheVariants as GramNo
-use Rattle.em_gram.proofs.Checked.{line_right, line_names}
+use Rattle.em_token.proofs.Checked.{line_right, line_names}
 use Rattle.em_gram.proofs.Whole.{real}
 
 -- first faults

@@ -10,10 +10,10 @@ use Rattle.em_lexeme.specs.declared.lexeme.Lexed.{Lexed}
 use Rattle.em_lexeme.specs.declared.lexeme.What.{What}
 use Rattle.em_lexeme.specs.declared.no.LexNo.{LexNo}
 use Rattle.em_lexeme.specs.declared.no.LexNo.TheVariants as LexNo
-use Rattle.em_gram.specs.Kinds.{class_of, kinds, whats}
-use Rattle.em_gram.specs.Shell.{shell, list, line, newlines, background, function, positional}
+use Rattle.em_token.specs.Kinds.{class_of, kinds, whats}
+use Rattle.em_token.specs.Shell.{shell, list, line, newlines, background, function, positional}
 use Rattle.em_gram.specs.Patterns.{body_pattern}
-use Rattle.em_gram.specs.declared.kind.Kind.TheVariants.{RightParen}
+use Rattle.em_token.specs.declared.kind.Kind.TheVariants.{RightParen}
 use Rattle.em_syntax.specs.declared.tree.Script.{Script}
 use Rattle.em_gram.specs.declared.no.GramNo.{GramNo}
 use Rattle.em_gram.specs.declared.no.GramNo.TheVariants as GramNo
