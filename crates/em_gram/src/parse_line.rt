@@ -12,14 +12,14 @@ ghost use Rattle.em_lex.specs.Lexing.{lexed};
 ghost use Rattle.em_gram.specs.Line.{IsScript, IsFault, GoesOn, lexed_of, place_at, is_function};
 ghost use Rattle.em_token.specs.Kinds.{whats};
 
-use em_token::kind::Kind;
 use crate::no::GramNo;
 use crate::parser::line;
-use em_token::read::opens;
-use em_token::stop::{Stop, Why};
 use em_base::Construct;
 use em_lex::{LexNo, Lexed, Lexeme, lexemes};
 use em_syntax::Script;
+use em_token::kind::Kind;
+use em_token::read::opens;
+use em_token::stop::{Stop, Why};
 use std::alloc::Global;
 
 /// Where the lexeme of this number begins, or the line's length behind the last.

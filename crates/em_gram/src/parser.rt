@@ -13,12 +13,17 @@ ghost use Rattle.em_gram.specs.Simple.{so_far};
 ghost use Rattle.em_token.specs.Seen.{fault_of};
 ghost use Rattle.em_token.specs.declared.kind.Kind.TheVariants as Kind;
 
-use em_token::kind::Kind;
 use crate::nest::Nest;
 use crate::piece::{
     argument_begin, assigned_name, duplicate, file_operator, no_commands, number, output_piece,
     redirection, simple_piece, substitution_begin,
 };
+use em_lex::Lexeme;
+use em_syntax::{
+    AndOr, Assigned, Branch, Case, Command, Compound, For, If, Item, Joined, Loop, Pipeline,
+    Redirect, RedirectKind, Script, Simple, Word, WordPiece,
+};
+use em_token::kind::Kind;
 use em_token::read::{
     bang, bare, descend, goes_on, in_word, loop_kind, name, newlines, opens, opens_argument,
     opens_command_word, opens_item, opens_list, opens_prefix, opens_redirect, opens_simple,
@@ -26,11 +31,6 @@ use em_token::read::{
     skip_word,
 };
 use em_token::stop::{Stop, Why};
-use em_lex::Lexeme;
-use em_syntax::{
-    AndOr, Assigned, Branch, Case, Command, Compound, For, If, Item, Joined, Loop, Pipeline,
-    Redirect, RedirectKind, Script, Simple, Word, WordPiece,
-};
 use std::alloc::Global;
 
 /// The pieces of a word, and its end.

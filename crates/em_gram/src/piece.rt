@@ -14,14 +14,14 @@ ghost use Rattle.em_token.specs.Seen.{fault_of};
 ghost use Rattle.em_token.specs.declared.kind.Kind.TheVariants as Kind;
 ghost use Rattle.em_syntax.specs.declared.tree.RedirectKind.TheVariants as RedirectKind;
 
-use em_token::held::{argument_in, bytes_in, number_in, substitution_in, value_in};
-use em_token::kind::Kind;
 use crate::nest::Head;
-use em_token::read::{descend, opens, skip, take};
-use em_token::stop::Stop;
 use em_base::Text;
 use em_lex::Lexeme;
 use em_syntax::{Redirect, RedirectKind, Script, Value, Word, WordPiece, WordWhat};
+use em_token::held::{argument_in, bytes_in, number_in, substitution_in, value_in};
+use em_token::kind::Kind;
+use em_token::read::{descend, opens, skip, take};
+use em_token::stop::Stop;
 use std::alloc::Global;
 
 /// A piece of bytes.

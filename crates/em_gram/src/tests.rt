@@ -2,7 +2,7 @@ use super::*;
 use em_base::{Construct, NoMemory, Text};
 use std::alloc::Global;
 use std::test::Fail;
-use tables::{FAULTS, TREES};
+use tables::*;
 
 mod render;
 mod tables;
@@ -63,13 +63,74 @@ fn is_fault(alloc: Global, line: &[u8], fault: &str, at: usize) -> bool {
     }
 }
 
-/// Lines with each kind of fault: at the begin, in the middle, at the end and inside of words.
+/// Whether a line has this fault where a `^` stands, which isn't of the line.
+fn is_marked(alloc: Global, row: &str, fault: &str) -> Result<bool, NoMemory> {
+    let Some((front, behind)) = row.split_once('^') else {
+        return Ok(false);
+    };
+    let mut line = Text::from_slice(alloc, front.as_bytes())?;
+    line.add(behind.as_bytes())?;
+    Ok(is_fault(alloc, line.bytes(), fault, front.len()))
+}
+
+/// Syntax errors: at the begin, in the middle and at the end of lists, pipelines and commands.
 #[test]
-fn lines_have_faults(rt: HostRuntime) {
+fn what_does_not_belong_is_unexpected(rt: HostRuntime) -> Result<(), Fail> {
     let alloc = rt.alloc();
-    for (line, fault, at) in &FAULTS {
-        assert!(rt; is_fault(alloc, line.as_bytes(), fault, *at), "{line}");
+    for row in &MISPLACED {
+        assert!(rt; is_marked(alloc, row, "unexpected")?, "{row}");
     }
+    Ok(())
+}
+
+/// Syntax errors in compound commands.
+#[test]
+fn compounds_have_their_words(rt: HostRuntime) -> Result<(), Fail> {
+    let alloc = rt.alloc();
+    for row in &MISPLACED_IN_COMPOUNDS {
+        assert!(rt; is_marked(alloc, row, "unexpected")?, "{row}");
+    }
+    Ok(())
+}
+
+/// Syntax errors inside of words, and what is no value.
+#[test]
+fn words_are_read_through(rt: HostRuntime) -> Result<(), Fail> {
+    let alloc = rt.alloc();
+    for row in &MISPLACED_IN_WORDS {
+        assert!(rt; is_marked(alloc, row, "unexpected")?, "{row}");
+    }
+    Ok(())
+}
+
+/// What isn't closed is told at its begin.
+#[test]
+fn what_opens_must_be_closed(rt: HostRuntime) -> Result<(), Fail> {
+    let alloc = rt.alloc();
+    for row in &UNCLOSED {
+        assert!(rt; is_marked(alloc, row, "unclosed")?, "{row}");
+    }
+    Ok(())
+}
+
+/// Constructs that are refused by the grammar.
+#[test]
+fn constructs_are_refused(rt: HostRuntime) -> Result<(), Fail> {
+    let alloc = rt.alloc();
+    for (row, name) in &REFUSED {
+        assert!(rt; is_marked(alloc, row, name)?, "{row}");
+    }
+    Ok(())
+}
+
+/// Constructs that are refused by their tokens.
+#[test]
+fn tokens_are_refused(rt: HostRuntime) -> Result<(), Fail> {
+    let alloc = rt.alloc();
+    for (row, name) in &REFUSED_TOKENS {
+        assert!(rt; is_marked(alloc, row, name)?, "{row}");
+    }
+    Ok(())
 }
 
 /// So many of these, one in another.

@@ -1,15 +1,13 @@
 -- The grammar is LL(1), and what it has begun can always be completed.
-use Rattle.std.proofs.Common.{◌≡◌, ℕ, ◌==◌, ◌||◌, Bool, true, false, List, [], ◌∷◌, ◌++◌, map, refl, sym, arith}
+use Rattle.std.proofs.Common.{◌≡◌, ℕ, ◌==◌, ◌||◌, Bool, true, false, List, [], ◌∷◌, map, refl, sym}
 use Rattle.std.proofs.lemmas.Bool.{eqb-true}
 use Rattle.em_grammar.specs.Production.{is_among, Ending, IsWith}
 use Rattle.em_grammar.specs.Checks.{decided, lives, stays, firm, within}
-use Rattle.em_grammar.specs.Machine.{run, Outcome, fault, first_set, nullable}
+use Rattle.em_grammar.specs.Machine.{run, fault, first_set, nullable}
 use Rattle.em_grammar.proofs.Reading.{Decided, Spelled, Rightly, right_alone, named, names}
 use Rattle.em_lexeme.specs.declared.lexeme.What.{What}
-use Rattle.em_lexeme.specs.declared.lexeme.What.TheVariants as What
 use Rattle.em_lexeme.specs.declared.lexeme.Start.{Start}
-use Rattle.em_lexeme.specs.declared.lexeme.Start.TheVariants as Start
-use Rattle.em_token.specs.Kinds.{kinds, class_of, words}
+use Rattle.em_token.specs.Kinds.{class_of, words}
 use Rattle.em_token.specs.Shell.{shell, list, line}
 
 pub list_ll1 : decided shell list shell.list_follow ≡ true

@@ -1,16 +1,15 @@
 -- The first lexeme, and what it holds.
-use Rattle.std.proofs.Common.{◌≡◌, ◌⊎◌, inl, inr, ℕ, zero, suc, ◌==◌, nat_le, ◌+◌, ◌-◌, Bool, true, false, not, ◌||◌, ◌&&◌, cond, List, [], ◌∷◌, ◌++◌, length, take, drop, map, ◌≤◌, ◌<◌, length-take, length-drop, Some, None, refl, sym, ap, subst, ◌∙◌, arith}
+use Rattle.std.proofs.Common.{◌≡◌, inl, inr, ℕ, zero, suc, nat_le, ◌+◌, ◌-◌, Bool, true, false, cond, List, [], ◌∷◌, ◌++◌, length, take, drop, ◌≤◌, ◌<◌, length-take, length-drop, refl, sym, ap, subst, ◌∙◌, arith}
 use Rattle.std.specs.Prelude.{Result, slice_index_or, slice_get}
 use Rattle.std.specs.Result.{IsErr, IsErrAnd}
 use Rattle.std.proofs.lemmas.List.{take_all}
 use Rattle.std.proofs.lemmas.Bool.{eqb-true}
-use Rattle.em_grammar.specs.Production.{Production, one, this, many, nested, is_among, depth}
+use Rattle.em_grammar.specs.Production.{one, this, nested, is_among, depth}
 use Rattle.em_grammar.specs.Gives.{begins_with, Reads, Faults, Turns, Gives, lead_of, lead_off}
-use Rattle.em_grammar.proofs.Giving.{reads_one, reads_key, more_many, spell_many_more, opens_level, opens_level_this, too_deep, stopped}
+use Rattle.em_grammar.proofs.Giving.{reads_one, reads_key, more_many, spell_many_more, opens_level, too_deep, stopped}
 use Rattle.em_lexeme.specs.declared.lexeme.Lexeme.{Lexeme}
 use Rattle.em_lexeme.specs.declared.lexeme.What.{What}
-use Rattle.em_lexeme.specs.declared.lexeme.What.TheVariants as What
-use Rattle.em_token.specs.Kinds.{whats, class_of, kinds, kind_of_bytes, ends_with_equals, is_equals, code_of}
+use Rattle.em_token.specs.Kinds.{whats, class_of, kinds, ends_with_equals, is_equals, code_of}
 use Rattle.em_token.specs.Shell.{shell, key, newlines, Expr}
 use Rattle.em_token.specs.Words.{bytes_spelled}
 use Rattle.em_token.specs.Seen.{fault_of}

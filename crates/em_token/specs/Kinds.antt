@@ -1,10 +1,8 @@
 -- The classes of lexemes.
-use Rattle.std.specs.Prelude.{ℕ, ◌-◌, ◌==◌, nat_le, Bool, true, false, cond, List, [], ◌∷◌, ◌++◌, map, length, slice_get, Option, Some, None}
+use Rattle.std.specs.Prelude.{ℕ, ◌-◌, ◌==◌, nat_le, Bool, true, false, cond, List, [], ◌∷◌, map, length, slice_get, Option, Some, None}
 use Rattle.em_lexeme.specs.declared.lexeme.Lexeme.{Lexeme}
 use Rattle.em_lexeme.specs.declared.lexeme.What.{What}
-use Rattle.em_lexeme.specs.declared.lexeme.What.TheVariants as What
 use Rattle.em_lexeme.specs.declared.lexeme.Start.{Start}
-use Rattle.em_lexeme.specs.declared.lexeme.Start.TheVariants as Start
 use Rattle.em_token.specs.declared.kind.Kind.{Kind}
 use Rattle.em_token.specs.declared.kind.Kind.TheVariants.{Plain, Name, Assignment, Bang, If, Then, Elif, Else, Fi, While, Until, Do, Done, For, In, Case, Esac, LeftBrace, RightBrace, WordEnd, Bytes, Assigning, Value, ArgumentStart, ArgumentEnd, BadValue, SubstitutionStart, SubstitutionEnd, Newline, Semicolon, CaseEnd, Ampersand, AndIf, OrIf, Pipe, LeftParen, RightParen, Number, Less, Great, DoubleGreat, GreatAnd}
 

@@ -1,6 +1,5 @@
 -- What a function of the parser returned, as the grammar sees it.
-use Rattle.std.specs.Prelude.{ℕ, List, map, Option, Some, None}
-use Rattle.em_grammar.specs.Production.{Production}
+use Rattle.std.specs.Prelude.{ℕ, List, Option, Some, None}
 use Rattle.em_lexeme.specs.declared.lexeme.What.{What}
 use Rattle.em_grammar.specs.Production.{depth}
 use Rattle.em_token.specs.Kinds.{whats}

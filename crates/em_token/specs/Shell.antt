@@ -1,5 +1,5 @@
 -- The grammar of the shell.
-use Rattle.std.specs.Prelude.{ℕ, List, [], ◌∷◌, ◌++◌}
+use Rattle.std.specs.Prelude.{ℕ, List, [], ◌∷◌}
 use Rattle.em_grammar.specs.Production.{Production, empty, one, ◌⨾◌, ◌∣◌, many, more, nested, inner, last, balanced, refused}
 use Rattle.em_grammar.specs.Machine.{Grammar}
 use Rattle.em_lexeme.specs.declared.lexeme.What.{What}

@@ -3,7 +3,6 @@ use Rattle.std.specs.Prelude.{ℕ, Bool, true, false, ◌||◌, ◌&&◌, List, 
 use Rattle.em_grammar.specs.Production.{one, this, ◌⨾◌, ◌∣◌}
 use Rattle.em_grammar.specs.Gives.{begins_with}
 use Rattle.em_lexeme.specs.declared.lexeme.What.{What}
-use Rattle.em_lexeme.specs.declared.lexeme.What.TheVariants as What
 use Rattle.em_token.specs.Kinds.{kinds, names}
 use Rattle.em_token.specs.Shell.{Expr, shell, key}
 use Rattle.em_token.specs.declared.kind.Kind.TheVariants.{ArgumentStart, ArgumentEnd, Bytes, Assigning, Value, SubstitutionStart, WordEnd}

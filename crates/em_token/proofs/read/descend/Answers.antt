@@ -1,12 +1,8 @@
-use Rattle.std.proofs.Common.{◌≡◌, ◌∙◌, sym, refl, Some, ap, arith, false, [], ◌∷◌, ◌++◌}
-use Rattle.em_grammar.proofs.Giving.{then_on, then_off, then_exit, left_on, right_on, gives_left, gives_right, reads_empty, no_one, is_refused, not_refused, no_level, end_many}
-use Rattle.em_grammar.specs.Gives.{lead_off}
-use Rattle.em_grammar.specs.Production.{refused, ◌∣◌, ◌⨾◌, this}
+use Rattle.std.proofs.Common.{◌∙◌, sym, arith}
+use Rattle.em_grammar.proofs.Giving.{no_level}
 use Rattle.em_token.specs.Kinds.{kinds, whats}
-use Rattle.em_token.specs.Shell as Grammar
-use Rattle.em_token.specs.Shell.{shell, key, background, positional}
-use Rattle.em_token.specs.declared.kind.Kind.TheVariants as Kind
-use Rattle.em_token.proofs.Tokens.{off, keyed, taken, among_first, split_first, descends, descends_this, deep_at, newline_more, shorter_rest, assigning_is, small_number}
+use Rattle.em_token.specs.Shell.{shell}
+use Rattle.em_token.proofs.Tokens.{descends, deep_at}
 use Rattle.em_token.proofs.read.descend.Goals as goal
 
 pub returns-then-not-opens-clause-err : goal.returns-then-not-opens-clause-err
