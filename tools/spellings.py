@@ -86,12 +86,11 @@ def head():
     steps = ', '.join(s + '_step' for _, _, s, _ in TYPES)
     names = ', '.join(f for _, f, _, _ in TYPES)
     s = '''-- How each tree is spelled, in terms of its parts. Written by tools/spellings.py.
-use Rattle.std.proofs.Common.{◌≡◌, [], ◌∷◌, ◌++◌, ℕ, List, Bool, map, refl, ap, sym, ◌∙◌, cond, Option, Some, None}
+use Rattle.std.proofs.Common.{◌≡◌, ℕ, List, Bool, map, refl, ap, sym, ◌∙◌, cond, Option, Some, None}
 use Rattle.std.specs.Option.{option_map}
 use Rattle.std.specs.declared.vec.Vec.{Vec}
-use Rattle.em_grammar.specs.Production.{empty, one, ◌⨾◌, ◌∣◌}
+use Rattle.em_grammar.specs.Production.{empty, ◌⨾◌}
 use Rattle.em_grammar.specs.Gives.{all}
-use Rattle.em_token.specs.Kinds.{kinds}
 use Rattle.em_token.specs.Shell.{Expr, key, newlines, sequential, bare, reserved}
 use Rattle.em_token.specs.declared.kind.Kind.TheVariants.{Bang, If as If_, Then, Fi, Until, While, For as For_, In, Case as Case_, Esac, LeftBrace, RightBrace, LeftParen, RightParen, AndIf, OrIf}
 use Rattle.em_syntax.specs.declared.tree.RedirectKind.{RedirectKind}

@@ -1,9 +1,8 @@
 -- What a lexeme holds, read into the tree.
-use Rattle.std.proofs.Common.{◌≡◌, ◌⊎◌, ℕ, ◌==◌, ◌+◌, ◌-◌, ◌≤◌, nat_le, Bool, true, false, cond, List, [], ◌∷◌, ◌++◌, length, take, map, Option, Some, None, refl, sym, ap, ◌∙◌, inl, inr, arith}
-use Rattle.std.specs.Option.{option_map}
+use Rattle.std.proofs.Common.{◌≡◌, ℕ, ◌+◌, ◌-◌, ◌≤◌, nat_le, Bool, true, false, List, [], ◌∷◌, ◌++◌, length, take, map, Option, Some, None, refl, ap, ◌∙◌, inl, inr, arith}
 use Rattle.std.specs.declared.vec.Vec.{Vec}
 use Rattle.std.proofs.lemmas.Bool.{eq-eqb}
-use Rattle.em_grammar.specs.Production.{Production, one, this, nested, empty, is_among, ◌⨾◌, ◌∣◌}
+use Rattle.em_grammar.specs.Production.{one, this, nested, empty, is_among, ◌⨾◌}
 use Rattle.em_grammar.specs.Gives.{Spells, Reads, Turns, Gives, lead_off}
 use Rattle.std.specs.Prelude.{Result, IfErr, slice_get, unwrap_or}
 use Rattle.std.specs.Result.{IsErr, IsErrAnd}
@@ -12,12 +11,10 @@ use Rattle.em_token.specs.declared.stop.Stop.{Stop}
 use Rattle.em_token.specs.Seen.{fault_of}
 use Rattle.em_lexeme.specs.declared.lexeme.Lexeme.{Lexeme}
 use Rattle.em_lexeme.specs.declared.lexeme.What.{What}
-use Rattle.em_lexeme.specs.declared.lexeme.What.TheVariants as What
 use Rattle.em_token.specs.Kinds.{kinds, whats, class_of}
 use Rattle.em_token.specs.Shell.{shell, Expr, key, newlines}
-use Rattle.em_gram.specs.Patterns.{Spelling, digit_of, only_digit, piece_spelling, script_listing, script_pattern, body_pattern, some_list, body_of, number_of, number_spelled, usual, target_spelled, redirect_pattern, word_spelling, output_spelling, list_of, never, and_or_pattern}
-use Rattle.em_token.specs.Words.{bytes_spelled}
-use Rattle.em_gram.specs.Nesting.{piece_pattern, head_pattern}
+use Rattle.em_gram.specs.Patterns.{digit_of, only_digit, piece_spelling, script_listing, script_pattern, body_pattern, some_list, body_of, number_of, number_spelled, usual, target_spelled, redirect_pattern, word_spelling, list_of, and_or_pattern}
+use Rattle.em_gram.specs.Nesting.{piece_pattern}
 use Rattle.em_token.specs.declared.kind.Kind.TheVariants.{Bytes, Assigning, Value, ArgumentStart, SubstitutionStart, SubstitutionEnd, Number}
 use Rattle.em_syntax.specs.declared.tree.RedirectKind.{RedirectKind}
 use Rattle.em_syntax.specs.declared.tree.Script.{Script, roll-Script}
@@ -27,7 +24,6 @@ use Rattle.em_syntax.specs.declared.tree.Redirect.{roll-Redirect}
 use Rattle.em_syntax.specs.declared.tree.WordPiece.{WordPiece, roll-WordPiece}
 use Rattle.em_syntax.specs.declared.tree.WordWhat.TheVariants as WordWhat
 use Rattle.em_syntax.specs.declared.tree.Value.{roll-Value}
-use Rattle.em_gram.specs.declared.nest.Head.{Head}
 use Rattle.em_gram.proofs.Spellings.{piece_made, what_Bytes, what_Value, what_Output, value_made, script_made, word_made, redirect_made}
 use Rattle.em_grammar.proofs.Giving.{spell_front}
 use Rattle.em_token.proofs.Tokens.{assigning_is, small_number, descends_this}

@@ -5,15 +5,15 @@ use Rattle.std.specs.Result.{IsErr, IsErrAnd}
 use Rattle.std.proofs.lemmas.List.{map-append, append_assoc, append-nil}
 use Rattle.std.proofs.lemmas.Bool.{eqb-true}
 use Rattle.std.proofs.lemmas.Result.{err_from_is_err_and}
-use Rattle.em_grammar.specs.Production.{Production, one, this, ◌⨾◌, ◌∣◌, empty, many, last, is_among}
+use Rattle.em_grammar.specs.Production.{this, ◌⨾◌, empty, is_among}
 use Rattle.em_grammar.specs.Machine.{first_set}
-use Rattle.em_grammar.specs.Checks.{firm, within}
+use Rattle.em_grammar.specs.Checks.{within}
 use Rattle.em_grammar.specs.Gives.{begins_with, Spells, all, Turns, Reads, Faults, Passes, Moves, Gives, lead_off}
 use Rattle.em_grammar.proofs.Reading.{within_at, apart_at, among-append}
 use Rattle.em_grammar.proofs.Giving.{spell_then, spell_front, spell_all_more, open_bracket, end_balanced, opens_bracket, closes_bracket, more_balanced, exit_balanced, begun, turn, moves_past, reads_last}
 use Rattle.em_lexeme.specs.declared.lexeme.What.{What}
 use Rattle.em_token.specs.declared.stop.Stop.{Stop}
-use Rattle.em_token.specs.declared.kind.Kind.TheVariants.{Assignment, ArgumentStart, ArgumentEnd, Bytes, Assigning, Value, SubstitutionStart, WordEnd}
+use Rattle.em_token.specs.declared.kind.Kind.TheVariants.{Assignment, ArgumentStart, ArgumentEnd, Bytes, Assigning, Value, SubstitutionStart}
 use Rattle.em_syntax.specs.declared.tree.Redirect.{Redirect}
 use Rattle.em_syntax.specs.declared.tree.Word.{Word}
 use Rattle.em_syntax.specs.declared.tree.Assigned.{Assigned}

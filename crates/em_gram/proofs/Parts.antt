@@ -1,20 +1,14 @@
 -- Exits and loops over the lexemes of a line.
-use Rattle.std.proofs.Common.{◌≡◌, ℕ, suc, zero, subst, cond, ◌<◌, ◌+◌, ◌-◌, Bool, true, false, List, [], ◌∷◌, ◌++◌, length, map, Option, Some, None, refl, sym, ap, ◌∙◌, inl, inr, arith}
-use Rattle.std.specs.Prelude.{Result}
-use Rattle.std.specs.Result.{IsErr, IsErrAnd}
+use Rattle.std.proofs.Common.{◌≡◌, ℕ, subst, ◌<◌, ◌-◌, true, false, List, [], ◌∷◌, ◌++◌, map, refl, inl, inr}
 use Rattle.std.proofs.lemmas.List.{map-append}
-use Rattle.std.proofs.lemmas.Result.{err_from_is_err_and}
-use Rattle.em_grammar.specs.Production.{Production, one, this, many, more, empty, inner, nested, refused, ◌⨾◌, ◌∣◌}
+use Rattle.em_grammar.specs.Production.{many, more, empty, inner, ◌⨾◌, ◌∣◌}
 use Rattle.em_grammar.specs.Machine.{first_set, nullable}
-use Rattle.em_grammar.specs.Gives.{begins_with, Spells, Reads, Faults, Turns, Passes, Moves, Lead, on, Gives, lead_of, lead_off, all, parted}
+use Rattle.em_grammar.specs.Gives.{begins_with, Spells, Reads, Turns, Lead, on, Gives, all, parted}
 use Rattle.em_grammar.specs.Checks.{firm}
-use Rattle.em_grammar.proofs.Giving.{turn, more_many, more_row, last_row, spell_then, gives_inner, stopped, then_on, then_off, then_exit, left_on, right_on, gives_left, gives_right, spell_all_more, spell_parted_more, spell_front, turn_off}
+use Rattle.em_grammar.proofs.Giving.{turn, more_many, more_row, last_row, spell_then, gives_inner, then_on, spell_all_more, spell_parted_more, spell_front}
 use Rattle.em_lexeme.specs.declared.lexeme.What.{What}
-use Rattle.em_token.specs.declared.stop.Stop.{Stop}
-use Rattle.em_token.specs.Kinds.{kinds, whats}
-use Rattle.em_token.specs.Shell.{shell, Expr, list, newlines, sequential, separator}
-use Rattle.em_gram.specs.Patterns.{row, list_of, some_list, items_of, patterns_of, first_pattern_of, pattern_behind, Spelling}
-use Rattle.em_token.specs.Seen.{fault_of}
+use Rattle.em_token.specs.Shell.{shell, Expr, list, sequential}
+use Rattle.em_gram.specs.Patterns.{row, list_of, some_list, patterns_of, first_pattern_of, pattern_behind, Spelling}
 use Rattle.em_token.proofs.Checked.{shell_firm}
 use Rattle.em_token.proofs.Tokens.{one_more}
 

@@ -1,8 +1,8 @@
-use Rattle.std.proofs.Common.{ℕ, ◌≡◌, ◌+◌, ◌*◌, ◌<◌, ◌≤◌, length, map, List, [], ◌∷◌}
-use Rattle.em_grammar.specs.Production.{one, many, more, ◌⨾◌}
+use Rattle.std.proofs.Common.{◌+◌, ◌*◌, ◌<◌, ◌≤◌, length, map, List, []}
+use Rattle.em_grammar.specs.Production.{many, more, ◌⨾◌}
 use Rattle.em_grammar.specs.Gives.{Turns, Moves, Spells, all, parted}
 use Rattle.em_lexeme.specs.declared.lexeme.What.{What}
-use Rattle.em_token.specs.Kinds.{kinds, whats}
+use Rattle.em_token.specs.Kinds.{whats}
 use Rattle.em_token.specs.Shell as Grammar
 use Rattle.em_token.specs.Shell.{shell, Expr, key}
 use Rattle.em_gram.specs.Patterns as Tree

@@ -1,4 +1,4 @@
-use Rattle.std.proofs.Common.{◌≡◌, ◌∙◌, sym, refl}
+use Rattle.std.proofs.Common.{◌∙◌, sym, refl}
 use Rattle.em_grammar.proofs.Giving.{then_on, then_off, left_on, right_on, gives_left, reads_empty}
 use Rattle.em_token.specs.Shell.{shell}
 use Rattle.em_token.proofs.Tokens.{off}
