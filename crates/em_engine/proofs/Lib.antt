@@ -1,0 +1,5 @@
+pub mod Nodes
+pub mod Counts
+pub mod Places
+pub mod Readying
+pub mod Steps
