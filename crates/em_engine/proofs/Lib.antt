@@ -3,3 +3,5 @@ pub mod Counts
 pub mod Places
 pub mod Readying
 pub mod Steps
+pub mod Fronting
+pub mod Finding

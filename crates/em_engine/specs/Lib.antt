@@ -4,3 +4,7 @@ pub mod Waits
 pub mod Journal
 pub mod Boards
 pub mod Calls
+pub mod Fronts
+pub mod Verdicts
+pub mod Changed
+pub mod Codes
