@@ -18,7 +18,7 @@ use Rattle.em_view.specs.declared.effect.Effect.{Effect}
 use Rattle.em_view.specs.Serial.{after}
 use Rattle.em_run.specs.declared.run.Parts.{Parts}
 use Rattle.em_run.specs.Runs.{effect_in}
-use Rattle.em_run.specs.Serial.{Made, state_after, Ran, is_early}
+use Rattle.em_run.specs.Serial.{Made, state_after, Ran, is_early, IsSerial}
 use Rattle.em_run.proofs.Serials.{state_more, ran_more, is_early_more}
 use Rattle.em_engine.specs.Changed.{flat, is_among}
 use Rattle.em_engine.specs.Fronts.{Standing, next_of, last_from, named_last, committed, Stands, IsStanding}
@@ -52,28 +52,53 @@ module _ {S : Type 0} (makes : S → State → Effect → ℕ → Type 0) (ends 
     small = small;
   }
 
+  -- a run of the next job more
+  pub stands_more : (v : Standing S) (made : List Made) (r : Parts S) (next : S) → Stands makes ends v made → next_of v ≡ Some next
+      → makes next v.state (effect_in r) r.fuel → ends r.spec r.outcome ≡ ends next r.outcome → Stands makes ends (committed ends v r) (made ++ made_by r ∷ [])
+  unfolding made_by
+  stands_more v made r next s is it same =
+      let m : Made = made_by r in
+      let early : is_early makes ends v.specs made ≡ false = sym s.ended_is ∙ (next_is v next is).0 in
+      let count : length v.deltas ≡ length made = ap length s.deltas_are ∙ length-map made _ in
+      let at : slice_get v.specs (length made) ≡ Some next = ap (slice_get v.specs) (sym count) ∙ (next_is v next is).1 in
+      record {
+        ran = ran_more makes ends v.start v.specs made next m s.ran early at (subst (λ (t : State). makes next t (effect_in r) r.fuel) s.state_is it);
+        ended_is = same ∙ sym (is_early_more makes ends v.specs made next m early at);
+        state_is = ap (after (effect_in r)) s.state_is ∙ sym (state_more v.start made m);
+        fuel_is = ap (λ (ns : List ℕ). ns ++ r.fuel ∷ []) s.fuel_is ∙ sym (map-push (λ (m : Made). m.fuel) made m);
+        deltas_are = ap (λ (ds : List Changes). ds ++ r.delta ∷ []) s.deltas_are ∙ sym (map-push (λ (m : Made). m.effect.changes) made m);
+      }
+
   pub commits : (v : Standing S) (r : Parts S) (next : S) → IsStanding makes ends v → next_of v ≡ Some next
       → makes next v.state (effect_in r) r.fuel → ends r.spec r.outcome ≡ ends next r.outcome → IsStanding makes ends (committed ends v r)
-  unfolding made_by
-  commits v r next b is it same =
-      let m : Made = made_by r in
-      let s = b.stands in
-      let going = (next_is v next is).0 in
-      let early : is_early makes ends v.specs b.made ≡ false = sym s.ended_is ∙ going in
-      let count : length v.deltas ≡ length b.made = ap length s.deltas_are ∙ length-map b.made _ in
-      let at : slice_get v.specs (length b.made) ≡ Some next = ap (slice_get v.specs) (sym count) ∙ (next_is v next is).1 in
-      record {
-        made = b.made ++ m ∷ [];
-        stands = record {
-          ran = ran_more makes ends v.start v.specs b.made next m s.ran early at (subst (λ (t : State). makes next t (effect_in r) r.fuel) s.state_is it);
-          ended_is = same ∙ sym (is_early_more makes ends v.specs b.made next m early at);
-          state_is = ap (after (effect_in r)) s.state_is ∙ sym (state_more v.start b.made m);
-          fuel_is = ap (λ (ns : List ℕ). ns ++ r.fuel ∷ []) s.fuel_is ∙ sym (map-push (λ (m : Made). m.fuel) b.made m);
-          deltas_are = ap (λ (ds : List Changes). ds ++ r.delta ∷ []) s.deltas_are ∙ sym (map-push (λ (m : Made). m.effect.changes) b.made m);
-        };
-        bare = b.bare;
-        small = b.small;
-      }
+  commits v r next b is it same = record {
+    made = b.made ++ made_by r ∷ [];
+    stands = stands_more v b.made r next b.stands is it same;
+    bare = b.bare;
+    small = b.small;
+  }
+
+  ran_within : (s : State) (specs : List S) (made : List Made) → Ran makes ends s specs made → length made ≤ length specs
+  ran_within s specs [] ran = omega arith
+  ran_within s [] (m ∷ ms) ran = absurd ran
+  ran_within s (j ∷ js) (m ∷ ms) ran = let rest = ran_within (after m.effect s) js ms ran.1.1 in omega (arith, rest)
+
+  slice_past : (xs : List S) (i : ℕ) → slice_get xs i ≡ None → length xs ≤ i
+  slice_past [] i h = omega arith
+  slice_past (x ∷ xs) zero h = absurd (cc)
+  slice_past (x ∷ xs) (suc i) h = let rest = slice_past xs i h in omega (arith, rest)
+
+  -- where there is no next job, the whole serial run is committed
+  pub whole_run : (v : Standing S) (made : List Made) → Stands makes ends v made → next_of v ≡ None → IsSerial makes ends v.start v.specs made
+  whole_run v made s none = record {
+    ran = s.ran;
+    whole = λ early.
+        let going : v.ended ≡ false = s.ended_is ∙ early in
+        let past = slice_past v.specs (length v.deltas) (ap (λ (b : Bool). cond b None (slice_get v.specs (length v.deltas))) (sym going) ∙ none) in
+        let count : length v.deltas ≡ length made = ap length s.deltas_are ∙ length-map made _ in
+        let within = ran_within v.start v.specs made s.ran in
+        omega (arith, past, count, within);
+  }
 
 -- ---- the last delta that names a path
 

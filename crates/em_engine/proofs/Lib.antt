@@ -5,3 +5,4 @@ pub mod Readying
 pub mod Steps
 pub mod Fronting
 pub mod Finding
+pub mod Lawful

@@ -8,3 +8,4 @@ pub mod Fronts
 pub mod Verdicts
 pub mod Changed
 pub mod Codes
+pub mod Laws

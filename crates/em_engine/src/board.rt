@@ -18,8 +18,9 @@ use std::alloc::Global;
 use std::marker::Model;
 use std::mem;
 
-/// Jobs, what was posted of them, and the journal of all that happened. Its type keeps that the journal is legal and that what is
-/// posted and the phases are what the journal comes to.
+/// Jobs, what was posted of them, and the journal of all that happened. Its type keeps that the journal is
+/// legal, that what is posted and the phases are its replay, but for what was taken, and that there is room
+/// for the events of all later calls but asks. So claims, `give_up`, `take` and `stop` take no memory.
 #[derive(Drop)]
 pub struct Board<S: Spec> {
     alloc: Global,
@@ -45,18 +46,41 @@ impl<S: Spec> Model for Board<S> {
 
     ghost coded = { Prim.hlevel (codes, state.the_row.coded, event.the_row.coded, parts_code S.code) };
 
-    ghost view = { λ b. record { start = b.versions.start; waits = b.ready.waits; journal = b.journal.items; phases = b.phases.items } };
+    ghost view = { λ b. record {
+      start = b.versions.start;
+      waits = b.ready.waits;
+      journal = b.journal.items;
+      phases = b.phases.items;
+    } };
 
-    ghost invariant = { λ b. IsBoard (record { start = b.versions.start; posts = b.versions.posts; waits = b.ready.waits; stages = b.ready.stages; phases = b.phases.items; asked = b.asked.items; settled = b.settled; stopped = b.stopped; owed = b.owed; journal = b.journal.items; len = vec_len b.journal; cap = vec_capacity b.journal }) };
+    ghost invariant = { λ b. IsBoard (record {
+      start = b.versions.start;
+      posts = b.versions.posts;
+      waits = b.ready.waits;
+      stages = b.ready.stages;
+      phases = b.phases.items;
+      asked = b.asked.items;
+      settled = b.settled;
+      stopped = b.stopped;
+      owed = b.owed;
+      journal = b.journal.items;
+      len = vec_len b.journal;
+      cap = vec_capacity b.journal;
+    }) };
 }
 
 impl<S: Spec> Board<S> {
-    /// A board of free jobs, one for each list of the jobs that it waits for. It takes the room of three events for each job and
-    /// of one stop.
+    /// A board of free jobs, one for each list of the jobs that it waits for. It takes the room of three
+    /// events for each job and of one stop. Steps for each job and each of its waits.
     pub fn new(alloc: Global, start: State, waits: Seq<Seq<u32>>) -> Result<Board<S>, NoMemory>
         requires small { length waits < 2 ^ 32 }
         requires lower { (j : ℕ) → All (λ k. k < j) (slice_index_or waits j []) }
-        ensures { IfOk result (λ b. b ≡ record { start = start; waits = waits; journal = []; phases = replicate (length waits) phase.Free }) }
+        ensures { IfOk result (λ b. b ≡ record {
+          start = start;
+          waits = waits;
+          journal = [];
+          phases = replicate (length waits) phase.Free;
+        }) }
     {
         let count = waits.len();
         let journal = Vec::with_capacity(alloc, 3 * count + 1)?;
@@ -101,7 +125,8 @@ impl<S: Spec> Board<S> {
     /// All that happened, in order.
     pub fn journal(&self) -> &[Event]
         ensures events { result.now ≡ self.now.journal }
-        ensures legal { IsLegal self.now.start self.now.waits (first (length self.now.waits)) self.now.journal }
+        ensures legal { IsLegal self.now.start self.now.waits
+            (first (length self.now.waits)) self.now.journal }
         ensures told { (told self.now).stages ≡ stages self.now }
     {
         self.journal.as_slice()
@@ -137,7 +162,8 @@ impl<S: Spec> Board<S> {
         }
     }
 
-    /// Claims the least job that can be claimed, unless the board is stopped.
+    /// Claims the least free job all of whose waits have ended, unless the board is stopped. Steps for the
+    /// logarithm of how many jobs there are.
     pub fn claim(&mut self) -> Claim
         ensures { Claims self.old self.new result }
     {
@@ -151,12 +177,14 @@ impl<S: Spec> Board<S> {
         found
     }
 
-    /// Claims the next job to be settled for the committer, if it is free.
+    /// Claims the next job to be settled for the committer, if it is free. Steps for the logarithm of how
+    /// many jobs there are.
     pub fn claim_front(&mut self, job: u32) -> bool
         requires job { job < length self.old.phases }
         requires next { job ≡ (told self.old).settled }
         ensures free { IsTrue result ↔ (slice_get self.old.phases job ≡ Some phase.Free) }
-        ensures claimed { MatchBool result (self.new ≡ moved self.old (event.Claim job) job phase.Fronted) (self.new ≡ self.old) }
+        ensures claimed { MatchBool result
+            (self.new ≡ moved self.old (event.Claim job) job phase.Fronted) (self.new ≡ self.old) }
     {
         match &self.phases[job as usize] {
             Phase::Free => {}
@@ -166,8 +194,9 @@ impl<S: Spec> Board<S> {
         true
     }
 
-    /// Answers a question of a job that a worker has, by the start with what the jobs below it have posted; the journal and what
-    /// the job asked have it then.
+    /// Answers a question of a job that a worker has, by the start with what the jobs below it have posted;
+    /// the journal and what the job asked have it then. Where memory runs out nothing changes. Steps as a
+    /// look at the versions takes.
     pub fn ask(&mut self, job: u32, q: &Question) -> Result<Answer, NoMemory>
         requires { slice_get self.old.phases job ≡ Some phase.Claimed }
         ensures answer { IfOk result (λ a. a ≡ answer_now self.old job q.now) }
@@ -183,10 +212,12 @@ impl<S: Spec> Board<S> {
         Ok(answer)
     }
 
-    /// Publishes a run of a job that a worker has. Where memory runs out the run is given back and nothing changes.
+    /// Publishes a run of a job that a worker has. Where memory runs out the run is given back and nothing
+    /// changes. Steps for each change of the run, and for each job that waits for this one.
     pub fn publish(&mut self, run: Run<S>) -> Result<(), Run<S>>
         requires { slice_get self.old.phases (S.job_of run.spec) ≡ Some phase.Claimed }
-        ensures ok { OnOk result (self.new ≡ moved self.old (event.Publish (S.job_of run.spec) run.delta run.outcome) (S.job_of run.spec) (phase.Posted run)) }
+        ensures ok { OnOk result (self.new ≡ moved self.old
+            (event.Publish (S.job_of run.spec) run.delta run.outcome) (S.job_of run.spec) (phase.Posted run)) }
         ensures err { IfErr result (λ r. (r ≡ run) × (self.new ≡ self.old)) }
     {
         let job = job_of(&run);
@@ -207,7 +238,7 @@ impl<S: Spec> Board<S> {
         Ok(())
     }
 
-    /// Gives up the run of a job that a worker has.
+    /// Gives up the run of a job that a worker has. Steps for each job that waits for this one.
     pub fn give_up(&mut self, job: u32)
         requires { slice_get self.old.phases job ≡ Some phase.Claimed }
         ensures { self.new ≡ moved self.old (event.GiveUp job) job phase.GivenUp }
@@ -218,7 +249,8 @@ impl<S: Spec> Board<S> {
         self.owed -= 1;
     }
 
-    /// Takes what a worker has left of the next job to be settled: its run with what it asked, or nothing where it was given up.
+    /// Takes what a worker has left of the next job to be settled: its run with what it asked, or nothing
+    /// where it was given up.
     pub fn take(&mut self, job: u32) -> Taken<S>
         requires next { job ≡ (told self.old).settled }
         requires left { can_take (slice_get self.old.phases job) ≡ true }
@@ -233,7 +265,9 @@ impl<S: Spec> Board<S> {
         left_by(phase, asked)
     }
 
-    /// Settles the next job, which the committer has: what it changes and how it ended stand in place of what was posted.
+    /// Settles the next job, which the committer has: what it changes and how it ended stand in place of what
+    /// was posted. Where memory runs out nothing changes. Steps for each change, and for each job that waits
+    /// for this one.
     pub fn settle(&mut self, job: u32, d: Delta, o: Outcome) -> Result<(), NoMemory>
         requires next { job ≡ (told self.old).settled }
         requires fronted { can_settle (slice_get self.old.phases job) ≡ true }

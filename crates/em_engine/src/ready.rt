@@ -29,9 +29,9 @@ pub enum Claim {
     NotYet,
 }
 
-/// The jobs that each job waits for, and the stage of each. A job that ends is taken off the waits of those that wait for it, and
-/// the jobs that can be claimed are flagged, so that the least of them is found without a look at the others. All but `new` take
-/// no memory.
+/// The jobs that each job waits for, and the stage of each. A job that ends is taken off the waits of those
+/// that wait for it, and the jobs that can be claimed are flagged, so that the least of them is found without
+/// a look at the others. All but `new` take no memory.
 #[derive(Drop)]
 pub struct Ready {
     waits: Seq<Seq<u32>>,
@@ -54,7 +54,14 @@ impl Model for Ready {
 
     ghost view = { λ r. record { waits = r.waits; stages = r.stages.items } };
 
-    ghost invariant = { λ r. IsReady (record { waits = r.waits; stages = r.stages.items; left = r.left.items; waiters = r.waiters.items; flagged = r.flagged; free = r.free }) };
+    ghost invariant = { λ r. IsReady (record {
+      waits = r.waits;
+      stages = r.stages.items;
+      left = r.left.items;
+      waiters = r.waiters.items;
+      flagged = r.flagged;
+      free = r.free;
+    }) };
 }
 
 impl Ready {
@@ -62,7 +69,8 @@ impl Ready {
     pub fn new(alloc: Global, waits: Seq<Seq<u32>>) -> Result<Ready, NoMemory>
         requires small { length waits < 2 ^ 32 }
         requires lower { (j : ℕ) → All (λ k. k < j) (slice_index_or waits j []) }
-        ensures { IfOk result (λ r. r ≡ record { waits = waits; stages = replicate (length waits) stage.Free }) }
+        ensures { IfOk result (λ r. r
+            ≡ record { waits = waits; stages = replicate (length waits) stage.Free }) }
     {
         let stages = vec![in alloc; Stage::Free; waits.len()]?;
         let left = counts_of(alloc, waits.items())?;
@@ -80,7 +88,8 @@ impl Ready {
         })
     }
 
-    /// The least job that can be claimed, in steps for the logarithm of how many jobs there are; else whether a job is free.
+    /// The least job that can be claimed, in steps for the logarithm of how many jobs there are; else whether a
+    /// job is free.
     pub fn least(&self) -> Claim
         ensures { Finds self.now result }
     {
@@ -96,7 +105,7 @@ impl Ready {
         }
     }
 
-    /// A free job is claimed.
+    /// A free job is claimed. Steps for the logarithm of how many jobs there are.
     pub fn claim(&mut self, job: u32)
         requires { slice_get self.old.stages job ≡ Some stage.Free }
         ensures { self.new ≡ record self.old { stages = slice_set self.old.stages job stage.Claimed } }
@@ -114,9 +123,11 @@ impl Ready {
         self.finish(job, Stage::Ended);
     }
 
-    /// A job that is claimed or has ended is settled; where it is claimed it ends so, in steps for each job that waits for it.
+    /// A job that is claimed or has ended is settled; where it is claimed it ends so, in steps for each job
+    /// that waits for it.
     pub fn settle(&mut self, job: u32)
-        requires { (slice_get self.old.stages job ≡ Some stage.Claimed) ⊎ (slice_get self.old.stages job ≡ Some stage.Ended) }
+        requires { (slice_get self.old.stages job ≡ Some stage.Claimed)
+            ⊎ (slice_get self.old.stages job ≡ Some stage.Ended) }
         ensures { self.new ≡ record self.old { stages = slice_set self.old.stages job stage.Settled } }
     {
         if self.is_claimed(job) {
