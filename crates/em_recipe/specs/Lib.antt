@@ -1,0 +1,3 @@
+pub use Rattle.em_base.specs.Blanks
+pub mod Marks
+pub mod Commands
