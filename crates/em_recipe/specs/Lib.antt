@@ -1,3 +1,4 @@
 pub use Rattle.em_base.specs.Blanks
 pub mod Marks
 pub mod Commands
+pub mod Messages
