@@ -2,6 +2,7 @@
 //! automatic variables, and what is said of a job.
 #![tactic(auto)]
 
+mod automatic;
 mod command;
 mod mark;
 mod message;
