@@ -2,7 +2,7 @@
 --     left            the names that are left, without those that were seen
 --     left_all        at first
 --     left_seen, left_new      one of them was seen, or wasn't
-use Rattle.std.proofs.Common.{◌≡◌, ◌∙◌, ◌+◌, ◌<◌, ◌&&◌, Bool, true, false, cond, Bor, List, [], ◌∷◌, ℕ, Option, Some, None, add-one, ap, drop, drop-cons, get_or, length, map, refl, sym}
+use Rattle.std.proofs.Common.{◌≡◌, ◌∙◌, ◌+◌, ◌<◌, ◌&&◌, Bool, true, false, cond, Bor, List, [], ◌∷◌, ℕ, Option, Some, add-one, ap, drop, drop-cons, get_or, length, map, refl, sym}
 use Rattle.std.specs.Prelude.{is_some, not, option_copied}
 use Rattle.std.specs.List.{filter}
 use Rattle.std.specs.Str.{bytes_eq}

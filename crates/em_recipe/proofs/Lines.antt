@@ -3,7 +3,7 @@
 --     line_ends       a line ends at byte i
 --     line_goes_on    it goes on
 --     is_plain        none ends there
-use Rattle.std.proofs.Common.{◌≡◌, ◌==◌, ◌∙◌, ◌⊎◌, inl, inr, ◌+◌, ◌-◌, ◌<◌, ◌≤◌, ◌&&◌, ◌++◌, ◌∷◌, [], Bool, true, false, List, ℕ, add-one, ap, arith, cond, drop, get_or, get_or-drop, length, length-drop, map, refl, sym, take}
+use Rattle.std.proofs.Common.{◌≡◌, ◌==◌, ◌∙◌, ◌⊎◌, inl, inr, ◌+◌, ◌-◌, ◌<◌, ◌≤◌, ◌&&◌, ◌++◌, ◌∷◌, [], Bool, true, false, List, ℕ, ap, arith, cond, drop, get_or, get_or-drop, length, length-drop, refl, take}
 use Rattle.std.specs.Prelude.{nat_lt, not}
 use Rattle.std.proofs.lemmas.List.{take_more}
 use Rattle.std.proofs.lemmas.Bool.{ne_eqb}

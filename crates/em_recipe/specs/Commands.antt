@@ -1,7 +1,7 @@
 -- The lines for the shell that come of one line of a recipe, once it is expanded.
 --     split text                      its lines: they end at newlines without a backslash in front
 --     commands_of written expanded    each without its marks; those in front of the line as it was written hold for all. Empty ones are left out
-use Rattle.std.specs.Prelude.{ℕ, ◌==◌, ◌&&◌, Bool, true, false, not, List, [], ◌∷◌, ◌++◌, length, map, nat_lt, if◌then◌else◌}
+use Rattle.std.specs.Prelude.{ℕ, ◌==◌, ◌&&◌, Bool, false, not, List, [], ◌∷◌, ◌++◌, length, map, nat_lt, if◌then◌else◌}
 use Rattle.std.specs.List.{filter}
 use Rattle.em_recipe.specs.declared.command.Command.{Command}
 use Rattle.em_recipe.specs.declared.mark.Marks.{Marks}

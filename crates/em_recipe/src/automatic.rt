@@ -3,10 +3,11 @@ ghost use Rattle.std.specs.Prelude.{◌≡◌, ◌==◌, ◌≤◌, ◌∷◌, [
 ghost use Rattle.std.specs.List.{suffix_len};
 ghost use Rattle.em_wordlist.specs.Words.{words_of, joined};
 ghost use Rattle.em_namefn.specs.Names.{file_of};
-ghost use Rattle.em_recipe.specs.Automatic.{once, dir_part, with_parts, with_all};
+ghost use Rattle.em_recipe.specs.Automatic.{once, names_of, dir_part, with_parts, normal_texts, with_all, with_automatic};
 ghost use Rattle.em_recipe.specs.Automatic as specs;
 
 use em_base::{NoMemory, Table, Text};
+use em_plan::{PlanJob, Pre};
 use em_vars::{Flavour, Origin, Var, Vars};
 use em_wordlist::{join, texts};
 use std::alloc::Global;
@@ -95,4 +96,60 @@ fn set_with_parts(alloc: Global, vars: &mut Vars, name: u8, text: Text) -> Resul
     set(alloc, vars, &[name], text)?;
     set(alloc, vars, &[name, b'D'], directories)?;
     set(alloc, vars, &[name, b'F'], files)
+}
+
+/// The names of prerequisites.
+fn names(alloc: Global, pres: &[Pre]) -> Result<Vec<&[u8]>, NoMemory>
+    ensures { IfOk result (λ v. map (λ n. n.now) v.items ≡ names_of pres.now) }
+{
+    let mut names = Vec::new(alloc);
+    for pre in pres {
+        names.push(pre.name.bytes())?;
+    }
+    Ok(names)
+}
+
+/// Some texts' bytes.
+fn bytes_of(alloc: Global, texts: &[Text]) -> Result<Vec<&[u8]>, NoMemory>
+    ensures { IfOk result (λ v. map (λ t. t.now) v.items ≡ texts.now) }
+{
+    let mut all = Vec::new(alloc);
+    for text in texts {
+        all.push(text.bytes())?;
+    }
+    Ok(all)
+}
+
+/// Sets the automatic variables that tell of normal prerequisites: `$<`, `$^` and `$+`.
+fn set_normal(alloc: Global, vars: &mut Vars, names: &[&[u8]]) -> Result<(), NoMemory>
+    ensures { OnOk result (vars.new ≡ with_all vars.old (normal_texts (map (λ n. n.now) names.now))) }
+{
+    let first = match names.first() {
+        Some(name) => Text::from_slice(alloc, name)?,
+        None => Text::new(alloc),
+    };
+    set_with_parts(alloc, vars, b'<', first)?;
+    set_with_parts(alloc, vars, b'^', join(alloc, &once(alloc, names)?)?)?;
+    set_with_parts(alloc, vars, b'+', join(alloc, names)?)
+}
+
+/// The variables with the automatic ones of a job, whose remaking these names made due. The names' doubles are found by a
+/// search for each.
+pub fn with_automatic(
+    alloc: Global,
+    vars: &Vars,
+    job: &PlanJob,
+    newer: &[Text],
+) -> Result<Vars, NoMemory>
+    ensures { IfOk result (λ v. v ≡ with_automatic vars.now job.now newer.now) }
+{
+    let mut vars = vars.copy(alloc)?;
+    set_with_parts(alloc, &mut vars, b'@', job.target.copy(alloc)?)?;
+    set_normal(alloc, &mut vars, &names(alloc, job.normal.items())?)?;
+    let newer = once(alloc, &bytes_of(alloc, newer)?)?;
+    set_with_parts(alloc, &mut vars, b'?', join(alloc, &newer)?)?;
+    set_with_parts(alloc, &mut vars, b'*', job.stem.copy(alloc)?)?;
+    let order = names(alloc, job.order.items())?;
+    set(alloc, &mut vars, b"|", join(alloc, &order)?)?;
+    Ok(vars)
 }

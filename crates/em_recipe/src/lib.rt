@@ -7,6 +7,7 @@ mod command;
 mod mark;
 mod message;
 
+pub use automatic::with_automatic;
 pub use command::{Command, commands};
 pub use mark::{Marks, bare, marks_of};
 pub use message::{

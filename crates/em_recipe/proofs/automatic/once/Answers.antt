@@ -1,6 +1,6 @@
-use Rattle.std.proofs.Common.{◌≡◌, ◌∙◌, ◌++◌, ◌∷◌, [], List, ℕ, Bor, ap, append_assoc, map, sym}
+use Rattle.std.proofs.Common.{append_assoc}
 use Rattle.std.proofs.lemmas.List.{map-append}
-use Rattle.em_recipe.proofs.Doubles.{left, left_all, turn_seen, turn_new, now}
+use Rattle.em_recipe.proofs.Doubles.{left_all, turn_seen, turn_new}
 use Rattle.em_recipe.proofs.automatic.once.Goals as goal
 use Rattle.em_recipe.proofs.automatic.once.Goals.{then-is_none+in_ok-from_slice+in_ok-insert+in_ok-push, else-is_none}
 

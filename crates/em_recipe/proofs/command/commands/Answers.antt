@@ -1,8 +1,7 @@
-use Rattle.std.proofs.Common.{◌≡◌, ◌==◌, ◌∙◌, ◌&&◌, ◌++◌, ◌⊎◌, Bool, true, false, ℕ, append_assoc, append-nil, ap, arith, cond, length, [], refl, sym, take}
-use Rattle.std.specs.Prelude.{not}
+use Rattle.std.proofs.Common.{◌≡◌, ◌∙◌, false, append_assoc, ap, arith, length, [], refl}
 use Rattle.em_base.proofs.Lemmas.{none_at}
 use Rattle.em_recipe.specs.Commands.{kept, lines_from, split, commands_of}
-use Rattle.em_recipe.proofs.Lines.{rest, line_ends, line_goes_on, is_plain}
+use Rattle.em_recipe.proofs.Lines.{line_ends, line_goes_on, is_plain}
 use Rattle.em_recipe.proofs.command.commands.Goals as goal
 use Rattle.em_recipe.proofs.command.commands.Goals.{then-byte-eq10+then-not-quoted+in_ok-add, else-byte-eq10}
 
