@@ -1,2 +1,4 @@
-pub mod Lines
-pub mod Doubles
+mod Lines
+mod Doubles
+mod Splitting
+mod Setting

@@ -2,7 +2,8 @@
 --     marks line     the marks that stand there
 --     bare line      the line without them
 --     either a b     the marks of both
-use Rattle.std.specs.Prelude.{ℕ, ◌==◌, ◌||◌, Bool, List, take, drop}
+--     Has a b        a has each mark of b
+use Rattle.std.specs.Prelude.{ℕ, ◌==◌, ◌||◌, Bool, IsTrue, List, take, drop}
 use Rattle.std.specs.List.{prefix_len, list_any}
 use Rattle.em_base.specs.Blanks.{is_blank}
 use Rattle.em_recipe.specs.declared.mark.Marks.{Marks}
@@ -21,3 +22,6 @@ bare line = drop (prefix_len is_mark line) line
 
 abbrev pub either : Marks → Marks → Marks
 either a b = record { silent = a.silent || b.silent; lenient = a.lenient || b.lenient; forced = a.forced || b.forced }
+
+abbrev pub Has : Marks → Marks → Type 0
+Has a b = (IsTrue b.silent → IsTrue a.silent) × (IsTrue b.lenient → IsTrue a.lenient) × (IsTrue b.forced → IsTrue a.forced)

@@ -4,6 +4,7 @@
 
 mod automatic;
 mod command;
+pub mod laws;
 mod mark;
 mod message;
 
