@@ -7,7 +7,7 @@ use Rattle.std.proofs.lemmas.Bool.{eqb-true, ltb-true}
 use Rattle.std.proofs.lemmas.List.Elements.{All-cons, All-nil, All-filter, All-map, filter_passes}
 use Rattle.em_base.proofs.Lemmas.{by_cases}
 use Rattle.em_recipe.specs.declared.command.Command.{Command}
-use Rattle.em_recipe.specs.Marks.{is_mark, marks, bare, Has}
+use Rattle.em_recipe.specs.Marks.{is_mark, marks, bare, Includes}
 use Rattle.em_recipe.specs.Commands.{lines_from, split, command, commands_of}
 
 -- ---- lines
@@ -78,7 +78,7 @@ unfolding commands_of filled
 commands_bare written expanded = All-filter filled (λ c. bare c.text ≡ c.text) (map (command (marks written)) (split expanded))
     (All-map (λ c. bare c.text ≡ c.text) (command (marks written)) (split expanded) (λ k d low. none_twice is_mark (get_or (split expanded) k d)))
 
-pub commands_marked : (written expanded : List ℕ) → All (λ c. Has c.marks (marks written)) (commands_of written expanded)
+pub commands_marked : (written expanded : List ℕ) → All (λ c. Includes c.marks (marks written)) (commands_of written expanded)
 unfolding commands_of filled
-commands_marked written expanded = All-filter filled (λ c. Has c.marks (marks written)) (map (command (marks written)) (split expanded))
-    (All-map (λ c. Has c.marks (marks written)) (command (marks written)) (split expanded) (λ k d low. (or_left _ _, or_left _ _, or_left _ _)))
+commands_marked written expanded = All-filter filled (λ c. Includes c.marks (marks written)) (map (command (marks written)) (split expanded))
+    (All-map (λ c. Includes c.marks (marks written)) (command (marks written)) (split expanded) (λ k d low. (or_left _ _, or_left _ _, or_left _ _)))

@@ -2,7 +2,7 @@
 --     marks line     the marks that stand there
 --     bare line      the line without them
 --     either a b     the marks of both
---     Has a b        a has each mark of b
+--     Includes a b   a has each mark of b
 use Rattle.std.specs.Prelude.{ℕ, ◌==◌, ◌||◌, Bool, IsTrue, List, take, drop}
 use Rattle.std.specs.List.{prefix_len, list_any}
 use Rattle.em_base.specs.Blanks.{is_blank}
@@ -23,5 +23,5 @@ bare line = drop (prefix_len is_mark line) line
 abbrev pub either : Marks → Marks → Marks
 either a b = record { silent = a.silent || b.silent; lenient = a.lenient || b.lenient; forced = a.forced || b.forced }
 
-abbrev pub Has : Marks → Marks → Type 0
-Has a b = (IsTrue b.silent → IsTrue a.silent) × (IsTrue b.lenient → IsTrue a.lenient) × (IsTrue b.forced → IsTrue a.forced)
+abbrev pub Includes : Marks → Marks → Type 0
+Includes a b = (IsTrue b.silent → IsTrue a.silent) × (IsTrue b.lenient → IsTrue a.lenient) × (IsTrue b.forced → IsTrue a.forced)

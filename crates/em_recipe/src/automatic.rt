@@ -122,7 +122,8 @@ fn bytes_of(alloc: Global, texts: &[Text]) -> Result<Vec<&[u8]>, NoMemory>
 
 /// Sets the automatic variables that tell of normal prerequisites: `$<`, `$^` and `$+`.
 fn set_normal(alloc: Global, vars: &mut Vars, names: &[&[u8]]) -> Result<(), NoMemory>
-    ensures { OnOk result (vars.new ≡ with_all vars.old (normal_texts (map (λ n. n.now) names.now))) }
+    ensures { OnOk result (vars.new
+        ≡ with_all vars.old (normal_texts (map (λ n. n.now) names.now))) }
 {
     let first = match names.first() {
         Some(name) => Text::from_slice(alloc, name)?,
