@@ -4,7 +4,6 @@ ghost use Rattle.std.specs.List.{suffix_len};
 ghost use Rattle.em_wordlist.specs.Words.{words_of, joined};
 ghost use Rattle.em_namefn.specs.Names.{file_of};
 ghost use Rattle.em_recipe.specs.Automatic.{once, names_of, dir_part, with_parts, normal_texts, with_all, with_automatic};
-ghost use Rattle.em_recipe.specs.Automatic as specs;
 
 use em_base::{NoMemory, Table, Text};
 use em_plan::{PlanJob, Pre};
@@ -134,8 +133,8 @@ fn set_normal(alloc: Global, vars: &mut Vars, names: &[&[u8]]) -> Result<(), NoM
     set_with_parts(alloc, vars, b'+', join(alloc, names)?)
 }
 
-/// The variables with the automatic ones of a job, whose remaking these names made due. The names' doubles are found by a
-/// search for each.
+/// The variables with the automatic ones of a job; these names are what made its remaking due. The variables are copied once;
+/// steps for each byte of the names, and a search for each name.
 pub fn with_automatic(
     alloc: Global,
     vars: &Vars,
