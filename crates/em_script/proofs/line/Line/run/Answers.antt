@@ -1,4 +1,4 @@
-use Rattle.std.proofs.Common.{◌≡◌, Ok, refl}
+use Rattle.std.proofs.Common.{Ok, refl}
 use Rattle.em_view.proofs.Doing.{out_s, owned_s, refused_s}
 use Rattle.em_script.specs.Lines.{wrong}
 use Rattle.em_script.proofs.line.Line.run.Goals as goal
