@@ -1,4 +1,4 @@
-use Rattle.std.proofs.Common.{◌≡◌, Ok, refl, ap}
+use Rattle.std.proofs.Common.{Ok, refl, ap}
 use Rattle.em_view.specs.declared.done.ExecNo.TheVariants as exec
 use Rattle.em_view.proofs.Doing.{out_s, owned_s, refused_s}
 use Rattle.em_script.specs.Lines.{wrong}

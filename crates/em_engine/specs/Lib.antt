@@ -1,0 +1,11 @@
+pub mod Flags
+pub mod Stages
+pub mod Waits
+pub mod Journal
+pub mod Boards
+pub mod Calls
+pub mod Fronts
+pub mod Verdicts
+pub mod Changed
+pub mod Codes
+pub mod Laws
