@@ -3,3 +3,4 @@ mod Entries
 mod Reading
 mod Ended
 mod Numbered
+mod OneEffect

@@ -5,6 +5,7 @@ mod carry;
 mod due;
 mod environment;
 mod fail;
+pub mod laws;
 mod line;
 mod making;
 mod prepare;
@@ -17,3 +18,6 @@ pub use em_task::{Flags, Job, SharedVars};
 pub use making::specs;
 pub use spec::JobSpec;
 pub use work::JobWork;
+
+#[cfg(test)]
+mod tests;
