@@ -6,7 +6,8 @@ of the tree's parts; and for each enum that a value of it is one of its variants
 """
 import re
 
-TREE = 'Rattle.em_syntax.specs.declared.tree.'
+from fold_files import TREE, write_folds
+
 # The enums as they stand in the source, then the structs by alphabet; and the names of the folds.
 TYPES = [
     ('Command', 'command'), ('Compound', 'compound'), ('WordWhat', 'what'), ('AndOr', 'and_or'),
@@ -125,10 +126,4 @@ def enums():
     return s
 
 
-with open('crates/em_gram/specs/Same.antt') as f:
-    same = f.read()
-mark = '-- FOLDS: written by tools/shapes.py\n'
-with open('crates/em_gram/specs/Same.antt', 'w') as f:
-    f.write(same.split(mark)[0] + mark + folds().lstrip('\n'))
-with open('crates/em_gram/proofs/Shapes.antt', 'w') as f:
-    f.write(head() + options() + structs() + enums())
+write_folds('shapes', 'Same', folds(), 'Shapes', head() + options() + structs() + enums())

@@ -4,8 +4,9 @@
 Each tree is spelled by a fold whose steps stand in Patterns.antt. Here the fold is written for each type, and the
 equations that say what it is on a tree that was made of parts. Run it in the root of the repository.
 """
+from fold_files import TREE, write_folds
+
 MODULE = 'Rattle.em_gram.'
-TREE = 'Rattle.em_syntax.specs.declared.tree.'
 # A fold's arguments: the enums as they stand in the source, then the structs by alphabet. The name of the fold, its
 # step, and what it gives.
 E, Q, S, O = 'Expr', '(Bool → Spelling)', 'Spelling', '(Option Expr)'
@@ -85,16 +86,16 @@ def head():
     steps = ', '.join(s + '_step' for _, _, s, _ in TYPES)
     names = ', '.join(f for _, f, _, _ in TYPES)
     s = '''-- How each tree is spelled, in terms of its parts. Written by tools/spellings.py.
-use Rattle.std.proofs.Common.{◌≡◌, [], ◌∷◌, ◌++◌, ℕ, List, Bool, map, refl, ap, sym, ◌∙◌, cond, Option, Some, None}
+use Rattle.std.proofs.Common.{◌≡◌, ℕ, List, Bool, map, refl, ap, sym, ◌∙◌, cond, Option, Some, None}
 use Rattle.std.specs.Option.{option_map}
 use Rattle.std.specs.declared.vec.Vec.{Vec}
-use Rattle.em_grammar.specs.Production.{empty, one, ◌⨾◌, ◌∣◌}
+use Rattle.em_grammar.specs.Production.{empty, ◌⨾◌}
 use Rattle.em_grammar.specs.Gives.{all}
-use Rattle.em_gram.specs.Kinds.{kinds}
-use Rattle.em_gram.specs.Shell.{Expr, key, newlines, sequential, bare, reserved}
-use Rattle.em_gram.specs.declared.kind.Kind.TheVariants.{Bang, If as If_, Then, Fi, Until, While, For as For_, In, Case as Case_, Esac, LeftBrace, RightBrace, LeftParen, RightParen, AndIf, OrIf}
+use Rattle.em_token.specs.Shell.{Expr, key, newlines, sequential, bare, reserved}
+use Rattle.em_token.specs.declared.kind.Kind.TheVariants.{Bang, If as If_, Then, Fi, Until, While, For as For_, In, Case as Case_, Esac, LeftBrace, RightBrace, LeftParen, RightParen, AndIf, OrIf}
 use Rattle.em_syntax.specs.declared.tree.RedirectKind.{RedirectKind}
-use Rattle.em_gram.specs.Patterns.{script_pattern, Spelling, of_pieces, bytes_spelling, output_spelling, value_spelling, any_word, name_spelled, assigned_spelled, redirect_spelled, simple_spelled, some_list, list_of, block_of, do_of, staged, else_of, branches_of, body_of, patterns_of, items_of}
+use Rattle.em_gram.specs.Patterns.{script_pattern, Spelling, of_pieces, bytes_spelling, output_spelling, value_spelling, any_word, assigned_spelled, redirect_spelled, simple_spelled, some_list, list_of, block_of, do_of, staged, else_of, branches_of, body_of, patterns_of, items_of}
+use Rattle.em_token.specs.Words.{name_spelled}
 '''
     s += 'use %sspecs.Patterns.{%s}\nuse %sspecs.Patterns.{%s}\n' % (MODULE, steps, MODULE, names)
     s += 'use %sCommand.TheOpen.{Command-F, Compound-F, WordWhat-F}\n' % TREE
@@ -150,10 +151,4 @@ def equations():
     return s
 
 
-with open('crates/em_gram/specs/Patterns.antt') as f:
-    patterns = f.read()
-mark = '-- FOLDS: written by tools/spellings.py\n'
-with open('crates/em_gram/specs/Patterns.antt', 'w') as f:
-    f.write(patterns.split(mark)[0] + mark + folds().lstrip('\n'))
-with open('crates/em_gram/proofs/Spellings.antt', 'w') as f:
-    f.write(head() + options() + equations())
+write_folds('spellings', 'Patterns', folds(), 'Spellings', head() + options() + equations())

@@ -1,15 +1,15 @@
 -- When what two patterns spell from one place on tells them apart.
-use Rattle.std.proofs.Common.{◌≡◌, ◌⊎◌, inl, inr, ℕ, zero, suc, ◌<◌, ◌≤◌, Bool, true, false, List, [], ◌∷◌, ◌++◌, length, map, refl, sym, ap, subst, ◌∙◌, arith}
-use Rattle.em_grammar.specs.Production.{empty, one, this, many, ◌⨾◌, ◌∣◌, Lang, Times, Reads, is_among}
+use Rattle.std.proofs.Common.{◌≡◌, inl, inr, ℕ, zero, suc, ◌<◌, Bool, true, false, List, [], ◌∷◌, length, map, refl, sym, ap, subst, ◌∙◌, arith}
+use Rattle.em_grammar.specs.Production.{empty, one, this, ◌⨾◌, ◌∣◌, Lang, Times}
 use Rattle.em_grammar.specs.Checks.{apart, within}
 use Rattle.em_grammar.specs.Gives.{begins_with, Spells, all, parted}
-use Rattle.em_grammar.proofs.Cutting.{cut, shorter}
+use Rattle.em_grammar.proofs.Cutting.{cut}
 use Rattle.em_lexeme.specs.declared.lexeme.What.{What}
-use Rattle.em_gram.specs.Kinds.{kinds, class_of}
-use Rattle.em_gram.specs.Shell.{shell, Expr, key, newlines}
+use Rattle.em_token.specs.Kinds.{kinds}
+use Rattle.em_token.specs.Shell.{shell, Expr, key, newlines}
 use Rattle.em_gram.specs.Patterns.{row as row_of}
-use Rattle.em_gram.specs.Same.{Shape, pair, row}
-use Rattle.em_gram.specs.declared.kind.Kind.TheVariants.{Newline}
+use Rattle.em_gram.specs.Same.{Shape, row}
+use Rattle.em_token.specs.declared.kind.Kind.TheVariants.{Newline}
 use Rattle.em_gram.proofs.Starting.{Pat, begins_key, begins_wider, not_begins}
 
 -- none of these follows

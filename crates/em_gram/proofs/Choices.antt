@@ -1,16 +1,16 @@
 -- Parts of the grammar that the tree spells in another form.
-use Rattle.std.proofs.Common.{◌≡◌, ℕ, Bool, true, false, ◌<◌, cond, List, [], ◌∷◌, ◌++◌, length, map, inl, inr, refl, ap, sym, arith}
+use Rattle.std.proofs.Common.{◌≡◌, ℕ, true, false, ◌<◌, List, [], ◌∷◌, ◌++◌, length, map, inl, inr, refl, ap, arith}
 use Rattle.std.proofs.lemmas.List.{length-map}
-use Rattle.em_grammar.specs.Production.{Production, one, many, empty, last, ◌⨾◌, ◌∣◌}
+use Rattle.em_grammar.specs.Production.{last, ◌⨾◌}
 use Rattle.em_grammar.specs.Machine.{first_set}
-use Rattle.em_grammar.specs.Gives.{begins_with, Spells, Reads, all}
+use Rattle.em_grammar.specs.Gives.{begins_with, Spells, Reads}
 use Rattle.em_grammar.proofs.Giving.{left_on, right_on, spell_then}
 use Rattle.em_lexeme.specs.declared.lexeme.Lexeme.{Lexeme}
 use Rattle.em_lexeme.specs.declared.lexeme.What.{What}
-use Rattle.em_gram.specs.Shell.{shell, Expr, key, word, word_of, first_pattern, item_end}
-use Rattle.em_gram.specs.Kinds.{kinds, words, words_but_esac, reserved_words, whats}
-use Rattle.em_gram.specs.Patterns.{Spelling, any_word, word_spelled, word_spelling, assigned_pattern, redirect_pattern, simple_pattern, mixed, words_spelled, some_parts, operator_spelled, is_duplicate, digit_spelled, target_spelled, first_pattern_of, row, items_of}
-use Rattle.em_gram.specs.declared.kind.Kind.TheVariants.{LeftParen}
+use Rattle.em_token.specs.Shell.{shell, Expr, key, word, word_of, first_pattern, item_end}
+use Rattle.em_token.specs.Kinds.{words, words_but_esac, reserved_words, whats}
+use Rattle.em_gram.specs.Patterns.{Spelling, any_word, word_spelled, word_spelling, assigned_pattern, redirect_pattern, simple_pattern, mixed, words_spelled, some_parts, operator_spelled, is_duplicate, target_spelled, first_pattern_of, row, items_of}
+use Rattle.em_token.specs.declared.kind.Kind.TheVariants.{LeftParen}
 use Rattle.em_syntax.specs.declared.tree.RedirectKind.{RedirectKind}
 use Rattle.em_syntax.specs.declared.tree.Word.{Word}
 use Rattle.em_syntax.specs.declared.tree.Assigned.{Assigned}

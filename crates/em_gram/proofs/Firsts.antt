@@ -1,44 +1,41 @@
 -- What each tree begins with.
-use Rattle.std.proofs.Common.{◌≡◌, ◌⊎◌, inl, inr, ℕ, Bool, true, false, ◌||◌, cond, List, [], ◌∷◌, ◌++◌, map, Option, Some, None, refl, sym, ap, subst, ◌∙◌}
+use Rattle.std.proofs.Common.{◌≡◌, ◌⊎◌, inl, inr, ℕ, Bool, true, false, ◌||◌, cond, List, [], ◌∷◌, ◌++◌, map, Option, Some, None, refl, ap, ◌∙◌}
 use Rattle.std.specs.Option.{option_map}
-use Rattle.em_grammar.specs.Production.{empty, one, this, last, is_among, ◌⨾◌, ◌∣◌, Lang}
-use Rattle.em_grammar.specs.Checks.{apart, within}
+use Rattle.em_grammar.specs.Production.{empty, this, last, is_among, ◌⨾◌, Lang}
+use Rattle.em_grammar.specs.Checks.{within}
 use Rattle.em_grammar.proofs.Reading.{among-append}
-use Rattle.em_grammar.specs.Gives.{begins_with, Spells, all, parted}
+use Rattle.em_grammar.specs.Gives.{begins_with, all}
 use Rattle.em_lexeme.specs.declared.lexeme.What.{What}
-use Rattle.em_lexeme.specs.declared.lexeme.What.TheVariants as What
-use Rattle.em_gram.specs.Kinds.{kinds, class_of, words, words_but_esac, command_words, reserved_words}
-use Rattle.em_gram.specs.Shell.{shell, Expr, key, newlines, bare, reserved}
+use Rattle.em_token.specs.Kinds.{kinds, class_of, words, words_but_esac, command_words, reserved_words}
+use Rattle.em_token.specs.Shell.{shell, Expr, key, newlines, bare, reserved}
 use Rattle.em_gram.specs.Nesting.{piece_pattern}
-use Rattle.em_gram.specs.Patterns.{Spelling, digit_of, bytes_spelling, output_spelling, value_spelling, body_of, some_list, list_of, word_spelled, any_word, words_spelled, weave, mixed, some_parts, simple_spelled, block_of, staged, first_pattern_of, pattern_behind, patterns_of}
-use Rattle.em_gram.specs.Patterns.{command_pattern, compound_pattern, what_spelled_as, and_or_pattern, assigned_pattern, branch_pattern, case_pattern, for_pattern, if_pattern, item_pattern, joined_pattern, loop_pattern, pipeline_pattern, redirect_pattern, script_listing, script_pattern, body_pattern, simple_pattern, value_spelled_as, word_spelling, piece_spelling}
-use Rattle.em_gram.specs.Same.{Shape, nothing, pair, bytes, flag, variant, row, optional, what_shape, value_shape, word_shape, script_shape, piece_shape, command_shape, compound_shape, simple_shape, redirect_shape, if_shape, loop_shape, for_shape, case_shape}
-use Rattle.em_gram.specs.declared.kind.Kind.TheVariants.{Plain, Name, Assignment, Bang, If as If_, Elif, Else, While, Until, For as For_, Case as Case_, LeftBrace, WordEnd, Bytes, Assigning, Value as Value_, ArgumentStart, ArgumentEnd, SubstitutionStart, SubstitutionEnd, Newline, Semicolon, CaseEnd, AndIf, OrIf, Pipe, LeftParen, RightParen, RightBrace, Number}
-use Rattle.std.specs.declared.vec.Vec.{Vec}
+use Rattle.em_gram.specs.Patterns.{Spelling, digit_of, bytes_spelling, output_spelling, value_spelling, some_list, list_of, word_spelled, any_word, words_spelled, weave, mixed, some_parts, block_of, staged, first_pattern_of, patterns_of}
+use Rattle.em_gram.specs.Patterns.{command_pattern, compound_pattern, what_spelled_as, and_or_pattern, assigned_pattern, case_pattern, for_pattern, if_pattern, item_pattern, joined_pattern, loop_pattern, pipeline_pattern, redirect_pattern, script_listing, script_pattern, body_pattern, simple_pattern, word_spelling, piece_spelling}
+use Rattle.em_gram.specs.Same.{Shape, nothing, pair, bytes, flag, variant, row, optional, what_shape, word_shape, script_shape, piece_shape, command_shape, compound_shape, simple_shape, redirect_shape, if_shape, loop_shape, for_shape, case_shape}
+use Rattle.em_token.specs.declared.kind.Kind.TheVariants.{Plain, Name, Assignment, Bang, If as If_, While, Until, For as For_, Case as Case_, LeftBrace, Bytes, Assigning, Value as Value_, ArgumentStart, ArgumentEnd, SubstitutionStart, SubstitutionEnd, AndIf, OrIf, LeftParen, RightParen, RightBrace}
 use Rattle.em_syntax.specs.declared.tree.Command.{Command}
 use Rattle.em_syntax.specs.declared.tree.Compound.{Compound}
 use Rattle.em_syntax.specs.declared.tree.WordWhat.{WordWhat}
 use Rattle.em_syntax.specs.declared.tree.WordWhat.TheVariants.{Bytes as the-Bytes, Value as the-Value, Output as the-Output}
 use Rattle.em_syntax.specs.declared.tree.AndOr.{AndOr, out-AndOr}
-use Rattle.em_syntax.specs.declared.tree.Assigned.{Assigned, out-Assigned}
-use Rattle.em_syntax.specs.declared.tree.Branch.{Branch, out-Branch}
-use Rattle.em_syntax.specs.declared.tree.Case.{Case, out-Case}
-use Rattle.em_syntax.specs.declared.tree.For.{For, out-For}
-use Rattle.em_syntax.specs.declared.tree.If.{If, out-If}
+use Rattle.em_syntax.specs.declared.tree.Assigned.{Assigned}
+use Rattle.em_syntax.specs.declared.tree.Case.{Case}
+use Rattle.em_syntax.specs.declared.tree.For.{For}
+use Rattle.em_syntax.specs.declared.tree.If.{If}
 use Rattle.em_syntax.specs.declared.tree.Item.{Item, out-Item}
 use Rattle.em_syntax.specs.declared.tree.Joined.{Joined, out-Joined}
 use Rattle.em_syntax.specs.declared.tree.Loop.{Loop, out-Loop}
 use Rattle.em_syntax.specs.declared.tree.Pipeline.{Pipeline, out-Pipeline}
-use Rattle.em_syntax.specs.declared.tree.Redirect.{Redirect, out-Redirect}
+use Rattle.em_syntax.specs.declared.tree.Redirect.{Redirect}
 use Rattle.em_syntax.specs.declared.tree.Script.{Script, out-Script}
 use Rattle.em_syntax.specs.declared.tree.Simple.{Simple, out-Simple}
 use Rattle.em_syntax.specs.declared.tree.Value.{Value, out-Value}
-use Rattle.em_syntax.specs.declared.tree.Word.{Word, out-Word}
+use Rattle.em_syntax.specs.declared.tree.Word.{Word}
 use Rattle.em_syntax.specs.declared.tree.WordPiece.{WordPiece, out-WordPiece}
-use Rattle.em_gram.proofs.Spellings.{and_or_is, assigned_is, branch_is, case_is, for_is, if_is, item_is, joined_is, loop_is, pipeline_is, redirect_is, script_is, simple_is, value_is, word_is, piece_is, what_Bytes, what_Value, what_Output, command_Simple, command_Compound, compound_Subshell, compound_Group, compound_If, compound_Loop, compound_For, compound_Case}
+use Rattle.em_gram.proofs.Spellings.{and_or_is, assigned_is, case_is, for_is, if_is, item_is, joined_is, loop_is, pipeline_is, script_is, simple_is, value_is, piece_is, what_Bytes, what_Value, what_Output, command_Simple, command_Compound, compound_Subshell, compound_Group, compound_If, compound_Loop, compound_For, compound_Case}
 use Rattle.em_gram.proofs.Shapes.{value_shape_is, piece_shape_is, what_shape_Bytes, what_shape_Value, what_shape_Output, what_cases, Compound_case, Command_case, compound_cases, command_cases, compound_shape_Subshell, compound_shape_Group, compound_shape_If, compound_shape_Loop, compound_shape_For, compound_shape_Case, command_shape_Simple, command_shape_Compound}
 use Rattle.em_gram.proofs.Starting.{Pat, redirect_begins, begins_key, begins_this, begins_wider, begins_redirect}
-use Rattle.em_gram.proofs.Alike.{Ends, ends_within, over, Begins, begin_one, begin_then, begin_wider, begin_as, Agree}
+use Rattle.em_gram.proofs.Alike.{Ends, Begins, begin_one, begin_then, begin_wider, begin_as}
 
 abbrev pub piece_begins : List ℕ
 piece_begins = kinds (Bytes ∷ Assigning ∷ Value_ ∷ ArgumentStart ∷ SubstitutionStart ∷ [])

@@ -1,23 +1,21 @@
 -- What a lexeme holds, read into the tree.
-use Rattle.std.proofs.Common.{◌≡◌, ◌⊎◌, ℕ, ◌==◌, ◌+◌, ◌-◌, ◌≤◌, nat_le, Bool, true, false, cond, List, [], ◌∷◌, ◌++◌, length, take, map, Option, Some, None, refl, sym, ap, ◌∙◌, inl, inr, arith}
-use Rattle.std.specs.Option.{option_map}
+use Rattle.std.proofs.Common.{◌≡◌, ℕ, ◌+◌, ◌-◌, ◌≤◌, nat_le, Bool, true, false, List, [], ◌∷◌, ◌++◌, length, take, map, Option, Some, None, refl, ap, ◌∙◌, inl, inr, arith}
 use Rattle.std.specs.declared.vec.Vec.{Vec}
 use Rattle.std.proofs.lemmas.Bool.{eq-eqb}
-use Rattle.em_grammar.specs.Production.{Production, one, this, nested, empty, is_among, ◌⨾◌, ◌∣◌}
+use Rattle.em_grammar.specs.Production.{one, this, nested, empty, is_among, ◌⨾◌}
 use Rattle.em_grammar.specs.Gives.{Spells, Reads, Turns, Gives, lead_off}
 use Rattle.std.specs.Prelude.{Result, IfErr, slice_get, unwrap_or}
 use Rattle.std.specs.Result.{IsErr, IsErrAnd}
 use Rattle.std.proofs.lemmas.Result.{err_from_is_err_and}
-use Rattle.em_gram.specs.declared.stop.Stop.{Stop}
-use Rattle.em_gram.specs.Seen.{fault_of}
+use Rattle.em_token.specs.declared.stop.Stop.{Stop}
+use Rattle.em_token.specs.Seen.{fault_of}
 use Rattle.em_lexeme.specs.declared.lexeme.Lexeme.{Lexeme}
 use Rattle.em_lexeme.specs.declared.lexeme.What.{What}
-use Rattle.em_lexeme.specs.declared.lexeme.What.TheVariants as What
-use Rattle.em_gram.specs.Kinds.{kinds, whats, class_of}
-use Rattle.em_gram.specs.Shell.{shell, Expr, key, newlines}
-use Rattle.em_gram.specs.Patterns.{Spelling, digit_of, only_digit, bytes_spelled, piece_spelling, script_listing, script_pattern, body_pattern, some_list, body_of, number_of, number_spelled, usual, target_spelled, redirect_pattern, word_spelling, output_spelling, list_of, never, and_or_pattern}
-use Rattle.em_gram.specs.Nesting.{piece_pattern, head_pattern}
-use Rattle.em_gram.specs.declared.kind.Kind.TheVariants.{Bytes, Assigning, Value, ArgumentStart, SubstitutionStart, SubstitutionEnd, Number}
+use Rattle.em_token.specs.Kinds.{kinds, whats, class_of}
+use Rattle.em_token.specs.Shell.{shell, Expr, key, newlines}
+use Rattle.em_gram.specs.Patterns.{digit_of, only_digit, piece_spelling, script_listing, script_pattern, body_pattern, some_list, body_of, number_of, number_spelled, usual, target_spelled, redirect_pattern, word_spelling, list_of, and_or_pattern}
+use Rattle.em_gram.specs.Nesting.{piece_pattern}
+use Rattle.em_token.specs.declared.kind.Kind.TheVariants.{Bytes, Assigning, Value, ArgumentStart, SubstitutionStart, SubstitutionEnd, Number}
 use Rattle.em_syntax.specs.declared.tree.RedirectKind.{RedirectKind}
 use Rattle.em_syntax.specs.declared.tree.Script.{Script, roll-Script}
 use Rattle.em_syntax.specs.declared.tree.AndOr.{AndOr}
@@ -26,20 +24,15 @@ use Rattle.em_syntax.specs.declared.tree.Redirect.{roll-Redirect}
 use Rattle.em_syntax.specs.declared.tree.WordPiece.{WordPiece, roll-WordPiece}
 use Rattle.em_syntax.specs.declared.tree.WordWhat.TheVariants as WordWhat
 use Rattle.em_syntax.specs.declared.tree.Value.{roll-Value}
-use Rattle.em_gram.specs.declared.nest.Head.{Head}
 use Rattle.em_gram.proofs.Spellings.{piece_made, what_Bytes, what_Value, what_Output, value_made, script_made, word_made, redirect_made}
 use Rattle.em_grammar.proofs.Giving.{spell_front}
-use Rattle.em_gram.proofs.Tokens.{assigning_is, small_number, descends_this}
+use Rattle.em_token.proofs.Tokens.{assigning_is, small_number, descends_this}
 
 pub bytes_made : (q : Bool) (text : List ℕ) → piece_pattern (roll-WordPiece (record { quoted = q; what = WordWhat.Bytes text })) ≡ this (kinds (Bytes ∷ Assigning ∷ [])) (What.Bytes q text)
 bytes_made q text = ap (λ s. s.pattern) (piece_made q (WordWhat.Bytes text) ∙ ap (λ g. g q) (what_Bytes text))
 
 pub value_piece_made : (q : Bool) (n f : List ℕ) → piece_pattern (roll-WordPiece (record { quoted = q; what = WordWhat.Value (roll-Value (record { name = n; form = f; arg = None })) })) ≡ this (kinds (Value ∷ [])) (What.Value q n f)
 value_piece_made q n f = ap (λ s. s.pattern) (piece_made q (WordWhat.Value (roll-Value (record { name = n; form = f; arg = None }))) ∙ ap (λ g. g q) (what_Value (roll-Value (record { name = n; form = f; arg = None }))) ∙ ap (λ g. g q) (value_made n f None))
-
-pub name_bytes : (left : ℕ) (ts rest : List What) (w : What) (text : List ℕ) (q : Bool) (name : List ℕ) → w ≡ What.Bytes q text → name ≡ text → Reads shell left (key Bytes) ts (this (kinds (Bytes ∷ [])) w) rest → Reads shell left (key Bytes) ts (bytes_spelled name) rest
-name_bytes left ts rest w text true name i e h = record { spells = rw e (inr (rw i at h.spells)); goes = h.goes }
-name_bytes left ts rest w text false name i e h = record { spells = rw e (inl (rw i at h.spells)); goes = h.goes }
 
 pub bytes_read : (left : ℕ) (ts rest : List What) (w : What) (q : Bool) (held text : List ℕ) (piece : WordPiece) → w ≡ What.Bytes q held → text ≡ held → piece_pattern piece ≡ this (kinds (Bytes ∷ Assigning ∷ [])) (What.Bytes q text) →
     Reads shell left (one (kinds (Bytes ∷ Assigning ∷ []))) ts (this (kinds (Bytes ∷ Assigning ∷ [])) w) rest → Reads shell left (one (kinds (Bytes ∷ Assigning ∷ []))) ts (piece_pattern piece) rest

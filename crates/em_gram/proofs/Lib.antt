@@ -1,7 +1,5 @@
-pub mod Checked
 pub mod Spellings
 pub mod Nested
-pub mod Tokens
 pub mod Parts
 pub mod Holding
 pub mod Starting

@@ -5,25 +5,25 @@ use Rattle.std.specs.Result.{IsErr, IsErrAnd}
 use Rattle.std.proofs.lemmas.List.{map-append, append_assoc, append-nil}
 use Rattle.std.proofs.lemmas.Bool.{eqb-true}
 use Rattle.std.proofs.lemmas.Result.{err_from_is_err_and}
-use Rattle.em_grammar.specs.Production.{Production, one, this, ◌⨾◌, ◌∣◌, empty, many, last, is_among}
+use Rattle.em_grammar.specs.Production.{this, ◌⨾◌, empty, is_among}
 use Rattle.em_grammar.specs.Machine.{first_set}
-use Rattle.em_grammar.specs.Checks.{firm, within}
+use Rattle.em_grammar.specs.Checks.{within}
 use Rattle.em_grammar.specs.Gives.{begins_with, Spells, all, Turns, Reads, Faults, Passes, Moves, Gives, lead_off}
 use Rattle.em_grammar.proofs.Reading.{within_at, apart_at, among-append}
 use Rattle.em_grammar.proofs.Giving.{spell_then, spell_front, spell_all_more, open_bracket, end_balanced, opens_bracket, closes_bracket, more_balanced, exit_balanced, begun, turn, moves_past, reads_last}
 use Rattle.em_lexeme.specs.declared.lexeme.What.{What}
-use Rattle.em_gram.specs.declared.stop.Stop.{Stop}
-use Rattle.em_gram.specs.declared.kind.Kind.TheVariants.{Assignment, ArgumentStart, ArgumentEnd, Bytes, Assigning, Value, SubstitutionStart, WordEnd}
+use Rattle.em_token.specs.declared.stop.Stop.{Stop}
+use Rattle.em_token.specs.declared.kind.Kind.TheVariants.{Assignment, ArgumentStart, ArgumentEnd, Bytes, Assigning, Value, SubstitutionStart}
 use Rattle.em_syntax.specs.declared.tree.Redirect.{Redirect}
 use Rattle.em_syntax.specs.declared.tree.Word.{Word}
 use Rattle.em_syntax.specs.declared.tree.Assigned.{Assigned}
-use Rattle.em_gram.specs.Kinds.{kinds, words, command_words, class_of}
-use Rattle.em_gram.specs.Seen.{fault_of}
-use Rattle.em_gram.specs.Shell.{shell, Expr, pieces, piece, argument, arguments, prefix, key}
-use Rattle.em_gram.specs.Nesting.{word_goes_on}
+use Rattle.em_token.specs.Kinds.{kinds, words, command_words, class_of}
+use Rattle.em_token.specs.Seen.{fault_of}
+use Rattle.em_token.specs.Shell.{shell, Expr, pieces, piece, argument, arguments, prefix, key}
+use Rattle.em_token.specs.Words.{word_goes_on}
 use Rattle.em_gram.specs.Patterns.{weave, mixed, redirect_pattern, word_spelling, any_word, word_spelled, words_spelled, assigned_pattern}
 use Rattle.em_gram.specs.Simple.{so_far}
-use Rattle.em_gram.proofs.Checked.{shell_firm}
+use Rattle.em_token.proofs.Checked.{shell_firm}
 
 pub exit_gives : {X : Type 0} (left : ℕ) (e : Expr) (ts : List What) (x : Stop) (r : Result X Stop) → IsErr r × IsErrAnd r (λ d. d ≡ x) → Gives shell left e ts (lead_off (fault_of x)) → IfErr r (λ y. Gives shell left e ts (lead_off (fault_of y)))
 exit_gives left e ts x r is h = let p = err_from_is_err_and r is.1 in rw (p.1, p.2) h

@@ -1,20 +1,18 @@
 -- Words that are being read, and how their pieces are spelled.
-use Rattle.std.proofs.Common.{◌≡◌, ℕ, suc, zero, ◌+◌, Bool, List, [], ◌∷◌, ◌++◌, length, map, Some, None, refl, sym, ap, ◌∙◌, arith}
+use Rattle.std.proofs.Common.{◌≡◌, ℕ, Bool, List, [], ◌∷◌, ◌++◌, map, Some, refl, sym, ap, ◌∙◌}
 use Rattle.std.proofs.lemmas.List.{map-append, append_assoc}
 use Rattle.std.specs.declared.vec.Vec.{Vec}
 use Rattle.em_grammar.specs.Production.{this, ◌⨾◌}
 use Rattle.em_grammar.specs.Gives.{all, Spells}
 use Rattle.em_grammar.proofs.Giving.{spell_front, spell_then, spell_all_tail}
 use Rattle.em_lexeme.specs.declared.lexeme.What.{What}
-use Rattle.em_lexeme.specs.declared.lexeme.What.TheVariants as What
-use Rattle.em_gram.specs.Kinds.{kinds}
-use Rattle.em_gram.specs.Shell.{shell, Expr, key}
-use Rattle.em_gram.specs.Patterns.{Spelling, piece_spelling, word_spelling, value_spelling}
+use Rattle.em_token.specs.Kinds.{kinds}
+use Rattle.em_token.specs.Shell.{shell, key}
+use Rattle.em_gram.specs.Patterns.{piece_spelling, word_spelling}
 use Rattle.em_gram.specs.Nesting.{piece_pattern, head_pattern, flat}
-use Rattle.em_gram.specs.declared.kind.Kind.TheVariants.{ArgumentStart, ArgumentEnd}
-use Rattle.em_gram.specs.declared.nest.Head.{Head}
+use Rattle.em_token.specs.declared.kind.Kind.TheVariants.{ArgumentStart, ArgumentEnd}
 use Rattle.em_gram.specs.declared.nest.Open.{Open}
-use Rattle.em_syntax.specs.declared.tree.Word.{Word, roll-Word}
+use Rattle.em_syntax.specs.declared.tree.Word.{roll-Word}
 use Rattle.em_syntax.specs.declared.tree.WordPiece.{WordPiece, roll-WordPiece}
 use Rattle.em_syntax.specs.declared.tree.WordWhat.TheVariants as WordWhat
 use Rattle.em_syntax.specs.declared.tree.Value.{roll-Value}

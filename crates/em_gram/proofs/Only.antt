@@ -1,26 +1,25 @@
 -- The tree that lexemes spell is the only one.
-use Rattle.std.proofs.Common.{◌≡◌, ◌⊎◌, inl, inr, ℕ, zero, suc, ◌+◌, ◌-◌, ◌<◌, ◌≤◌, ◌==◌, nat_le, Bool, true, false, cond, List, [], ◌∷◌, ◌++◌, length, map, Option, Some, None, refl, sym, ap, subst, ◌∙◌, arith}
+use Rattle.std.proofs.Common.{◌≡◌, inl, inr, ℕ, zero, suc, ◌+◌, ◌-◌, ◌<◌, ◌==◌, nat_le, Bool, true, false, cond, List, [], ◌∷◌, ◌++◌, length, map, Option, Some, None, refl, sym, ap, subst, ◌∙◌, arith}
 use Rattle.std.specs.Option.{option_map}
 use Rattle.std.proofs.lemmas.Bool.{eqb-true}
-use Rattle.em_grammar.specs.Production.{empty, one, this, last, is_among, ◌⨾◌, ◌∣◌, Lang, Times}
+use Rattle.em_grammar.specs.Production.{empty, one, this, last, is_among, ◌⨾◌, Lang, Times}
 use Rattle.em_grammar.specs.Checks.{apart, within}
-use Rattle.em_grammar.specs.Gives.{begins_with, Spells, all, parted}
+use Rattle.em_grammar.specs.Gives.{begins_with, Spells, all}
 use Rattle.em_grammar.proofs.Cutting.{cut}
 use Rattle.em_grammar.proofs.Reading.{among-append}
 use Rattle.em_lexeme.specs.declared.lexeme.Lexed.{Lexed}
 use Rattle.em_gram.specs.Line.{IsScript}
 use Rattle.em_lexeme.specs.declared.lexeme.What.{What}
-use Rattle.em_lexeme.specs.declared.lexeme.What.TheVariants as What
-use Rattle.em_gram.specs.Kinds.{kinds, class_of, whats, words, words_but_esac, command_words, reserved_words, names}
-use Rattle.em_gram.specs.Shell.{shell, Expr, key, newlines, bare, reserved, sequential, item_end}
+use Rattle.em_token.specs.Kinds.{kinds, class_of, whats, words, words_but_esac, command_words, reserved_words, names}
+use Rattle.em_token.specs.Shell.{shell, Expr, key, newlines, bare, reserved, sequential, item_end}
 use Rattle.em_gram.specs.Nesting.{piece_pattern}
-use Rattle.em_gram.specs.Patterns.{Spelling, digit_of, only_digit, never, body_of, some_list, list_of, word_spelled, any_word, bytes_spelled, name_spelled, assigned_spelled, number_spelled, digit_spelled, operator_spelled, target_spelled, is_duplicate, usual, redirect_spelled, words_spelled, weave, mixed, some_parts, simple_spelled, block_of, do_of, staged, else_of, branches_of, first_pattern_of, pattern_behind, patterns_of, items_of, row as row_of}
-use Rattle.em_gram.specs.Patterns.{command_pattern, compound_pattern, and_or_pattern, assigned_pattern, branch_pattern, case_pattern, for_pattern, if_pattern, item_pattern, joined_pattern, loop_pattern, pipeline_pattern, redirect_pattern, script_listing, script_pattern, body_pattern, simple_pattern, word_spelling, piece_spelling}
-use Rattle.em_gram.specs.Same.{Shape, nothing, pair, bytes, flag, number, kind, variant, row, optional}
+use Rattle.em_gram.specs.Patterns.{digit_of, only_digit, never, body_of, list_of, word_spelled, any_word, digit_spelled, operator_spelled, target_spelled, usual, redirect_spelled, words_spelled, mixed, some_parts, block_of, do_of, staged, else_of, branches_of, first_pattern_of, pattern_behind, patterns_of, items_of}
+use Rattle.em_token.specs.Words.{bytes_spelled, name_spelled}
+use Rattle.em_gram.specs.Patterns.{command_pattern, compound_pattern, and_or_pattern, assigned_pattern, branch_pattern, case_pattern, for_pattern, if_pattern, item_pattern, joined_pattern, loop_pattern, pipeline_pattern, redirect_pattern, script_pattern, body_pattern, simple_pattern, word_spelling, piece_spelling}
+use Rattle.em_gram.specs.Same.{Shape, nothing, pair, bytes, flag, variant, row, optional}
 use Rattle.em_gram.specs.Same.{command_shape, compound_shape, and_or_shape, assigned_shape, branch_shape, case_shape, for_shape, if_shape, item_shape, joined_shape, loop_shape, pipeline_shape, redirect_shape, script_shape, simple_shape, word_shape, piece_shape}
-use Rattle.em_gram.specs.declared.kind.Kind.TheVariants.{Plain, Name, Assignment, Bang, If as If_, Then, Elif, Else, Fi, While, Until, Do, Done, For as For_, In, Case as Case_, Esac, LeftBrace, RightBrace, WordEnd, Bytes, Assigning, Value as Value_, ArgumentStart, ArgumentEnd, SubstitutionStart, SubstitutionEnd, Newline, Semicolon, CaseEnd, AndIf, OrIf, Pipe, LeftParen, RightParen, Number, Less, Great, DoubleGreat, GreatAnd}
+use Rattle.em_token.specs.declared.kind.Kind.TheVariants.{Assignment, Bang, If as If_, Then, Elif, Else, Fi, While, Until, Do, Done, For as For_, In, Case as Case_, Esac, LeftBrace, RightBrace, WordEnd, Bytes, Assigning, Value as Value_, ArgumentStart, ArgumentEnd, SubstitutionStart, SubstitutionEnd, Newline, Semicolon, CaseEnd, AndIf, OrIf, Pipe, LeftParen, RightParen, Number, Less, Great, DoubleGreat, GreatAnd}
 use Rattle.em_syntax.specs.declared.tree.RedirectKind.{RedirectKind}
-use Rattle.em_syntax.specs.declared.tree.RedirectKind.TheVariants as RedirectKind
 use Rattle.em_syntax.specs.declared.tree.Command.{Command}
 use Rattle.em_syntax.specs.declared.tree.Compound.{Compound}
 use Rattle.em_syntax.specs.declared.tree.AndOr.{AndOr, out-AndOr}
@@ -36,17 +35,16 @@ use Rattle.em_syntax.specs.declared.tree.Pipeline.{Pipeline, out-Pipeline}
 use Rattle.em_syntax.specs.declared.tree.Redirect.{Redirect, out-Redirect}
 use Rattle.em_syntax.specs.declared.tree.Script.{Script, out-Script}
 use Rattle.em_syntax.specs.declared.tree.Simple.{Simple, out-Simple}
-use Rattle.em_syntax.specs.declared.tree.Value.{Value, out-Value}
 use Rattle.em_syntax.specs.declared.tree.Word.{Word, out-Word}
-use Rattle.em_syntax.specs.declared.tree.WordPiece.{WordPiece, out-WordPiece}
+use Rattle.em_syntax.specs.declared.tree.WordPiece.{WordPiece}
 use Rattle.em_gram.proofs.Spellings.{and_or_is, assigned_is, branch_is, case_is, for_is, if_is, item_is, joined_is, loop_is, pipeline_is, redirect_is, script_is, simple_is, word_is}
 use Rattle.em_gram.proofs.Shapes.{and_or_shape_is, assigned_shape_is, branch_shape_is, case_shape_is, for_shape_is, if_shape_is, item_shape_is, joined_shape_is, loop_shape_is, pipeline_shape_is, redirect_shape_is, script_shape_is, simple_shape_is, word_shape_is}
 use Rattle.em_gram.proofs.Nested.{patterns_are}
 use Rattle.em_gram.proofs.Choices.{words_map}
 use Rattle.em_gram.proofs.Holding.{script_body}
 use Rattle.em_gram.proofs.Starting.{Pat, redirect_begins, begins_key, begins_this, begins_wider, begins_redirect}
-use Rattle.em_gram.proofs.Alike.{Ends, ends_within, clash, over, Begins, Fits, Agree, begin_one, begin_then, begin_wider, begin_as, fit, fit_empty, fit_then, fit_either, fit_as, fit_none, agree_map, agree_as, agree_less, agree_before, agree_respelled, agree_one, agree_this, agree_then, agree_behind, agree_behind_this, agree_newlines, newlines_fit, agree_apart, agree_empty, agree_left, agree_right, fixed_then, then_fixed, all_fit, agree_all, agree_row, agree_parted}
-use Rattle.em_gram.proofs.Firsts.{piece_begins, simple_begins, compound_begins, command_begins, pipeline_begins, item_begins, PieceView, bytes_view, value_view, argument_view, output_view, piece_view, piece_classes, begin_view, begin_piece, begin_word, begin_assigned, begin_redirect, begin_this, begin_simple, CompoundView, subshell_view, group_view, if_view, loop_view, for_view, case_view, compound_view, compound_classes, begin_compound_view, begin_compound, CommandView, simple_view, with_redirects, command_view, begin_command, begin_staged, begin_pipeline, begin_and_or, begin_script, begin_joined, begin_item, no_either}
+use Rattle.em_gram.proofs.Alike.{Ends, clash, over, Begins, Fits, Agree, begin_then, begin_as, fit, fit_empty, fit_then, fit_as, fit_none, agree_map, agree_as, agree_less, agree_before, agree_respelled, agree_one, agree_this, agree_then, agree_behind, agree_behind_this, agree_newlines, agree_apart, agree_empty, agree_left, agree_right, fixed_then, then_fixed, all_fit, agree_all, agree_row, agree_parted}
+use Rattle.em_gram.proofs.Firsts.{piece_begins, simple_begins, compound_begins, command_begins, pipeline_begins, item_begins, PieceView, bytes_view, value_view, argument_view, output_view, piece_view, piece_classes, begin_view, begin_piece, begin_word, begin_assigned, begin_redirect, begin_simple, CompoundView, subshell_view, group_view, if_view, loop_view, for_view, case_view, compound_view, compound_classes, begin_compound_view, begin_compound, CommandView, simple_view, with_redirects, command_view, begin_command, begin_staged, begin_pipeline, begin_and_or, begin_script, begin_joined, begin_item, no_either}
 use Rattle.em_gram.proofs.Turns.{after, before, Next, ends, word, redirect, next, First, ends_first, assigned, first_word, redirect_first, first}
 
 -- what doesn't follow each part

@@ -1,24 +1,16 @@
 -- Exits and loops over the lexemes of a line.
-use Rattle.std.proofs.Common.{◌≡◌, ℕ, suc, zero, subst, cond, ◌<◌, ◌+◌, ◌-◌, Bool, true, false, List, [], ◌∷◌, ◌++◌, length, map, Option, Some, None, refl, sym, ap, ◌∙◌, inl, inr, arith}
-use Rattle.std.specs.Prelude.{Result}
-use Rattle.std.specs.Result.{IsErr, IsErrAnd}
+use Rattle.std.proofs.Common.{◌≡◌, ℕ, subst, ◌<◌, ◌-◌, true, false, List, [], ◌∷◌, ◌++◌, map, refl, inl, inr}
 use Rattle.std.proofs.lemmas.List.{map-append}
-use Rattle.std.proofs.lemmas.Result.{err_from_is_err_and}
-use Rattle.em_grammar.specs.Production.{Production, one, this, many, more, empty, inner, nested, refused, ◌⨾◌, ◌∣◌}
+use Rattle.em_grammar.specs.Production.{many, more, empty, inner, ◌⨾◌, ◌∣◌}
 use Rattle.em_grammar.specs.Machine.{first_set, nullable}
-use Rattle.em_grammar.specs.Gives.{begins_with, Spells, Reads, Faults, Turns, Passes, Moves, Lead, on, Gives, lead_of, lead_off, all, parted}
+use Rattle.em_grammar.specs.Gives.{begins_with, Spells, Reads, Turns, Lead, on, Gives, all, parted}
 use Rattle.em_grammar.specs.Checks.{firm}
-use Rattle.em_grammar.proofs.Giving.{turn, more_many, more_row, last_row, spell_then, gives_inner, stopped, then_on, then_off, then_exit, left_on, right_on, gives_left, gives_right, spell_all_more, spell_parted_more, spell_front, turn_off}
+use Rattle.em_grammar.proofs.Giving.{turn, more_many, more_row, last_row, spell_then, gives_inner, then_on, spell_all_more, spell_parted_more, spell_front}
 use Rattle.em_lexeme.specs.declared.lexeme.What.{What}
-use Rattle.em_gram.specs.declared.stop.Stop.{Stop}
-use Rattle.em_gram.specs.Kinds.{kinds, whats}
-use Rattle.em_gram.specs.Shell.{shell, Expr, list, newlines, sequential, separator}
-use Rattle.em_gram.specs.Patterns.{row, list_of, some_list, items_of, patterns_of, first_pattern_of, pattern_behind, Spelling}
-use Rattle.em_gram.specs.Seen.{fault_of}
-use Rattle.em_gram.proofs.Checked.{shell_firm}
-
-pub off : {X : Type 0} (left : ℕ) (e : Expr) (ts : List What) (x : Stop) (view : X → Expr × List What) (r : Result X Stop) → IsErr r × IsErrAnd r (λ d. d ≡ x) → Gives shell left e ts (lead_off (fault_of x)) → Gives shell left e ts (lead_of view fault_of r)
-off left e ts x view r is h = stopped shell left e ts x view fault_of r is h
+use Rattle.em_token.specs.Shell.{shell, Expr, list, sequential}
+use Rattle.em_gram.specs.Patterns.{row, list_of, some_list, patterns_of, first_pattern_of, pattern_behind, Spelling}
+use Rattle.em_token.proofs.Checked.{shell_firm}
+use Rattle.em_token.proofs.Tokens.{one_more}
 
 -- one more in a loop
 pub step_all : {X : Type 0} (f : X → Expr) {left : ℕ} {e a : Expr} {ts us rest : List What} {ys : List X} {x : X} (xs : List X) → Turns shell left e ts (all (map f xs)) (many a) us → firm a ≡ true → begins_with shell us (first_set shell.list_first a) ≡ true → Reads shell left a us (f x) rest → ys ≡ xs ++ x ∷ [] → Turns shell left e ts (all (map f ys)) (many a) rest
@@ -30,9 +22,6 @@ step_parted f sep {ts = ts} {us = us} {rest = rest} {ys = ys} {x = x} xs t m b h
     more_many shell shell_firm t m b h (parted sep (map f ys)) (rw (e, map-append f xs (x ∷ [])) (spell_parted_more shell sep (map f xs) (f x) ts us rest t.spells h.spells))
 
 -- a list one level deeper
-one_more : (left : ℕ) → 0 < left → suc (left - 1) ≡ left
-one_more left h = omega arith
-
 pub inner_gives : (left : ℕ) → 0 < left → (ts : List What) (L : Lead What) → Gives shell (left - 1) list ts L → Gives shell left inner ts L
 inner_gives left h ts L g = subst (λ (n : ℕ). Gives shell n inner ts L) (one_more left h) (gives_inner shell (left - 1) ts L refl g)
 

@@ -1,14 +1,14 @@
 -- How each tree is spelled, in terms of its parts. Written by tools/spellings.py.
-use Rattle.std.proofs.Common.{◌≡◌, [], ◌∷◌, ◌++◌, ℕ, List, Bool, map, refl, ap, sym, ◌∙◌, cond, Option, Some, None}
+use Rattle.std.proofs.Common.{◌≡◌, ℕ, List, Bool, map, refl, ap, sym, ◌∙◌, cond, Option, Some, None}
 use Rattle.std.specs.Option.{option_map}
 use Rattle.std.specs.declared.vec.Vec.{Vec}
-use Rattle.em_grammar.specs.Production.{empty, one, ◌⨾◌, ◌∣◌}
+use Rattle.em_grammar.specs.Production.{empty, ◌⨾◌}
 use Rattle.em_grammar.specs.Gives.{all}
-use Rattle.em_gram.specs.Kinds.{kinds}
-use Rattle.em_gram.specs.Shell.{Expr, key, newlines, sequential, bare, reserved}
-use Rattle.em_gram.specs.declared.kind.Kind.TheVariants.{Bang, If as If_, Then, Fi, Until, While, For as For_, In, Case as Case_, Esac, LeftBrace, RightBrace, LeftParen, RightParen, AndIf, OrIf}
+use Rattle.em_token.specs.Shell.{Expr, key, newlines, sequential, bare, reserved}
+use Rattle.em_token.specs.declared.kind.Kind.TheVariants.{Bang, If as If_, Then, Fi, Until, While, For as For_, In, Case as Case_, Esac, LeftBrace, RightBrace, LeftParen, RightParen, AndIf, OrIf}
 use Rattle.em_syntax.specs.declared.tree.RedirectKind.{RedirectKind}
-use Rattle.em_gram.specs.Patterns.{script_pattern, Spelling, of_pieces, bytes_spelling, output_spelling, value_spelling, any_word, name_spelled, assigned_spelled, redirect_spelled, simple_spelled, some_list, list_of, block_of, do_of, staged, else_of, branches_of, body_of, patterns_of, items_of}
+use Rattle.em_gram.specs.Patterns.{script_pattern, Spelling, of_pieces, bytes_spelling, output_spelling, value_spelling, any_word, assigned_spelled, redirect_spelled, simple_spelled, some_list, list_of, block_of, do_of, staged, else_of, branches_of, body_of, patterns_of, items_of}
+use Rattle.em_token.specs.Words.{name_spelled}
 use Rattle.em_gram.specs.Patterns.{command_step, compound_step, what_step, and_or_step, assigned_step, branch_step, case_step, for_step, if_step, item_step, joined_step, loop_step, pipeline_step, redirect_step, script_step, simple_step, value_step, word_step, piece_step}
 use Rattle.em_gram.specs.Patterns.{command_pattern, compound_pattern, what_spelled_as, and_or_pattern, assigned_pattern, branch_pattern, case_pattern, for_pattern, if_pattern, item_pattern, joined_pattern, loop_pattern, pipeline_pattern, redirect_pattern, script_listing, simple_pattern, value_spelled_as, word_spelling, piece_spelling}
 use Rattle.em_syntax.specs.declared.tree.Command.TheOpen.{Command-F, Compound-F, WordWhat-F}

@@ -1,17 +1,15 @@
 -- What a part of a tree begins with.
-use Rattle.std.proofs.Common.{◌≡◌, ℕ, Bool, true, false, ◌==◌, cond, List, [], ◌∷◌, inl, inr, refl, ap, sym, subst}
-use Rattle.em_grammar.specs.Production.{Production, one, this, empty, is_among, ◌⨾◌, ◌∣◌, Lang, nothing, Front}
+use Rattle.std.proofs.Common.{◌≡◌, ℕ, Bool, true, false, ◌==◌, cond, List, [], ◌∷◌, inl, inr, refl}
+use Rattle.em_grammar.specs.Production.{one, this, empty, ◌⨾◌, Lang, nothing, Front}
 use Rattle.em_grammar.specs.Checks.{apart, within}
 use Rattle.em_grammar.specs.Gives.{begins_with, Spells}
 use Rattle.em_grammar.proofs.Reading.{apart_at, within_at}
 use Rattle.em_lexeme.specs.declared.lexeme.What.{What}
-use Rattle.em_lexeme.specs.declared.lexeme.What.TheVariants as What
-use Rattle.em_gram.specs.Kinds.{kinds, class_of}
-use Rattle.em_gram.specs.Shell.{shell, Expr}
-use Rattle.em_gram.specs.Patterns.{Spelling, never, redirect_pattern, redirect_spelled, number_spelled, operator_spelled, target_spelled, is_duplicate, digit_spelled, any_word, usual, word_spelling}
-use Rattle.em_gram.specs.declared.kind.Kind.TheVariants.{Number, Less, Great, DoubleGreat, GreatAnd}
+use Rattle.em_token.specs.Kinds.{kinds, class_of}
+use Rattle.em_token.specs.Shell.{shell, Expr}
+use Rattle.em_gram.specs.Patterns.{Spelling, never, redirect_pattern, redirect_spelled, operator_spelled, target_spelled, is_duplicate, digit_spelled, any_word, usual, word_spelling}
+use Rattle.em_token.specs.declared.kind.Kind.TheVariants.{Number, Less, Great, DoubleGreat, GreatAnd}
 use Rattle.em_syntax.specs.declared.tree.RedirectKind.{RedirectKind}
-use Rattle.em_syntax.specs.declared.tree.RedirectKind.TheVariants as RedirectKind
 use Rattle.em_syntax.specs.declared.tree.Redirect.{Redirect, out-Redirect}
 use Rattle.em_gram.proofs.Spellings.{redirect_is}
 

@@ -1,11 +1,11 @@
 -- Simple commands, from one part to the next: a word, an assignment, a redirection, or the end.
-use Rattle.std.proofs.Common.{◌≡◌, inl, inr, ℕ, List, [], ◌∷◌, ◌++◌, map, refl}
-use Rattle.em_grammar.specs.Production.{◌⨾◌, ◌∣◌}
-use Rattle.em_grammar.specs.Gives.{Spells, all}
+use Rattle.std.proofs.Common.{◌≡◌, inl, inr, List, [], ◌∷◌, ◌++◌, map, refl}
+use Rattle.em_grammar.specs.Production.{◌⨾◌}
+use Rattle.em_grammar.specs.Gives.{Spells}
 use Rattle.em_lexeme.specs.declared.lexeme.What.{What}
-use Rattle.em_gram.specs.Kinds.{command_words}
-use Rattle.em_gram.specs.Shell.{shell, Expr}
-use Rattle.em_gram.specs.Patterns.{mixed, weave, word_spelled, any_word, words_spelled, word_spelling, redirect_pattern, assigned_pattern}
+use Rattle.em_token.specs.Kinds.{command_words}
+use Rattle.em_token.specs.Shell.{shell, Expr}
+use Rattle.em_gram.specs.Patterns.{mixed, word_spelled, any_word, words_spelled, word_spelling, redirect_pattern, assigned_pattern}
 use Rattle.em_syntax.specs.declared.tree.Word.{Word}
 use Rattle.em_syntax.specs.declared.tree.Assigned.{Assigned}
 use Rattle.em_syntax.specs.declared.tree.Redirect.{Redirect}

@@ -1,9 +1,8 @@
 -- A line has a tree or a fault, and not two.
-use Rattle.std.proofs.Common.{◌≡◌, ◌≢◌, ◌⊎◌, inl, inr, ℕ, zero, suc, ◌-◌, ◌==◌, Bool, true, false, ◌&&◌, cond, List, [], ◌∷◌, ◌++◌, length, Option, Some, None, refl, sym, ap, subst, ◌∙◌, arith}
+use Rattle.std.proofs.Common.{◌≡◌, ◌≢◌, inl, inr, ℕ, suc, ◌-◌, ◌==◌, cond, List, [], ◌∷◌, ◌++◌, length, Option, Some, None, refl, sym, ap, subst, ◌∙◌}
 use Rattle.std.proofs.lemmas.List.{append-nil, append_assoc}
 use Rattle.std.proofs.lemmas.Bool.{eqb-true}
 use Rattle.em_base.specs.declared.construct.Construct.{Construct}
-use Rattle.em_base.specs.declared.construct.Construct.TheVariants as Construct
 use Rattle.em_grammar.specs.Production.{Lang, depth}
 use Rattle.em_grammar.specs.Machine.{run, Outcome, done, fault}
 use Rattle.em_grammar.specs.Faults.{Stops, IsFirstFault}
@@ -11,14 +10,12 @@ use Rattle.em_grammar.proofs.Reading.{both}
 use Rattle.em_lexeme.specs.declared.lexeme.Lexed.{Lexed}
 use Rattle.em_lexeme.specs.declared.lexeme.What.{What}
 use Rattle.em_lexeme.specs.declared.no.LexNo.{LexNo}
-use Rattle.em_lexeme.specs.declared.no.LexNo.TheVariants as LexNo
 use Rattle.em_syntax.specs.declared.tree.Script.{Script}
-use Rattle.em_gram.specs.Kinds.{whats}
-use Rattle.em_gram.specs.Shell.{shell, line, background, function, positional}
+use Rattle.em_token.specs.Kinds.{whats}
+use Rattle.em_token.specs.Shell.{shell, line, background, function}
 use Rattle.em_gram.specs.Line.{IsLine, IsScript, IsUpTo, IsFault, ends_with, may_be, steps_back, place_at, FirstFault, StopIs, GoesOn, number_of, RefusedHere, UnexpectedAt}
 use Rattle.em_gram.specs.declared.no.GramNo.{GramNo}
-use Rattle.em_gram.specs.declared.no.GramNo.TheVariants as GramNo
-use Rattle.em_gram.proofs.Checked.{line_right, line_names}
+use Rattle.em_token.proofs.Checked.{line_right, line_names}
 use Rattle.em_gram.proofs.Whole.{real}
 
 -- first faults

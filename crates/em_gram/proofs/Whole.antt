@@ -1,23 +1,23 @@
 -- A whole line: from what the machine says to what is promised.
-use Rattle.std.proofs.Common.{◌≡◌, ◌⊎◌, inl, inr, ℕ, zero, suc, ◌==◌, ◌+◌, ◌-◌, Bool, true, false, ◌&&◌, List, [], ◌∷◌, ◌++◌, length, map, Option, Some, None, refl, sym, ap, subst, ◌∙◌, length-append, arith}
+use Rattle.std.proofs.Common.{◌≡◌, ℕ, suc, ◌==◌, ◌+◌, ◌-◌, Bool, true, false, ◌&&◌, List, [], ◌∷◌, ◌++◌, length, Option, None, refl, sym, ap, subst, ◌∙◌, length-append, arith}
 use Rattle.std.proofs.lemmas.List.{length-map, append-nil}
 use Rattle.std.proofs.lemmas.Bool.{eqb-true}
-use Rattle.em_grammar.specs.Production.{Is, IsWith, ◌⨾◌}
-use Rattle.em_grammar.specs.Machine.{run, done, fault}
+use Rattle.em_grammar.specs.Production.{◌⨾◌}
+use Rattle.em_grammar.specs.Machine.{run, fault}
 use Rattle.em_grammar.specs.Faults.{IsFirstFault}
-use Rattle.em_grammar.specs.Gives.{Spells, Reads}
+use Rattle.em_grammar.specs.Gives.{Reads}
 use Rattle.em_grammar.proofs.Reading.{both}
 use Rattle.em_lexeme.specs.declared.lexeme.Lexeme.{Lexeme}
 use Rattle.em_lexeme.specs.declared.lexeme.What.{What}
 use Rattle.em_lexeme.specs.declared.no.LexNo.{LexNo}
-use Rattle.em_gram.specs.Kinds.{class_of, whats}
-use Rattle.em_gram.specs.Shell.{shell, Expr, list, line, newlines}
+use Rattle.em_token.specs.Kinds.{whats}
+use Rattle.em_token.specs.Shell.{shell, Expr, line, newlines}
 use Rattle.em_gram.specs.Patterns.{body_pattern}
 use Rattle.em_syntax.specs.declared.tree.Script.{Script}
 use Rattle.em_gram.specs.declared.no.GramNo.{GramNo}
 use Rattle.em_lexeme.specs.declared.lexeme.Lexed.{Lexed}
 use Rattle.em_gram.specs.Line.{IsLine, IsScript, IsFault, is_function, GoesOn, lexed_of, FirstFault, UnexpectedAt, RefusedHere, ends_with, steps_back, place_at}
-use Rattle.em_gram.proofs.Checked.{line_right, line_named, line_names}
+use Rattle.em_token.proofs.Checked.{line_right, line_named, line_names}
 
 pub fault_first : (ts : List What) (c : ℕ) (rest : List What) → run shell ((64, line) ∷ []) ts ≡ fault c rest → IsFirstFault IsLine ts rest
 fault_first ts c rest e = rw e at (line_right ts)

@@ -1,5 +1,5 @@
 -- A whole line: which tree it has, and what its fault is.
-use Rattle.std.specs.Prelude.{◌≡◌, ◌⊎◌, ℕ, zero, suc, ◌-◌, ◌==◌, Bool, true, false, cond, ◌&&◌, List, [], ◌∷◌, ◌++◌, length, drop, slice_get, Option, Some, None}
+use Rattle.std.specs.Prelude.{◌≡◌, ◌⊎◌, ℕ, suc, ◌-◌, ◌==◌, Bool, true, false, cond, ◌&&◌, List, [], ◌∷◌, ◌++◌, length, slice_get, Option, Some, None}
 use Rattle.em_base.specs.declared.construct.Construct.{Construct}
 use Rattle.em_base.specs.declared.construct.Construct.TheVariants.{Background, Function, Positional, Depth}
 use Rattle.em_grammar.specs.Production.{Is, IsWith, Ending, opens, depth, ◌⨾◌}
@@ -9,14 +9,12 @@ use Rattle.em_lexeme.specs.declared.lexeme.Lexeme.{Lexeme}
 use Rattle.em_lexeme.specs.declared.lexeme.Lexed.{Lexed}
 use Rattle.em_lexeme.specs.declared.lexeme.What.{What}
 use Rattle.em_lexeme.specs.declared.no.LexNo.{LexNo}
-use Rattle.em_lexeme.specs.declared.no.LexNo.TheVariants as LexNo
-use Rattle.em_gram.specs.Kinds.{class_of, kinds, whats}
-use Rattle.em_gram.specs.Shell.{shell, list, line, newlines, background, function, positional}
+use Rattle.em_token.specs.Kinds.{class_of, kinds, whats}
+use Rattle.em_token.specs.Shell.{shell, list, line, newlines, background, function, positional}
 use Rattle.em_gram.specs.Patterns.{body_pattern}
-use Rattle.em_gram.specs.declared.kind.Kind.TheVariants.{RightParen}
+use Rattle.em_token.specs.declared.kind.Kind.TheVariants.{RightParen}
 use Rattle.em_syntax.specs.declared.tree.Script.{Script}
 use Rattle.em_gram.specs.declared.no.GramNo.{GramNo}
-use Rattle.em_gram.specs.declared.no.GramNo.TheVariants as GramNo
 
 -- the lines of the grammar, in which 64 compound commands and substitutions may be open at once
 abbrev pub IsLine : List What → Type 0

@@ -1,13 +1,12 @@
 -- A word that is being read: the arguments that are open in it, the outermost first, and the pieces of the innermost.
-use Rattle.std.specs.Prelude.{ℕ, ◌==◌, Bool, not, ◌||◌, ◌&&◌, List, [], ◌∷◌, ◌++◌, map, length}
+use Rattle.std.specs.Prelude.{ℕ, ◌==◌, Bool, not, List, [], ◌∷◌, ◌++◌, map, length}
 use Rattle.em_grammar.specs.Production.{this}
-use Rattle.em_grammar.specs.Gives.{all, begins_with}
 use Rattle.em_lexeme.specs.declared.lexeme.What.{What}
-use Rattle.em_lexeme.specs.declared.lexeme.What.TheVariants as What
-use Rattle.em_gram.specs.Kinds.{kinds}
-use Rattle.em_gram.specs.Shell.{Expr, shell}
+use Rattle.em_token.specs.Kinds.{kinds}
+use Rattle.em_token.specs.Words.{word_goes_on}
+use Rattle.em_token.specs.Shell.{Expr}
 use Rattle.em_gram.specs.Patterns.{piece_spelling}
-use Rattle.em_gram.specs.declared.kind.Kind.TheVariants.{ArgumentStart, Bytes, Assigning, Value, SubstitutionStart, ArgumentEnd}
+use Rattle.em_token.specs.declared.kind.Kind.TheVariants.{ArgumentStart}
 use Rattle.em_gram.specs.declared.nest.Head.{Head}
 use Rattle.em_gram.specs.declared.nest.Open.{Open}
 use Rattle.em_gram.specs.declared.nest.Nest.{Nest}
@@ -29,10 +28,6 @@ nest_parts n = flat n.open_arguments.items n.pieces.items
 
 abbrev pub nest_depth : Nest → ℕ
 nest_depth n = length n.open_arguments.items
-
--- a piece or an argument follows, or the end of an argument that is open
-abbrev pub word_goes_on : Bool → List What → Bool
-word_goes_on is_open ts = begins_with shell ts (kinds (ArgumentStart ∷ Bytes ∷ Assigning ∷ Value ∷ SubstitutionStart ∷ [])) || (is_open && begins_with shell ts (kinds (ArgumentEnd ∷ [])))
 
 abbrev pub may_go_on : ℕ → List What → Bool
 may_go_on open_arguments ts = word_goes_on (not (open_arguments == 0)) ts

@@ -1,15 +1,13 @@
 -- How each tree is spelled by lexemes: a fold, with a step for each part of the grammar. Words are spelled with the bytes and names that they hold.
 use Rattle.std.specs.Prelude.{ℕ, ◌-◌, ◌==◌, nat_le, Bool, true, false, List, [], ◌∷◌, ◌++◌, map, Option, Some, None, option_map, cond}
-use Rattle.em_grammar.specs.Production.{Production, empty, one, this, ◌⨾◌, ◌∣◌, many, last, refused}
+use Rattle.em_grammar.specs.Production.{empty, one, this, ◌⨾◌, ◌∣◌, last, refused}
 use Rattle.em_grammar.specs.Gives.{all, parted}
 use Rattle.em_lexeme.specs.declared.lexeme.What.{What}
-use Rattle.em_lexeme.specs.declared.lexeme.What.TheVariants as What
-use Rattle.em_gram.specs.Kinds.{kinds, words, words_but_esac, command_words, reserved_words, names}
-use Rattle.em_gram.specs.Shell.{Expr, key, newlines, sequential, bare, reserved, item_end}
-use Rattle.em_gram.specs.declared.kind.Kind.{Kind}
-use Rattle.em_gram.specs.declared.kind.Kind.TheVariants.{Name, Assignment, Bang, If, Then, Elif, Else, Fi, While, Until, Do, Done, For, In, Case, Esac, LeftBrace, RightBrace, WordEnd, Bytes, Assigning, Value, ArgumentStart, ArgumentEnd, SubstitutionStart, SubstitutionEnd, AndIf, OrIf, Pipe, LeftParen, RightParen, Number, Less, Great, DoubleGreat, GreatAnd}
+use Rattle.em_token.specs.Kinds.{kinds, words, words_but_esac, command_words, reserved_words}
+use Rattle.em_token.specs.Words.{name_spelled}
+use Rattle.em_token.specs.Shell.{Expr, key, newlines, sequential, bare, reserved, item_end}
+use Rattle.em_token.specs.declared.kind.Kind.TheVariants.{Assignment, Bang, If, Then, Elif, Else, Fi, While, Until, Do, Done, For, In, Case, Esac, LeftBrace, RightBrace, WordEnd, Bytes, Assigning, Value, ArgumentStart, ArgumentEnd, SubstitutionStart, SubstitutionEnd, AndIf, OrIf, Pipe, LeftParen, RightParen, Number, Less, Great, DoubleGreat, GreatAnd}
 use Rattle.em_syntax.specs.declared.tree.RedirectKind.{RedirectKind}
-use Rattle.em_syntax.specs.declared.tree.RedirectKind.TheVariants as RedirectKind
 use Rattle.em_syntax.specs.declared.tree.Command.TheOpen.{Command-F, Compound-F, WordWhat-F, AndOr-F, Assigned-F, Branch-F, Case-F, For-F, If-F, Item-F, Joined-F, Loop-F, Pipeline-F, Redirect-F, Script-F, Simple-F, Value-F, Word-F, WordPiece-F}
 use Rattle.em_syntax.specs.declared.tree.Command.{Command as CommandTree, fold-Command}
 use Rattle.em_syntax.specs.declared.tree.Compound.{Compound as CompoundTree, fold-Compound}
@@ -77,12 +75,6 @@ word_spelled begins w = one begins ⨾ w.pattern ⨾ key WordEnd
 
 abbrev pub any_word : Spelling → Expr
 any_word w = word_spelled words w
-
-abbrev pub bytes_spelled : List ℕ → Expr
-bytes_spelled text = this (kinds (Bytes ∷ [])) (What.Bytes false text) ∣ this (kinds (Bytes ∷ [])) (What.Bytes true text)
-
-abbrev pub name_spelled : List ℕ → Expr
-name_spelled name = one names ⨾ bytes_spelled name ⨾ key WordEnd
 
 abbrev pub assigned_spelled : List ℕ → Spelling → Expr
 assigned_spelled name value = key Assignment ⨾ this (kinds (Assigning ∷ [])) (What.Bytes false (name ++ 61 ∷ [])) ⨾ value.pattern ⨾ key WordEnd

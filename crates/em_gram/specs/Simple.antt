@@ -1,6 +1,6 @@
 -- A simple command that is being read.
 use Rattle.std.specs.Prelude.{List, ◌++◌, map}
-use Rattle.em_gram.specs.Shell.{Expr}
+use Rattle.em_token.specs.Shell.{Expr}
 use Rattle.em_gram.specs.Patterns.{mixed, words_spelled, word_spelling, redirect_pattern}
 use Rattle.em_syntax.specs.declared.tree.Word.{Word}
 use Rattle.em_syntax.specs.declared.tree.Redirect.{Redirect}

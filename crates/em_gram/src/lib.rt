@@ -1,16 +1,12 @@
 //! The syntax tree of a recipe line in a subset of the POSIX shell, and its parser.
 #![tactic(auto)]
 
-mod held;
-mod kind;
 pub mod laws;
 mod nest;
 mod no;
 mod parse_line;
 mod parser;
 mod piece;
-mod read;
-mod stop;
 
 pub use em_syntax::{
     AndOr, Assigned, Branch, Case, Command, Compound, For, If, Item, Joined, Loop, Pipeline,

@@ -4,8 +4,8 @@ ghost use Rattle.em_grammar.specs.Production.{◌⨾◌};
 ghost use Rattle.em_grammar.specs.Gives.{all, Spells};
 ghost use Rattle.em_lexeme.specs.declared.lexeme.What.{What};
 ghost use Rattle.em_gram.specs.Nesting.{piece_pattern, head_pattern, nest_parts, nest_depth};
-ghost use Rattle.em_gram.specs.Shell.{shell, key};
-ghost use Rattle.em_gram.specs.declared.kind.Kind.TheVariants as Kind;
+ghost use Rattle.em_token.specs.Shell.{shell, key};
+ghost use Rattle.em_token.specs.declared.kind.Kind.TheVariants as Kind;
 
 use em_base::{NoMemory, Text};
 use em_syntax::{Value, Word, WordPiece, WordWhat};

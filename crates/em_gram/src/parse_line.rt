@@ -6,20 +6,20 @@ ghost use Rattle.em_grammar.specs.Gives.{Reads};
 ghost use Rattle.em_gram.specs.Patterns.{body_pattern};
 ghost use Rattle.em_lexeme.specs.declared.lexeme.Lexeme.{Lexeme};
 ghost use Rattle.em_lexeme.specs.declared.no.LexNo.{LexNo};
-ghost use Rattle.em_gram.specs.Seen.{why_code};
-ghost use Rattle.em_gram.specs.Shell.{shell, newlines, line as line_grammar};
+ghost use Rattle.em_token.specs.Seen.{why_code};
+ghost use Rattle.em_token.specs.Shell.{shell, newlines, line as line_grammar};
 ghost use Rattle.em_lex.specs.Lexing.{lexed};
 ghost use Rattle.em_gram.specs.Line.{IsScript, IsFault, GoesOn, lexed_of, place_at, is_function};
-ghost use Rattle.em_gram.specs.Kinds.{whats};
+ghost use Rattle.em_token.specs.Kinds.{whats};
 
-use crate::kind::Kind;
 use crate::no::GramNo;
 use crate::parser::line;
-use crate::read::opens;
-use crate::stop::{Stop, Why};
 use em_base::Construct;
 use em_lex::{LexNo, Lexed, Lexeme, lexemes};
 use em_syntax::Script;
+use em_token::kind::Kind;
+use em_token::read::opens;
+use em_token::stop::{Stop, Why};
 use std::alloc::Global;
 
 /// Where the lexeme of this number begins, or the line's length behind the last.

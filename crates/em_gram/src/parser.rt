@@ -4,33 +4,33 @@ ghost use Rattle.std.specs.Option.{option_map};
 ghost use Rattle.em_grammar.specs.Production.{many, more, ◌⨾◌};
 ghost use Rattle.em_grammar.specs.Gives.{begins_with, Gives, Passes, Moves, Spells, lead_of, lead_off, all};
 ghost use Rattle.em_lexeme.specs.declared.lexeme.What.{What};
-ghost use Rattle.em_gram.specs.Kinds.{whats, words as word_kinds, reserved_words, kinds as kinds_of};
-ghost use Rattle.em_gram.specs.Shell as Grammar;
-ghost use Rattle.em_gram.specs.Shell.{shell, key, Expr};
+ghost use Rattle.em_token.specs.Kinds.{whats, words as word_kinds, reserved_words, kinds as kinds_of};
+ghost use Rattle.em_token.specs.Shell as Grammar;
+ghost use Rattle.em_token.specs.Shell.{shell, key, Expr};
 ghost use Rattle.em_gram.specs.Patterns as Tree;
 ghost use Rattle.em_gram.specs.Nesting.{piece_pattern, nest_parts, nest_depth, may_go_on};
 ghost use Rattle.em_gram.specs.Simple.{so_far};
-ghost use Rattle.em_gram.specs.Seen.{fault_of};
-ghost use Rattle.em_gram.specs.declared.kind.Kind.TheVariants as Kind;
+ghost use Rattle.em_token.specs.Seen.{fault_of};
+ghost use Rattle.em_token.specs.declared.kind.Kind.TheVariants as Kind;
 
-use crate::kind::Kind;
 use crate::nest::Nest;
 use crate::piece::{
     argument_begin, assigned_name, duplicate, file_operator, no_commands, number, output_piece,
     redirection, simple_piece, substitution_begin,
 };
-use crate::read::{
-    bang, bare, descend, goes_on, in_word, loop_kind, name, newlines, opens, opens_argument,
-    opens_command_word, opens_item, opens_list, opens_prefix, opens_redirect, opens_simple,
-    opens_word, operator, reserved, separator, sequential, skip, skip_command_word, skip_pattern,
-    skip_word,
-};
-use crate::stop::{Stop, Why};
 use em_lex::Lexeme;
 use em_syntax::{
     AndOr, Assigned, Branch, Case, Command, Compound, For, If, Item, Joined, Loop, Pipeline,
     Redirect, RedirectKind, Script, Simple, Word, WordPiece,
 };
+use em_token::kind::Kind;
+use em_token::read::{
+    bang, bare, descend, goes_on, in_word, loop_kind, name, newlines, opens, opens_argument,
+    opens_command_word, opens_item, opens_list, opens_prefix, opens_redirect, opens_simple,
+    opens_word, operator, reserved, separator, sequential, skip, skip_command_word, skip_pattern,
+    skip_word,
+};
+use em_token::stop::{Stop, Why};
 use std::alloc::Global;
 
 /// The pieces of a word, and its end.

@@ -5,23 +5,23 @@ ghost use Rattle.em_grammar.specs.Production.{empty, this, nested, ◌⨾◌};
 ghost use Rattle.em_grammar.specs.Gives.{begins_with, Gives, Turns, Spells, lead_of, lead_off};
 ghost use Rattle.em_lexeme.specs.declared.lexeme.What.{What};
 ghost use Rattle.em_lexeme.specs.declared.lexeme.What.TheVariants as What;
-ghost use Rattle.em_gram.specs.Kinds.{code_of, class_of, whats, kinds as kinds_of};
-ghost use Rattle.em_gram.specs.Shell as Grammar;
-ghost use Rattle.em_gram.specs.Shell.{shell, key, Expr};
+ghost use Rattle.em_token.specs.Kinds.{code_of, class_of, whats, kinds as kinds_of};
+ghost use Rattle.em_token.specs.Shell as Grammar;
+ghost use Rattle.em_token.specs.Shell.{shell, key, Expr};
 ghost use Rattle.em_gram.specs.Patterns as Tree;
 ghost use Rattle.em_gram.specs.Nesting.{piece_pattern, head_pattern};
-ghost use Rattle.em_gram.specs.Seen.{fault_of};
-ghost use Rattle.em_gram.specs.declared.kind.Kind.TheVariants as Kind;
+ghost use Rattle.em_token.specs.Seen.{fault_of};
+ghost use Rattle.em_token.specs.declared.kind.Kind.TheVariants as Kind;
 ghost use Rattle.em_syntax.specs.declared.tree.RedirectKind.TheVariants as RedirectKind;
 
-use crate::held::{argument_in, bytes_in, number_in, substitution_in, value_in};
-use crate::kind::Kind;
 use crate::nest::Head;
-use crate::read::{descend, opens, skip, take};
-use crate::stop::Stop;
 use em_base::Text;
 use em_lex::Lexeme;
 use em_syntax::{Redirect, RedirectKind, Script, Value, Word, WordPiece, WordWhat};
+use em_token::held::{argument_in, bytes_in, number_in, substitution_in, value_in};
+use em_token::kind::Kind;
+use em_token::read::{descend, opens, skip, take};
+use em_token::stop::Stop;
 use std::alloc::Global;
 
 /// A piece of bytes.

@@ -148,6 +148,7 @@ fn fault_text(alloc: Global, fault: Fault) -> (&'static [u8], Text) {
     match fault {
         Fault::Separator => (b"separator", none),
         Fault::Conditional => (b"conditional", none),
+        Fault::Endless => (b"no endif", none),
         Fault::Include(name) => (b"include ", name),
         Fault::Expand(ExpandNo::SelfReference(name)) => (b"self ", name),
         Fault::Expand(ExpandNo::UserError(text)) => (b"error ", text),

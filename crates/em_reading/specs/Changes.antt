@@ -191,7 +191,7 @@ end_text None r = unended r.define r
 
 abbrev pub unbalanced : List Place → Change
 unbalanced [] r = good r
-unbalanced (p ∷ ps) r = bad p fault.Conditional r
+unbalanced (p ∷ ps) r = bad p fault.Endless r
 
 -- at the end no conditional is open; the outermost one is told
 abbrev pub end_conditionals : Change

@@ -27,9 +27,12 @@ pub enum Fault {
     /// The line is no statement.
     #[error("missing separator")]
     Separator,
-    /// `else` or `endif` without its conditional, or a conditional without its `endif`, at the line that opens it.
-    #[error("unbalanced conditional")]
+    /// `else` or `endif` without its conditional.
+    #[error("extraneous conditional")]
     Conditional,
+    /// A conditional without its `endif`, at the line that opens it.
+    #[error("missing endif")]
+    Endless,
     /// The file of this name is absent.
     #[error("no such makefile")]
     Include(Text),

@@ -178,7 +178,7 @@ impl Reading {
     {
         match self.opened.get(0) {
             None => Ok(()),
-            Some(place) => Err(at(alloc, place, Fault::Conditional)),
+            Some(place) => Err(at(alloc, place, Fault::Endless)),
         }
     }
 

@@ -1,0 +1,5 @@
+mod Shaped
+mod Asking
+mod Words
+mod Alike
+mod Meaning

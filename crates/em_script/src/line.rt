@@ -40,7 +40,7 @@ impl Line {
     /// Runs it as `exec` does a script. Wrong syntax is written as `emake: sh: syntax error` and has status 2. A construct that
     /// isn't supported is refused before anything runs.
     pub fn run<V: View>(
-        self,
+        &self,
         alloc: Global,
         shell: &mut Shell,
         desk: &mut Desk<V>,
@@ -48,15 +48,15 @@ impl Line {
     ) -> Result<u8, ExecNo>
         ensures { Does is_want V.tells desk.old desk.new
             (record { shell = shell.old; output = out.old }) (record { shell = shell.new; output = out.new })
-            result (run_line self) }
+            result (run_line self.now) }
     {
         match self {
-            Line::Script(script) => exec(alloc, &script, shell, desk, out),
+            Line::Script(script) => exec(alloc, script, shell, desk, out),
             Line::Wrong => {
                 out.add(b"emake: sh: syntax error\n")?;
                 Ok(2)
             }
-            Line::Refused(construct) => Err(ExecNo::Refused(construct)),
+            Line::Refused(construct) => Err(ExecNo::Refused(construct.copy(alloc)?)),
         }
     }
 }

@@ -1,4 +1,4 @@
-mod Planned
+pub mod Planned
 mod Plans
 mod Counting
 mod Holding

@@ -4,11 +4,11 @@ use super::*;
 /// Faults.
 const FAULTS: [Row; 35] = [
     (b"A = $(A)\nB := $(A)\nall:\n", b"*** Makefile:2: self A"),
-    (b"ifdef X\nall:\n\techo 1\n", b"*** Makefile:1: conditional"),
+    (b"ifdef X\nall:\n\techo 1\n", b"*** Makefile:1: no endif"),
     (b"include no\n", b"*** Makefile:1: include no"),
     (b"\ninclude inc.mk no\n", b"*** Makefile:2: include no"),
     (b"include d\n", b"*** Makefile:1: include d"),
-    (b"ifdef X\nifdef Y\nendif\n", b"*** Makefile:1: conditional"),
+    (b"ifdef X\nifdef Y\nendif\n", b"*** Makefile:1: no endif"),
     (b"endif\n", b"*** Makefile:1: conditional"),
     (b"else\n", b"*** Makefile:1: conditional"),
     (

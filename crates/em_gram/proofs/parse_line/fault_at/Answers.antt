@@ -1,8 +1,8 @@
-use Rattle.std.proofs.Common.{◌≡◌, ◌∙◌, ap, [], ◌∷◌, inl, inr, refl, sym, Some, None, arith}
+use Rattle.std.proofs.Common.{◌∙◌, ap, inr, refl, sym, arith}
 use Rattle.em_grammar.specs.Machine.{fault}
-use Rattle.em_gram.specs.Kinds.{whats}
-use Rattle.em_gram.specs.Seen.{why_code}
-use Rattle.em_gram.proofs.Whole.{unexpected_at, refused_at, none_expected, no_function, not_empty, fault_at_rest, script_is, lexed_same, goes_on_whole, goes_on_fault}
+use Rattle.em_token.specs.Kinds.{whats}
+use Rattle.em_token.specs.Seen.{why_code}
+use Rattle.em_gram.proofs.Whole.{unexpected_at, refused_at, none_expected, no_function}
 use Rattle.em_gram.proofs.parse_line.fault_at.Goals as goal
 
 pub returns-in-Unexpected : goal.returns-in-Unexpected

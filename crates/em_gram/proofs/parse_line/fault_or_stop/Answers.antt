@@ -1,8 +1,5 @@
-use Rattle.std.proofs.Common.{◌≡◌, ◌∙◌, ap, [], ◌∷◌, inl, inr, refl, sym, Some, None, arith}
-use Rattle.em_grammar.specs.Machine.{fault}
-use Rattle.em_gram.specs.Kinds.{whats}
-use Rattle.em_gram.specs.Seen.{why_code}
-use Rattle.em_gram.proofs.Whole.{unexpected_at, refused_at, none_expected, no_function, not_empty, fault_at_rest, script_is, lexed_same, goes_on_whole, goes_on_fault}
+use Rattle.std.proofs.Common.{◌∙◌, refl, sym, None}
+use Rattle.em_gram.proofs.Whole.{not_empty, goes_on_fault}
 use Rattle.em_gram.proofs.parse_line.fault_or_stop.Goals as goal
 
 pub returns-then-not-is_empty : goal.returns-then-not-is_empty

@@ -1,4 +1,4 @@
-use Rattle.std.proofs.Common.{◌≡◌, ◌∙◌, ap, [], ◌∷◌, inl, inr, refl, sym, Some, None, arith}
+use Rattle.std.proofs.Common.{ap, inl, Some}
 use Rattle.em_gram.proofs.parse_line.stopped.Goals as goal
 
 pub returns-in-Unclosed : goal.returns-in-Unclosed

@@ -1,4 +1,4 @@
-use Rattle.std.proofs.Common.{◌≡◌, List, IfErr, subst}
+use Rattle.std.proofs.Common.{List, IfErr, subst}
 use Rattle.em_lexeme.specs.declared.lexeme.Lexeme.{Lexeme}
 use Rattle.em_gram.specs.Line.{IsFault, lexed_of}
 use Rattle.em_gram.proofs.Whole.{lexed_same}

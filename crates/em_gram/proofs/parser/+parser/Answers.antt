@@ -1,19 +1,20 @@
 use Rattle.std.proofs.Common.{◌≡◌, ◌∙◌, sym, refl, map, Some, [], ◌∷◌, arith, true, false}
-use Rattle.em_grammar.specs.Production.{one, many, nested, refused, ◌⨾◌, ◌∣◌}
+use Rattle.em_grammar.specs.Production.{refused, ◌⨾◌}
 use Rattle.em_grammar.specs.Gives.{lead_off}
 use Rattle.em_grammar.proofs.Giving.{then_on, then_off, then_exit, left_on, right_on, gives_left, gives_right, reads_empty, reads_last, end_many, end_more, exit_many, exit_many_then, exit_sep, exit_row, turn_on, turn_off, begun, is_refused, passes_left, passes_right, passes_then, moves_many, moves_past, moves_then}
-use Rattle.em_gram.specs.Kinds.{kinds, whats, words, reserved_words}
+use Rattle.em_token.specs.Kinds.{kinds, whats, words, reserved_words}
 use Rattle.em_gram.specs.Nesting.{nest_depth}
-use Rattle.em_gram.specs.Shell.{shell, arguments, key, newlines, sequential, reserved, item_end, function}
+use Rattle.em_token.specs.Shell.{shell, arguments, key, newlines, sequential, reserved, item_end, function}
 use Rattle.em_gram.specs.Patterns.{any_word, word_spelling, redirect_pattern, assigned_pattern, and_or_pattern, joined_pattern, command_pattern, branch_pattern, item_pattern}
-use Rattle.em_gram.specs.declared.kind.Kind.TheVariants.{Pipe, Elif, WordEnd, Name, Plain, Assignment, LeftParen}
-use Rattle.em_gram.proofs.Checked.{shell_firm}
+use Rattle.em_token.specs.declared.kind.Kind.TheVariants.{Pipe, Elif, WordEnd, Name, Plain, Assignment, LeftParen}
+use Rattle.em_token.proofs.Checked.{shell_firm}
 use Rattle.em_gram.proofs.Nested.{word_pattern}
-use Rattle.em_gram.proofs.Parts.{off, inner_gives, inner_on, assoc_both, row_end, start_parted, start_after, start_patterns, step_all, step_parted, step_after, step_row, step_patterns, end_row, listed}
+use Rattle.em_gram.proofs.Parts.{inner_gives, inner_on, assoc_both, row_end, start_parted, start_after, start_patterns, step_all, step_parted, step_after, step_row, step_patterns, end_row, listed}
+use Rattle.em_token.proofs.Tokens.{off}
 use Rattle.em_gram.proofs.Choices.{words_map, file_target, respelled, rows_of_items, first_left, first_right, simple_words, simple_behind, shorter_whats}
 use Rattle.em_gram.proofs.Starting.{begins_key, spelled_redirect, not_begins, redirect_begins}
 use Rattle.em_gram.proofs.Mixed.{exit_gives, exit_step, passes_of, moved, still_open, no_more, open_moves, close_moves, piece_moves, piece_exit, piece_next, end_is_open, part_spelled, one_word, one_redirect, one_assigned, first_alone, first_behind, no_word, then_passed, moves_on, moves_end, moves_exit, no_argument, not_wrong, go_at, some_first, no_assignment, none_open, one_there, last_of}
-use Rattle.em_gram.proofs.Spellings.{script_made, and_or_made, joined_made, pipeline_made, simple_made, assigned_made, branch_made, if_made, loop_made, for_made, case_made, item_made, command_Simple, command_Compound, compound_Subshell, compound_Group, compound_If, compound_Loop, compound_For, compound_Case}
+use Rattle.em_gram.proofs.Spellings.{script_made, and_or_made, joined_made, pipeline_made, assigned_made, branch_made, if_made, loop_made, for_made, case_made, item_made, command_Simple, command_Compound, compound_Subshell, compound_Group, compound_If, compound_Loop, compound_For, compound_Case}
 use Rattle.em_gram.proofs.parser.+parser.Goals as goal
 
 pub word_rest-loop-alloc-init : goal.word_rest-loop-alloc-init

@@ -1,14 +1,14 @@
-use Rattle.std.proofs.Common.{ℕ, ◌≡◌, ◌+◌, ◌*◌, ◌<◌, ◌≤◌, length, map, List, [], ◌∷◌}
-use Rattle.em_grammar.specs.Production.{one, many, more, ◌⨾◌}
+use Rattle.std.proofs.Common.{◌+◌, ◌*◌, ◌<◌, ◌≤◌, length, map, List, []}
+use Rattle.em_grammar.specs.Production.{many, more, ◌⨾◌}
 use Rattle.em_grammar.specs.Gives.{Turns, Moves, Spells, all, parted}
 use Rattle.em_lexeme.specs.declared.lexeme.What.{What}
-use Rattle.em_gram.specs.Kinds.{kinds, whats}
-use Rattle.em_gram.specs.Shell as Grammar
-use Rattle.em_gram.specs.Shell.{shell, Expr, key}
+use Rattle.em_token.specs.Kinds.{whats}
+use Rattle.em_token.specs.Shell as Grammar
+use Rattle.em_token.specs.Shell.{shell, Expr, key}
 use Rattle.em_gram.specs.Patterns as Tree
 use Rattle.em_gram.specs.Nesting.{nest_parts, nest_depth}
 use Rattle.em_gram.specs.Simple.{so_far}
-use Rattle.em_gram.specs.declared.kind.Kind.TheVariants.{Pipe, WordEnd, Elif}
+use Rattle.em_token.specs.declared.kind.Kind.TheVariants.{Pipe, WordEnd, Elif}
 use Rattle.em_gram.proofs.parser.+parser.Given as goal
 
 abbrev pub decreases-list : goal.decreases-list

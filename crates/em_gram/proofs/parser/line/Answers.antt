@@ -1,7 +1,7 @@
-use Rattle.std.proofs.Common.{◌≡◌, ◌∙◌, sym, refl}
+use Rattle.std.proofs.Common.{◌∙◌, sym, refl}
 use Rattle.em_grammar.proofs.Giving.{then_on, then_off, left_on, right_on, gives_left, reads_empty}
-use Rattle.em_gram.specs.Shell.{shell}
-use Rattle.em_gram.proofs.Parts.{off}
+use Rattle.em_token.specs.Shell.{shell}
+use Rattle.em_token.proofs.Tokens.{off}
 use Rattle.em_gram.proofs.Choices.{respelled}
 use Rattle.em_gram.proofs.Holding.{script_body}
 use Rattle.em_gram.proofs.parser.line.Goals as goal

@@ -1,14 +1,5 @@
-use Rattle.std.proofs.Common.{◌≡◌, ◌∙◌, sym, refl, Some, ap, arith, false, [], ◌∷◌, ◌++◌}
-use Rattle.em_grammar.proofs.Giving.{then_on, then_off, then_exit, left_on, right_on, gives_left, gives_right, reads_empty, no_one, is_refused, not_refused, no_level, end_many}
-use Rattle.em_grammar.specs.Gives.{lead_off}
-use Rattle.em_grammar.specs.Production.{refused, ◌∣◌, ◌⨾◌, this}
-use Rattle.em_gram.specs.Kinds.{kinds, whats}
-use Rattle.em_gram.specs.Shell as Grammar
-use Rattle.em_gram.specs.Shell.{shell, key, background, positional}
-use Rattle.em_gram.specs.declared.kind.Kind.TheVariants as Kind
-use Rattle.em_gram.proofs.Parts.{off}
-use Rattle.em_gram.proofs.Tokens.{keyed, taken, among_first, split_first, descends, descends_this, deep_at, newline_more, shorter_rest, assigning_is, small_number}
-use Rattle.em_gram.proofs.Holding.{bytes_read, value_read, argument_read, named_read, number_read, small_at, bytes_made, value_piece_made, output_made, output_none, digit_made, redirected, deeper_this}
+use Rattle.em_token.proofs.Tokens.{off}
+use Rattle.em_gram.proofs.Holding.{number_read, small_at}
 use Rattle.em_gram.proofs.piece.digit.Goals as goal
 
 pub returns-in_err-token-clause-reads : goal.returns-in_err-token-clause-reads

@@ -1,4 +1,3 @@
-use Rattle.std.proofs.Common.{◌≡◌}
 use Rattle.em_gram.proofs.Holding.{output_some, output_none}
 use Rattle.em_gram.proofs.piece.output_piece.Goals as goal
 

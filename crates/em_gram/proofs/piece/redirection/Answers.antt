@@ -1,4 +1,4 @@
-use Rattle.std.proofs.Common.{◌≡◌, ◌∙◌, ap, [], ◌∷◌, refl}
+use Rattle.std.proofs.Common.{◌∙◌, ap}
 use Rattle.std.specs.Prelude.{unwrap_or}
 use Rattle.em_gram.proofs.Holding.{redirected}
 use Rattle.em_gram.proofs.piece.redirection.Goals as goal

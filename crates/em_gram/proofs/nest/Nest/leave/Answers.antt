@@ -1,4 +1,4 @@
-use Rattle.std.proofs.Common.{◌≡◌, ◌∙◌, ap, [], ◌∷◌, refl}
+use Rattle.std.proofs.Common.{ap}
 use Rattle.em_gram.proofs.Nested.{flat_left}
 use Rattle.em_gram.proofs.nest.Nest.leave.Goals as goal
 

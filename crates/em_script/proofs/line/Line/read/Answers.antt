@@ -1,4 +1,3 @@
-use Rattle.std.proofs.Common.{◌≡◌}
 use Rattle.em_script.specs.Lines.{Unexpected, Unclosed}
 use Rattle.em_script.proofs.line.Line.read.Goals as goal
 

@@ -1,0 +1,5 @@
+pub mod Stopping
+mod Entries
+mod Reading
+mod Ended
+mod Numbered

@@ -1,0 +1,6 @@
+use Rattle.std.proofs.Common.{◌≡◌, take, map}
+use Rattle.em_recipe.specs.Automatic.{names_of}
+use Rattle.em_job.proofs.due.names_of.Given as goal
+
+abbrev pub invariant-loop-pre : goal.invariant-loop-pre
+invariant-loop-pre l = l.names ≡ names_of (take l.pre-index l.pres)

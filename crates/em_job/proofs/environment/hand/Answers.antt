@@ -1,0 +1,20 @@
+use Rattle.std.proofs.Common.{◌≡◌, ◌∙◌, ◌+◌, ◌++◌, ◌∷◌, [], drop, take, map, refl, sym, ap, Ok, Err, Some, None}
+use Rattle.em_view.proofs.Doing.{then_s, leave_s, exit_s, finish_s, out_s, owned_s, refused_s, gave_s, below_ok, below_err, within_ok, within_err, more_s, stop_s, end_s}
+use Rattle.em_base.proofs.Lemmas.{left_at, none_at}
+use Rattle.em_job.specs.Carrying.{hand_over}
+use Rattle.em_job.proofs.environment.hand.Goals as goal
+
+pub returns-then-not-is_handed : goal.returns-then-not-is_handed
+returns-then-not-is_handed g c = rw (← c.is_handed.ensures, c.if-not-is_handed.true) finish_s
+
+pub returns-in_err-text : goal.returns-in_err-text
+unfolding hand_over
+returns-in_err-text g c = rw (← c.is_handed.ensures, c.if-not-is_handed.false) (leave_s _ c.from_residual.ensures.1 c.in_err-text.ensures)
+
+pub returns-in_err-put : goal.returns-in_err-put
+unfolding hand_over
+returns-in_err-put g c = rw (← c.is_handed.ensures, c.if-not-is_handed.false) (then_s _ c.in_ok-text.ensures (out_s _ refl c.from_residual-in_err-put.ensures.1))
+
+pub returns : goal.returns
+unfolding hand_over
+returns g c = rw (← c.is_handed.ensures, c.if-not-is_handed.false) (then_s _ c.in_ok-text.ensures (rw c.in_ok-put.ensures finish_s))

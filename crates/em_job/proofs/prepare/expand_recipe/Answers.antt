@@ -1,0 +1,16 @@
+use Rattle.std.proofs.Common.{◌≡◌, ◌∙◌, ◌+◌, ◌++◌, ◌∷◌, [], drop, take, map, refl, sym, ap, Ok, Err, Some, None}
+use Rattle.em_view.proofs.Doing.{then_s, leave_s, exit_s, finish_s, out_s, owned_s, refused_s, gave_s, below_ok, below_err, within_ok, within_err, more_s, stop_s, end_s}
+use Rattle.em_base.proofs.Lemmas.{left_at, none_at}
+use Rattle.em_job.specs.Preparing as preparing
+use Rattle.em_job.proofs.prepare.expand_recipe.Goals as goal
+
+pub returns-in_err-vars : goal.returns-in_err-vars
+returns-in_err-vars g c = out_s _ refl c.from_residual.ensures.1
+
+pub returns-in_err-lines : goal.returns-in_err-lines
+unfolding preparing.expand_recipe
+returns-in_err-lines g c = leave_s _ c.from_residual-in_err-lines.ensures.1 (rw (c.recipe_of.ensures, c.in_ok-vars.ensures, c.vars.ensures) at c.in_err-lines.ensures)
+
+pub returns : goal.returns
+unfolding preparing.expand_recipe
+returns g c = rw (c.in_ok-vars.ensures, c.vars.ensures) (then_s _ (rw (c.recipe_of.ensures, c.in_ok-vars.ensures, c.vars.ensures) at c.in_ok-lines.ensures) finish_s)

@@ -1,0 +1,17 @@
+use Rattle.std.proofs.Common.{◌≡◌, ◌∙◌, ◌+◌, ◌++◌, ◌∷◌, [], drop, take, map, refl, sym, ap, Ok, Err, Some, None}
+use Rattle.em_view.proofs.Doing.{then_s, leave_s, exit_s, finish_s, out_s, owned_s, refused_s, gave_s, below_ok, below_err, within_ok, within_err, more_s, stop_s, end_s}
+use Rattle.em_base.proofs.Lemmas.{left_at, none_at}
+use Rattle.em_job.specs.Preparing.{prepare}
+use Rattle.em_job.proofs.prepare.prepare.Goals as goal
+
+pub returns-in_err-normal : goal.returns-in_err-normal
+unfolding prepare
+returns-in_err-normal g c = leave_s _ c.from_residual.ensures.1 (c.in_err-normal.ensures _)
+
+pub returns-then-not-fine : goal.returns-then-not-fine
+unfolding prepare
+returns-then-not-fine g c = then_s _ (c.in_ok-normal.ensures _) (rw c.if-not-fine.true finish_s)
+
+pub returns : goal.returns
+unfolding prepare
+returns g c = then_s _ (c.in_ok-normal.ensures _) (rw c.if-not-fine.false (rw c.items.ensures at c.decide.ensures))

@@ -1,0 +1,248 @@
+-- How the lines of a recipe run, each in a shell of its own.
+--     AreRead ps rs             each line with what it is by the shell's grammar
+--     environment ..            the variables with which its shell starts
+--     run_line ..               a line: it is echoed, and it runs
+--     delete ..                 what becomes of the target where a line failed, under `.DELETE_ON_ERROR`
+--     carry_out j course        all lines in order
+use Rattle.std.specs.Prelude.{◌≡◌, ℕ, ◌==◌, Bool, true, false, not, ◌&&◌, ◌||◌, List, [], ◌∷◌, ◌++◌, Option, Some, None, Result, Ok, Err, if◌then◌else◌}
+use Rattle.em_base.specs.declared.place.Place.{Place}
+use Rattle.em_tree.specs.declared.node.Kind.{Kind}
+use Rattle.em_tree.specs.declared.node.Kind.TheVariants as kind
+use Rattle.em_tree.specs.declared.outcome.Outcome.{Outcome}
+use Rattle.em_tree.specs.declared.outcome.Outcome.TheVariants as outcome
+use Rattle.em_view.specs.declared.no.DeskNo.{DeskNo}
+use Rattle.em_view.specs.declared.no.DeskNo.TheVariants as desk
+use Rattle.em_view.specs.Actions.{attempt}
+use Rattle.em_view.specs.Rows.{kind_at, stamp_at, remove}
+use Rattle.em_view.specs.Steps.{done, refuse, own, below, within}
+use Rattle.em_view.specs.Do.{◌>>=◌}
+use Rattle.em_vars.specs.declared.var.Var.{Var}
+use Rattle.em_vars.specs.declared.var.Flavour.{Flavour}
+use Rattle.em_vars.specs.declared.var.Flavour.TheVariants as flavour
+use Rattle.em_vars.specs.declared.var.Origin.{Origin}
+use Rattle.em_vars.specs.declared.var.Origin.TheVariants as origin
+use Rattle.em_vars.specs.Entries.{Entries, value_of, keeps, with_value}
+use Rattle.em_expand.specs.declared.spoken.Spoken.{Spoken}
+use Rattle.em_exec.specs.Exec.{Session}
+use Rattle.em_script.specs.declared.line.Line.{Line}
+use Rattle.em_script.specs.Lines as script
+use Rattle.em_recipe.specs.Messages as messages
+use Rattle.em_word.specs.declared.shell.Shell.{Shell}
+use Rattle.em_task.specs.declared.job.Job.{Job}
+use Rattle.em_job.specs.declared.prepare.Placed.{Placed}
+use Rattle.em_job.specs.declared.prepare.Opened.{Opened}
+use Rattle.em_job.specs.declared.prepare.Prepared.{Prepared}
+use Rattle.em_job.specs.declared.prepare.Prepared.TheVariants.{Ended, Lines}
+use Rattle.em_job.specs.declared.ready.Ready.{Ready}
+use Rattle.em_job.specs.declared.ready.Course.{Course}
+use Rattle.em_job.specs.declared.ready.Course.TheVariants as course
+use Rattle.em_job.specs.declared.carry.Turn.{Turn}
+use Rattle.em_job.specs.declared.carry.Turn.TheVariants as turn
+use Rattle.em_job.specs.declared.carry.Turn.TheVariants.{Next}
+use Rattle.em_job.specs.declared.stop.Stop.{Stop}
+use Rattle.em_job.specs.declared.stop.Stop.TheVariants.{Spent, NoMemory}
+use Rattle.em_job.specs.Stops.{Acts, of_desk, of_line}
+use Rattle.em_job.specs.Deciding.{path_of, same_stamp}
+use Rattle.em_job.specs.Preparing.{say, expand_at}
+
+-- each line with what it is by the grammar
+abbrev pub AreRead : List Placed → List Ready → Type 0
+AreRead [] [] = Unit {0}
+AreRead (p ∷ ps) (r ∷ rs) = (r.placed ≡ p) × (script.IsRead p.command.text r.line × AreRead ps rs)
+AreRead ps rs = ⊥
+
+-- the lines that are to run
+abbrev pub lines_in : Result Prepared Stop → List Placed
+lines_in (Ok (Lines x ps)) = ps
+lines_in _ = []
+
+-- the same with each line read
+abbrev pub course_of : List Ready → Prepared → Course
+course_of ready (Ended o) = course.Ended o
+course_of ready (Lines x ps) = course.Run x ready
+
+abbrev pub courses : List Ready → Result Prepared Stop → Result Course Stop
+courses ready (Ok p) = Ok (course_of ready p)
+courses ready (Err e) = Err e
+
+pub record IsReadAs (prepared : Result Prepared Stop) (course : Result Course Stop) : Type 0 where
+  pub ready : List Ready
+  pub read : AreRead (lines_in prepared) ready
+  pub is : course ≡ courses ready prepared
+
+-- ---- the shell's variables: the command line's, and those that are exported
+
+abbrev pub is_of_order : Origin → Bool
+is_of_order origin.CommandLine = true
+is_of_order _ = false
+
+abbrev pub is_recursive : Flavour → Bool
+is_recursive flavour.Recursive = true
+is_recursive flavour.Simple = false
+
+abbrev pub is_handed : Var → Bool
+is_handed v = v.exported || is_of_order v.origin
+
+abbrev pub put : Entries → List ℕ → Var → Entries
+put env name v = if keeps (value_of env name) v then env else with_value env name v
+
+-- a recursive one is expanded, but for those of the command line
+abbrev pub is_expanded : Var → Bool
+is_expanded v = is_recursive v.flavour && not (is_of_order v.origin)
+
+abbrev pub handed_text : Job → Entries → Place → Var → Acts (List ℕ)
+handed_text j vars p v = if is_expanded v then expand_at j vars p v.text else done v.text
+
+abbrev pub simple : Var → List ℕ → Var
+simple v text = record v { flavour = flavour.Simple; text = text }
+
+unfoldable pub hand_over : Job → Entries → Place → Entries → List ℕ → Var → Acts Entries
+hand_over j vars p env name v = do
+  t ← handed_text j vars p v
+  done (put env name (simple v t))
+
+abbrev pub hand : Job → Entries → Place → Entries → List ℕ → Var → Acts Entries
+hand j vars p env name v = if is_handed v then hand_over j vars p env name v else done env
+
+abbrev pub hand_entry : Job → Entries → Place → Entries → Option (List ℕ × Var) → Acts Entries
+hand_entry j vars p env None = done env
+hand_entry j vars p env (Some e) = hand j vars p env e.0 e.1
+
+abbrev pub environment_from : Job → Entries → Place → Entries → Entries → Acts Entries
+environment_from j vars p [] env = done env
+environment_from j vars p (e ∷ es) env = do
+  next ← hand j vars p env e.0 e.1
+  environment_from j vars p es next
+
+unfoldable pub environment : Job → Entries → Place → Acts Entries
+environment j vars p = environment_from j vars p vars []
+
+-- it is made once, before the first line that runs
+abbrev pub environment_once : Job → Entries → Place → Option Entries → Acts Entries
+environment_once j vars p (Some env) = done env
+environment_once j vars p None = environment j vars p
+
+-- ---- a line
+
+abbrev pub is_shown : Job → Placed → Bool
+is_shown j l = j.flags.dry || not (j.quiet || l.command.marks.silent)
+
+abbrev pub does_run : Job → Placed → Bool
+does_run j l = not j.flags.dry || l.command.marks.forced
+
+abbrev pub echo : Job → Placed → List ℕ
+echo j l = if is_shown j l then l.command.text ++ 10 ∷ [] else []
+
+abbrev pub session_of : Shell → Spoken → Session
+session_of shell s = record { shell = shell; output = s.said }
+
+abbrev pub said_in : Spoken → Session → Spoken
+said_in s session = record s { said = session.output }
+
+abbrev pub shell_of : Job → Entries → Shell
+shell_of j env = record { vars = env; cwd = j.cwd; status = 0 }
+
+-- its status
+unfoldable pub in_shell : Job → Entries → Place → Line → Acts ℕ
+in_shell j env p line = within (session_of (shell_of j env)) said_in (of_line p) (script.run_line line)
+
+unfoldable pub run : Job → Entries → Option Entries → Place → Line → Acts (Option Entries × ℕ)
+run j vars env p line = do
+  e ← environment_once j vars p env
+  status ← in_shell j e p line
+  done (Some e, status)
+
+-- one that is only shown has status 0
+abbrev pub if_runs : Job → Entries → Option Entries → Placed → Line → Bool → Acts (Option Entries × ℕ)
+if_runs j vars env l line true = run j vars env l.place line
+if_runs j vars env l line false = done (env, 0)
+
+unfoldable pub run_line : Job → Entries → Option Entries → Placed → Line → Acts (Option Entries × ℕ)
+run_line j vars env l line = do
+  u ← own (say (echo j l))
+  if_runs j vars env l line (does_run j l)
+
+-- ---- a line that failed
+
+abbrev pub after_removal : List ℕ → Place → Result (Unit {0}) DeskNo → Acts (Unit {0})
+after_removal target p (Ok u) = own (say (messages.deleted target))
+after_removal target p (Err (desk.File f)) = done tt
+after_removal target p (Err desk.Spent) = refuse (Spent p)
+after_removal target p (Err desk.NoMemory) = refuse NoMemory
+
+-- a removal that is refused says nothing
+unfoldable pub remove_target : Job → Place → List ℕ → Acts (Unit {0})
+remove_target j p path = do
+  r ← below (of_desk p) (attempt (remove path))
+  after_removal j.plan.target p r
+
+abbrev pub if_changed : Job → Place → List ℕ → Bool → Acts (Unit {0})
+if_changed j p path true = done tt
+if_changed j p path false = remove_target j p path
+
+-- a file that is as it was before the recipe stays
+unfoldable pub remove_changed : Job → Option ℕ → Place → List ℕ → Acts (Unit {0})
+remove_changed j before p path = do
+  now ← below (of_desk p) (stamp_at path)
+  if_changed j p path (same_stamp now before)
+
+abbrev pub if_file : Job → Option ℕ → Place → List ℕ → Kind → Acts (Unit {0})
+if_file j before p path kind.File = remove_changed j before p path
+if_file j before p path _ = done tt
+
+unfoldable pub delete_at : Job → Option ℕ → Place → List ℕ → Acts (Unit {0})
+delete_at j before p path = do
+  k ← below (of_desk p) (kind_at path)
+  if_file j before p path k
+
+abbrev pub delete_by : Job → Option ℕ → Place → Option (List ℕ) → Acts (Unit {0})
+delete_by j before p None = done tt
+delete_by j before p (Some path) = delete_at j before p path
+
+abbrev pub deletes : Job → Bool
+deletes j = j.delete_on_error && not j.plan.phony
+
+unfoldable pub delete : Job → Option ℕ → Place → Acts (Unit {0})
+delete j before p = if deletes j then delete_by j before p (path_of j.cwd j.plan.target) else done tt
+
+unfoldable pub fail : Job → Option ℕ → Place → ℕ → Acts Outcome
+fail j before p status = do
+  u ← own (say (messages.failed p j.plan.target status))
+  v ← delete j before p
+  done (outcome.Failed status)
+
+-- ---- all lines
+
+abbrev pub is_lenient : Job → Placed → Bool
+is_lenient j l = j.lenient || l.command.marks.lenient
+
+-- what follows a line with this status
+abbrev pub after_line : Job → Option ℕ → Placed → Option Entries → ℕ → Acts Turn
+after_line j before l next status = if status == 0 then done (Next next) else if is_lenient j l then ignore else stop
+  where
+    ignore : Acts Turn
+    ignore = do
+      u ← own (say (messages.ignored l.place j.plan.target status))
+      done (Next next)
+
+    stop : Acts Turn
+    stop = do
+      o ← fail j before l.place status
+      done (turn.Ended o)
+
+unfoldable pub turn_of : Job → Opened → Option Entries → Ready → Acts Turn
+turn_of j x env r = do
+  ran ← run_line j x.vars env r.placed r.line
+  after_line j x.stamp r.placed ran.0 ran.1
+
+abbrev pub lines_by : (Option Entries → Acts Outcome) → Turn → Acts Outcome
+lines_by rest (Next env) = rest env
+lines_by rest (turn.Ended o) = done o
+
+abbrev pub lines_from : Job → Opened → Option Entries → List Ready → Acts Outcome
+lines_from j x env [] = done outcome.Made
+lines_from j x env (r ∷ rs) = turn_of j x env r >>= lines_by (λ next. lines_from j x next rs)
+
+abbrev pub carry_out : Job → Course → Acts Outcome
+carry_out j (course.Ended o) = done o
+carry_out j (course.Run x rs) = lines_from j x None rs

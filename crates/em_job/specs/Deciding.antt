@@ -1,0 +1,140 @@
+-- Whether a job remakes its target: what it asks of its prerequisites' jobs and of stamps, and what follows from that.
+--     prerequisites j         the outcomes of the prerequisites' jobs, normal ones and then order-only ones, all of them
+--     stamp_of cwd name       the stamp of what the name says; a name that is no path is absent and isn't asked
+--     newer_among ..          the normal prerequisites that make remaking due
+--     is_due, decision        remaking is due; what becomes of the job
+use Rattle.std.specs.Prelude.{ℕ, nat_lt, ◌==◌, Bool, true, false, not, ◌&&◌, ◌||◌, List, [], ◌∷◌, ◌++◌, length, map, Option, Some, None, if◌then◌else◌}
+use Rattle.std.specs.List.{list_any}
+use Rattle.std.specs.Str.{bytes_eq}
+use Rattle.em_path.specs.declared.path.PathNo.{PathNo}
+use Rattle.em_path.specs.Reading.{read_fault, resolved_text}
+use Rattle.em_tree.specs.declared.outcome.Outcome.{Outcome}
+use Rattle.em_tree.specs.declared.outcome.Outcome.TheVariants as outcome
+use Rattle.em_view.specs.Rows.{stamp_at}
+use Rattle.em_view.specs.Rows as rows
+use Rattle.em_view.specs.Steps.{done, below}
+use Rattle.em_view.specs.Do.{◌>>=◌}
+use Rattle.em_plan.specs.declared.planned.Pre.{Pre}
+use Rattle.em_plan.specs.declared.planned.PlanJob.{PlanJob}
+use Rattle.em_rules.specs.declared.rule.RecipeLine.{RecipeLine}
+use Rattle.em_recipe.specs.Automatic.{names_of}
+use Rattle.em_task.specs.declared.job.Job.{Job}
+use Rattle.em_job.specs.declared.due.Awaited.{Awaited}
+use Rattle.em_job.specs.declared.due.Ending.{Ending}
+use Rattle.em_job.specs.declared.due.Verdict.{Verdict}
+use Rattle.em_job.specs.declared.due.Verdict.TheVariants.{Ended, NoRule, Remake}
+use Rattle.em_job.specs.Stops.{Acts, early}
+
+-- the outcomes of prerequisites with which a job goes on
+abbrev pub goes_on : Option Outcome → Bool
+goes_on (Some outcome.Upto) = true
+goes_on (Some outcome.Counted) = true
+goes_on (Some outcome.Made) = true
+goes_on _ = false
+
+-- those that make remaking due by themselves: one that counts as updated, and under `-n` one whose recipe would have run
+abbrev pub is_renewed : Bool → Option Outcome → Bool
+is_renewed dry (Some outcome.Counted) = true
+is_renewed dry (Some outcome.Made) = dry
+is_renewed dry _ = false
+
+abbrev pub ending_of : Bool → Option Outcome → Ending
+ending_of dry o = record { fine = goes_on o; renewed = is_renewed dry o }
+
+-- how the job of this number ended
+unfoldable pub await_job : Bool → ℕ → Acts Ending
+await_job dry job = do
+  o ← below early (rows.outcome job)
+  done (ending_of dry o)
+
+abbrev pub awaited : Pre → Ending → Awaited
+awaited p e = record { name = p.name; renewed = e.renewed }
+
+-- the prerequisites so far, and whether the job goes on with all of them
+abbrev pub await_normal : Bool → List Pre → List Awaited → Bool → Acts (List Awaited × Bool)
+await_normal dry [] so_far fine = done (so_far, fine)
+await_normal dry (p ∷ ps) so_far fine = do
+  e ← await_job dry p.job
+  await_normal dry ps (so_far ++ awaited p e ∷ []) (fine && e.fine)
+
+abbrev pub await_order : List Pre → Bool → Acts Bool
+await_order [] fine = done fine
+await_order (p ∷ ps) fine = do
+  e ← await_job false p.job
+  await_order ps (fine && e.fine)
+
+unfoldable pub prerequisites : Job → Acts (List Awaited × Bool)
+prerequisites j = do
+  normal ← await_normal j.flags.dry j.plan.normal [] true
+  fine ← await_order j.plan.order normal.1
+  done (normal.0, fine)
+
+abbrev pub path_by : Option PathNo → List ℕ → List ℕ → Option (List ℕ)
+path_by None cwd name = Some (resolved_text cwd name)
+path_by (Some fault) cwd name = None
+
+-- the path that a name says, if it says one
+abbrev pub path_of : List ℕ → List ℕ → Option (List ℕ)
+path_of cwd name = path_by (read_fault cwd name) cwd name
+
+abbrev pub stamp_by : Option (List ℕ) → Acts (Option ℕ)
+stamp_by None = done None
+stamp_by (Some p) = below early (stamp_at p)
+
+unfoldable pub stamp_of : List ℕ → List ℕ → Acts (Option ℕ)
+stamp_of cwd name = stamp_by (path_of cwd name)
+
+abbrev pub same_stamp : Option ℕ → Option ℕ → Bool
+same_stamp None None = true
+same_stamp (Some a) (Some b) = a == b
+same_stamp a b = false
+
+abbrev pub is_phony : Job → List ℕ → Bool
+is_phony j name = list_any (λ p. bytes_eq p name) j.phony
+
+-- a prerequisite with a greater stamp; an equal one isn't newer
+abbrev pub is_later : Option ℕ → Option ℕ → Bool
+is_later (Some own) (Some other) = nat_lt own other
+is_later None (Some other) = false
+is_later own None = true
+
+abbrev pub is_newer : Job → Option ℕ → Awaited → Option ℕ → Bool
+is_newer j own a stamp = is_phony j a.name || (a.renewed || is_later own stamp)
+
+abbrev pub with_newer : Bool → List (List ℕ) → List ℕ → List (List ℕ)
+with_newer is names name = if is then names ++ name ∷ [] else names
+
+abbrev pub newer_among : Job → Option ℕ → List Awaited → List (List ℕ) → Acts (List (List ℕ))
+newer_among j own [] so_far = done so_far
+newer_among j own (a ∷ more) so_far = do
+  stamp ← stamp_of j.cwd a.name
+  newer_among j own more (with_newer (is_newer j own a stamp) so_far a.name)
+
+abbrev pub is_absent : Option ℕ → Bool
+is_absent None = true
+is_absent (Some stamp) = false
+
+abbrev pub is_due : Job → Option ℕ → List (List ℕ) → Bool
+is_due j own newer = j.flags.always || (j.plan.phony || (is_absent own || nat_lt 0 (length newer)))
+
+-- what made remaking due: all prerequisites where the target is absent, and under `-B`
+abbrev pub reasons : Job → Option ℕ → List (List ℕ) → List (List ℕ)
+reasons j own newer = if j.flags.always || is_absent own then names_of j.plan.normal else newer
+
+abbrev pub without_recipe : Bool → Outcome
+without_recipe true = outcome.Counted
+without_recipe false = outcome.Upto
+
+abbrev pub by_recipe : Option (List RecipeLine) → Bool → Bool → Verdict
+by_recipe None due question = Ended (without_recipe due)
+by_recipe (Some lines) false question = Ended outcome.Upto
+by_recipe (Some lines) true true = Ended outcome.Made
+by_recipe (Some lines) true false = Remake
+
+-- a name that is neither phony nor has a rule
+abbrev pub unruled : Option ℕ → Verdict
+unruled None = NoRule
+unruled (Some stamp) = Ended outcome.Upto
+
+abbrev pub decision : Job → Option ℕ → List (List ℕ) → Verdict
+decision j own newer = if not (j.plan.phony || j.plan.ruled) then unruled own else by_recipe j.plan.recipe (is_due j own newer) j.flags.question

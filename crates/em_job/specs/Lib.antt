@@ -1,0 +1,14 @@
+pub use Rattle.em_view.specs.Actions
+pub use Rattle.em_view.specs.Performs
+pub use Rattle.em_view.specs.Rows
+pub use Rattle.em_view.specs.Steps
+pub use Rattle.em_view.specs.Do
+pub use Rattle.em_run.specs.Runs
+pub use Rattle.em_run.specs.Meanings
+pub mod Stops
+pub mod Deciding
+pub mod Preparing
+pub mod Carrying
+pub mod Effects
+pub mod Making
+pub mod Equal

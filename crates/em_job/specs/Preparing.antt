@@ -1,0 +1,96 @@
+-- What a job does before the first line of its recipe runs: it decides, and expands all lines.
+--     expand_at j vars p text     the expansion of a text at a place; a text for `eval` in it is refused
+--     expand_lines ..             the lines for the shell
+--     prepare j                   the whole: how the job ends, or what it is to run
+use Rattle.std.specs.Prelude.{ℕ, Bool, true, false, List, [], ◌∷◌, ◌++◌, map, unwrap_or, Option, Some, None, Result, Ok, Err}
+use Rattle.em_base.specs.declared.construct.Construct.TheVariants as construct
+use Rattle.em_base.specs.declared.place.Place.{Place}
+use Rattle.em_tree.specs.declared.outcome.Outcome.{Outcome}
+use Rattle.em_tree.specs.declared.outcome.Outcome.TheVariants as outcome
+use Rattle.em_view.specs.Steps.{done, refuse, own, within}
+use Rattle.em_view.specs.Do.{◌>>=◌}
+use Rattle.em_vars.specs.Entries.{Entries}
+use Rattle.em_rules.specs.declared.rule.RecipeLine.{RecipeLine}
+use Rattle.em_expand.specs.declared.spoken.Spoken.{Spoken}
+use Rattle.em_expand.specs.Expansion.{expansion}
+use Rattle.em_recipe.specs.declared.command.Command.{Command}
+use Rattle.em_recipe.specs.Commands.{commands_of}
+use Rattle.em_recipe.specs.Automatic.{with_automatic}
+use Rattle.em_recipe.specs.Messages as messages
+use Rattle.em_task.specs.declared.job.Job.{Job}
+use Rattle.em_job.specs.declared.due.Awaited.{Awaited}
+use Rattle.em_job.specs.declared.due.Verdict.{Verdict}
+use Rattle.em_job.specs.declared.due.Verdict.TheVariants as decision
+use Rattle.em_job.specs.declared.prepare.Placed.{Placed}
+use Rattle.em_job.specs.declared.prepare.Opened.{Opened}
+use Rattle.em_job.specs.declared.prepare.Prepared.{Prepared}
+use Rattle.em_job.specs.declared.prepare.Prepared.TheVariants.{Ended, Lines}
+use Rattle.em_job.specs.declared.stop.Stop.{Stop}
+use Rattle.em_job.specs.declared.stop.Stop.TheVariants.{Refused}
+use Rattle.em_job.specs.Stops.{Acts, of_expand}
+use Rattle.em_job.specs.Deciding.{prerequisites, stamp_of, newer_among, reasons, decision}
+
+-- the text stands behind what was said
+abbrev pub say : List ℕ → Spoken → Result (Unit {0} × Spoken) (Stop × Spoken)
+say text s = Ok (tt, record s { said = s.said ++ text })
+
+abbrev pub itself : Spoken → Spoken
+itself s = s
+
+abbrev pub instead : Spoken → Spoken → Spoken
+instead old new = new
+
+abbrev pub no_evals : Place → Spoken → Result (Unit {0} × Spoken) (Stop × Spoken)
+no_evals p s = by_evals s.evals
+  where
+    by_evals : List (List ℕ) → Result (Unit {0} × Spoken) (Stop × Spoken)
+    by_evals [] = Ok (tt, s)
+    by_evals (e ∷ es) = Err (Refused construct.Eval p, s)
+
+unfoldable pub expand_at : Job → Entries → Place → List ℕ → Acts (List ℕ)
+expand_at j vars p text = do
+  t ← within itself instead (of_expand p) (expansion vars j.cwd p text)
+  u ← own (no_evals p)
+  done t
+
+abbrev pub placed : Place → Command → Placed
+placed p c = record { place = p; command = c }
+
+abbrev pub expand_lines : Job → Entries → List RecipeLine → List Placed → Acts (List Placed)
+expand_lines j vars [] so_far = done so_far
+expand_lines j vars (l ∷ ls) so_far = do
+  t ← expand_at j vars l.place l.text
+  expand_lines j vars ls (so_far ++ map (placed l.place) (commands_of l.text t))
+
+abbrev pub recipe_of : Job → List RecipeLine
+recipe_of j = unwrap_or j.plan.recipe []
+
+unfoldable pub expand_recipe : Job → Option ℕ → List (List ℕ) → Acts Prepared
+expand_recipe j own newer = do
+  lines ← expand_lines j (with_automatic j.vars j.plan newer) (recipe_of j) []
+  done (Lines (record { stamp = own; vars = with_automatic j.vars j.plan newer }) lines)
+
+abbrev pub no_rule : Job → Acts Prepared
+no_rule j = do
+  u ← own (say (messages.no_rule j.plan.target j.plan.needed_by j.flags.keep_going))
+  done (Ended outcome.NoRule)
+
+abbrev pub by_decision : Job → Option ℕ → List (List ℕ) → Verdict → Acts Prepared
+by_decision j own newer (decision.Ended o) = done (Ended o)
+by_decision j own newer decision.NoRule = no_rule j
+by_decision j own newer decision.Remake = expand_recipe j own (reasons j own newer)
+
+unfoldable pub decide : Job → List Awaited → Acts Prepared
+decide j normal = do
+  own ← stamp_of j.cwd j.plan.target
+  newer ← newer_among j own normal []
+  by_decision j own newer (decision j own newer)
+
+abbrev pub if_fine : Job → List Awaited → Bool → Acts Prepared
+if_fine j normal true = decide j normal
+if_fine j normal false = done (Ended outcome.Skipped)
+
+unfoldable pub prepare : Job → Acts Prepared
+prepare j = do
+  p ← prerequisites j
+  if_fine j p.0 p.1

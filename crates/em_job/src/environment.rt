@@ -1,0 +1,131 @@
+//! The variables with which the shells of a job's lines start.
+ghost use Rattle.std.specs.Prelude.{◌≡◌, slice_get, OnOk};
+ghost use Rattle.em_job.specs.Stops.{is_free};
+ghost use Rattle.em_job.specs.Carrying as carrying;
+ghost use Rattle.em_view.specs.Steps.{Does};
+
+use crate::prepare::expand_at;
+use crate::stop::Stop;
+use em_base::{NoMemory, Place, Text};
+use em_expand::Spoken;
+use em_task::Job;
+use em_vars::{Flavour, Origin, Var, Vars};
+use em_view::{Desk, View};
+use std::alloc::Global;
+
+fn is_of_order(origin: Origin) -> bool
+    ensures { result ≡ carrying.is_of_order origin }
+{
+    matches!(origin, Origin::CommandLine)
+}
+
+/// Whether a shell gets the variable.
+fn is_handed(var: &Var) -> bool
+    ensures { result ≡ carrying.is_handed var.now }
+{
+    var.exported || is_of_order(var.origin)
+}
+
+/// Whether its text is expanded for the shell.
+fn is_expanded(var: &Var) -> bool
+    ensures { result ≡ carrying.is_expanded var.now }
+{
+    matches!(var.flavour, Flavour::Recursive) && !is_of_order(var.origin)
+}
+
+/// The variable's text, expanded where it is recursive.
+fn handed_text<V: View>(
+    alloc: Global,
+    desk: &mut Desk<V>,
+    spoken: &mut Spoken,
+    job: &Job,
+    vars: &Vars,
+    place: &Place,
+    var: &Var,
+) -> Result<Text, Stop>
+    ensures { Does is_free V.tells desk.old desk.new spoken.old spoken.new result
+        (carrying.handed_text job.now vars.now place.now var.now) }
+{
+    if is_expanded(var) {
+        return expand_at(alloc, desk, spoken, job, vars, place, var.text.bytes());
+    }
+    Ok(var.text.copy(alloc)?)
+}
+
+/// Gives the shell the variable with this text.
+fn put(alloc: Global, env: &mut Vars, name: &[u8], var: &Var, text: Text) -> Result<(), NoMemory>
+    ensures { OnOk result
+        (env.new ≡ carrying.put env.old name.now (carrying.simple var.now text)) }
+{
+    let var = Var {
+        flavour: Flavour::Simple,
+        origin: var.origin,
+        text,
+        exported: var.exported,
+    };
+    env.set(Text::from_slice(alloc, name)?, var)?;
+    Ok(())
+}
+
+/// The shell's variables with this one, where it is handed over.
+fn hand<V: View>(
+    alloc: Global,
+    desk: &mut Desk<V>,
+    spoken: &mut Spoken,
+    job: &Job,
+    vars: &Vars,
+    place: &Place,
+    env: Vars,
+    name: &[u8],
+    var: &Var,
+) -> Result<Vars, Stop>
+    ensures { Does is_free V.tells desk.old desk.new spoken.old spoken.new result
+        (carrying.hand job.now vars.now place.now env name.now var.now) }
+{
+    if !is_handed(var) {
+        return Ok(env);
+    }
+    let mut env = env;
+    let text = handed_text(alloc, desk, spoken, job, vars, place, var)?;
+    put(alloc, &mut env, name, var, text)?;
+    Ok(env)
+}
+
+/// The same for the variable of this number; nothing is handed over where there is none.
+fn hand_entry<V: View>(
+    alloc: Global,
+    desk: &mut Desk<V>,
+    spoken: &mut Spoken,
+    job: &Job,
+    vars: &Vars,
+    place: &Place,
+    env: Vars,
+    i: usize,
+) -> Result<Vars, Stop>
+    ensures { Does is_free V.tells desk.old desk.new spoken.old spoken.new result
+        (carrying.hand_entry job.now vars.now place.now env (slice_get vars.now i)) }
+{
+    match vars.at(i) {
+        Some((name, var)) => hand(alloc, desk, spoken, job, vars, place, env, name, var),
+        None => Ok(env),
+    }
+}
+
+/// The variables of the job's shells: those of the command line, and the exported ones.
+pub(crate) fn environment<V: View>(
+    alloc: Global,
+    desk: &mut Desk<V>,
+    spoken: &mut Spoken,
+    job: &Job,
+    vars: &Vars,
+    place: &Place,
+) -> Result<Vars, Stop>
+    ensures { Does is_free V.tells desk.old desk.new spoken.old spoken.new result
+        (carrying.environment job.now vars.now place.now) }
+{
+    let mut env = Vars::new(alloc)?;
+    for i in 0..vars.len() {
+        env = hand_entry(alloc, desk, spoken, job, vars, place, env, i)?;
+    }
+    Ok(env)
+}

@@ -1,0 +1,19 @@
+//! One job: whether it remakes its target, and how its recipe runs.
+#![tactic(auto)]
+
+mod carry;
+mod due;
+mod environment;
+mod fail;
+mod line;
+mod making;
+mod prepare;
+mod ready;
+mod spec;
+mod stop;
+mod work;
+
+pub use em_task::{Flags, Job, SharedVars};
+pub use making::specs;
+pub use spec::JobSpec;
+pub use work::JobWork;

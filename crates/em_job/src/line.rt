@@ -1,0 +1,134 @@
+//! A line of the recipe, run.
+ghost use Rattle.std.specs.Prelude.{◌≡◌, IfOk};
+ghost use Rattle.em_job.specs.Stops.{is_free};
+ghost use Rattle.em_job.specs.Carrying as carrying;
+ghost use Rattle.em_job.specs.Preparing as preparing;
+ghost use Rattle.em_view.specs.Steps.{Does, Works};
+
+use crate::environment::environment;
+use crate::prepare::{Placed, say};
+use crate::stop::{Stop, of_line};
+use em_base::{NoMemory, Place};
+use em_expand::Spoken;
+use em_script::Line;
+use em_task::Job;
+use em_vars::Vars;
+use em_view::{Desk, View};
+use em_word::Shell;
+use std::alloc::Global;
+
+/// The job's shell variables, made if they weren't yet.
+fn environment_once<V: View>(
+    alloc: Global,
+    desk: &mut Desk<V>,
+    spoken: &mut Spoken,
+    job: &Job,
+    vars: &Vars,
+    place: &Place,
+    env: Option<Vars>,
+) -> Result<Vars, Stop>
+    ensures { Does is_free V.tells desk.old desk.new spoken.old spoken.new result
+        (carrying.environment_once job.now vars.now place.now env) }
+{
+    match env {
+        Some(env) => Ok(env),
+        None => environment(alloc, desk, spoken, job, vars, place),
+    }
+}
+
+/// The shell in which a line starts.
+fn shell_of(alloc: Global, job: &Job, env: &Vars) -> Result<Shell, NoMemory>
+    ensures { IfOk result (λ s. s ≡ carrying.shell_of job.now env.now) }
+{
+    Ok(Shell {
+        vars: env.copy(alloc)?,
+        cwd: job.cwd.copy()?,
+        status: 0,
+    })
+}
+
+/// Runs a line in a shell of its own.
+fn in_shell<V: View>(
+    alloc: Global,
+    desk: &mut Desk<V>,
+    spoken: &mut Spoken,
+    job: &Job,
+    env: &Vars,
+    place: &Place,
+    line: &Line,
+) -> Result<u8, Stop>
+    ensures { Does is_free V.tells desk.old desk.new spoken.old spoken.new result
+        (carrying.in_shell job.now env.now place.now line.now) }
+{
+    let mut shell = shell_of(alloc, job, env)?;
+    match line.run(alloc, &mut shell, desk, &mut spoken.said) {
+        Ok(status) => Ok(status),
+        Err(e) => Err(of_line(alloc, place, e)),
+    }
+}
+
+/// Whether the line is echoed.
+fn is_shown(job: &Job, placed: &Placed) -> bool
+    ensures { result ≡ carrying.is_shown job.now placed.now }
+{
+    job.flags.dry || !(job.quiet || placed.command.marks.silent)
+}
+
+/// Whether it runs.
+fn does_run(job: &Job, placed: &Placed) -> bool
+    ensures { result ≡ carrying.does_run job.now placed.now }
+{
+    !job.flags.dry || placed.command.marks.forced
+}
+
+/// Echoes the line, where it is echoed.
+fn echo(spoken: &mut Spoken, job: &Job, placed: &Placed) -> Result<(), Stop>
+    ensures { Works is_free spoken.old spoken.new result
+        (preparing.say (carrying.echo job.now placed.now)) }
+{
+    if is_shown(job, placed) {
+        spoken.said.add(placed.command.text.bytes())?;
+        spoken.said.add(b"\n")?;
+    }
+    Ok(())
+}
+
+/// Runs the line, and hands on the variables of the job's shells.
+fn run<V: View>(
+    alloc: Global,
+    desk: &mut Desk<V>,
+    spoken: &mut Spoken,
+    job: &Job,
+    vars: &Vars,
+    env: Option<Vars>,
+    place: &Place,
+    line: &Line,
+) -> Result<(Option<Vars>, u8), Stop>
+    ensures { Does is_free V.tells desk.old desk.new spoken.old spoken.new result
+        (carrying.run job.now vars.now env place.now line.now) }
+{
+    let env = environment_once(alloc, desk, spoken, job, vars, place, env)?;
+    let status = in_shell(alloc, desk, spoken, job, &env, place, line)?;
+    Ok((Some(env), status))
+}
+
+/// Echoes the line, and runs it. One that is only shown has status 0.
+pub(crate) fn run_line<V: View>(
+    alloc: Global,
+    desk: &mut Desk<V>,
+    spoken: &mut Spoken,
+    job: &Job,
+    vars: &Vars,
+    env: Option<Vars>,
+    placed: &Placed,
+    line: &Line,
+) -> Result<(Option<Vars>, u8), Stop>
+    ensures { Does is_free V.tells desk.old desk.new spoken.old spoken.new result
+        (carrying.run_line job.now vars.now env placed.now line.now) }
+{
+    echo(spoken, job, placed)?;
+    if does_run(job, placed) {
+        return run(alloc, desk, spoken, job, vars, env, &placed.place, line);
+    }
+    Ok((env, 0))
+}

@@ -1,0 +1,213 @@
+//! What a job does before the first line of its recipe runs.
+ghost use Rattle.std.specs.Prelude.{◌≡◌, [], ◌++◌, map, false, IfOk, OnOk};
+ghost use Rattle.em_job.specs.Stops.{is_free};
+ghost use Rattle.em_job.specs.Preparing as preparing;
+ghost use Rattle.em_recipe.specs.Messages as messages;
+ghost use Rattle.em_view.specs.Steps.{Does, Works};
+
+use crate::due::{Awaited, Verdict, decision, newer_among, prerequisites, reasons, stamp_of};
+use crate::stop::{Stop, of_expand, refused};
+use em_base::{Construct, NoMemory, Place, Seq, Text};
+use em_expand::{Spoken, expand};
+use em_recipe::{Command, commands, put_no_rule, with_automatic};
+use em_rules::RecipeLine;
+use em_task::Job;
+use em_tree::Outcome;
+use em_vars::Vars;
+use em_view::{Desk, View};
+use std::alloc::Global;
+
+/// A line for the shell, and the place of the recipe's line of which it comes.
+#[derive(Drop)]
+pub(crate) struct Placed {
+    pub(crate) place: Place,
+    pub(crate) command: Command,
+}
+
+/// A recipe that is to run.
+#[derive(Drop)]
+pub(crate) struct Opened {
+    /// The target's stamp before it.
+    pub(crate) stamp: Option<u64>,
+    /// The variables, with the automatic ones.
+    pub(crate) vars: Vars,
+}
+
+/// What is left to do of a job.
+#[derive(Drop)]
+pub(crate) enum Prepared {
+    Ended(Outcome),
+    Lines(Opened, Seq<Placed>),
+}
+
+/// Says a text.
+pub(crate) fn say(spoken: &mut Spoken, text: &[u8]) -> Result<(), Stop>
+    ensures { Works is_free spoken.old spoken.new result (preparing.say text.now) }
+{
+    spoken.said.add(text)?;
+    Ok(())
+}
+
+/// Refuses texts for `eval`.
+fn no_evals(alloc: Global, spoken: &mut Spoken, place: &Place) -> Result<(), Stop>
+    ensures { Works is_free spoken.old spoken.new result (preparing.no_evals place.now) }
+{
+    if spoken.evals.is_empty() {
+        Ok(())
+    } else {
+        Err(refused(alloc, place, Construct::Eval))
+    }
+}
+
+/// Expands a text of the recipe.
+pub(crate) fn expand_at<V: View>(
+    alloc: Global,
+    desk: &mut Desk<V>,
+    spoken: &mut Spoken,
+    job: &Job,
+    vars: &Vars,
+    place: &Place,
+    text: &[u8],
+) -> Result<Text, Stop>
+    ensures { Does is_free V.tells desk.old desk.new spoken.old spoken.new result
+        (preparing.expand_at job.now vars.now place.now text.now) }
+{
+    match expand(alloc, text, vars, &job.cwd, place, desk, spoken) {
+        Ok(text) => {
+            no_evals(alloc, spoken, place)?;
+            Ok(text)
+        }
+        Err(e) => Err(of_expand(alloc, place, e)),
+    }
+}
+
+/// The commands, each with its place.
+fn put_placed(
+    alloc: Global,
+    lines: &mut Seq<Placed>,
+    place: &Place,
+    commands: Seq<Command>,
+) -> Result<(), NoMemory>
+    ensures { OnOk result
+        (lines.new ≡ lines.old ++ map (preparing.placed place.now) commands) }
+{
+    for command in commands.into_vec() {
+        let place = place.copy(alloc)?;
+        lines.push(Placed { place, command })?;
+    }
+    Ok(())
+}
+
+/// Expands all lines.
+fn expand_lines<V: View>(
+    alloc: Global,
+    desk: &mut Desk<V>,
+    spoken: &mut Spoken,
+    job: &Job,
+    vars: &Vars,
+    recipe: &[RecipeLine],
+) -> Result<Seq<Placed>, Stop>
+    ensures { Does is_free V.tells desk.old desk.new spoken.old spoken.new result
+        (preparing.expand_lines job.now vars.now recipe.now []) }
+{
+    let mut lines = Seq::new(alloc);
+    for line in recipe {
+        let text = expand_at(
+            alloc,
+            desk,
+            spoken,
+            job,
+            vars,
+            &line.place,
+            line.text.bytes(),
+        )?;
+        let commands = commands(alloc, line.text.bytes(), text.bytes())?;
+        put_placed(alloc, &mut lines, &line.place, commands)?;
+    }
+    Ok(lines)
+}
+
+/// The lines of the recipe as they are written.
+fn recipe_of(job: &Job) -> &[RecipeLine]
+    ensures { result.now ≡ preparing.recipe_of job.now }
+{
+    match &job.plan.recipe {
+        None => &[],
+        Some(lines) => lines.items(),
+    }
+}
+
+/// Expands the recipe. These names made remaking due.
+fn expand_recipe<V: View>(
+    alloc: Global,
+    desk: &mut Desk<V>,
+    spoken: &mut Spoken,
+    job: &Job,
+    stamp: Option<u64>,
+    newer: &[Text],
+) -> Result<Prepared, Stop>
+    ensures { Does is_free V.tells desk.old desk.new spoken.old spoken.new result
+        (preparing.expand_recipe job.now stamp newer.now) }
+{
+    let vars = with_automatic(alloc, job.vars.vars(), &job.plan, newer)?;
+    let lines = expand_lines(alloc, desk, spoken, job, &vars, recipe_of(job))?;
+    Ok(Prepared::Lines(Opened { stamp, vars }, lines))
+}
+
+/// Says that no rule makes the target.
+fn no_rule(spoken: &mut Spoken, job: &Job) -> Result<(), Stop>
+    ensures { Works is_free spoken.old spoken.new result
+        (preparing.say (messages.no_rule job.now.plan.target job.now.plan.needed_by job.now.flags.keep_going)) }
+{
+    let plan = &job.plan;
+    put_no_rule(
+        &mut spoken.said,
+        plan.target.bytes(),
+        &plan.needed_by,
+        job.flags.keep_going,
+    )?;
+    Ok(())
+}
+
+/// Decides, and expands the recipe where it is to run.
+fn decide<V: View>(
+    alloc: Global,
+    desk: &mut Desk<V>,
+    spoken: &mut Spoken,
+    job: &Job,
+    normal: &[Awaited],
+) -> Result<Prepared, Stop>
+    ensures { Does is_free V.tells desk.old desk.new spoken.old spoken.new result
+        (preparing.decide job.now normal.now) }
+{
+    let own = stamp_of(alloc, desk, &job.cwd, job.plan.target.bytes())?;
+    let newer = newer_among(alloc, desk, job, own, normal)?;
+    match decision(job, own, newer.items()) {
+        Verdict::Ended(outcome) => Ok(Prepared::Ended(outcome)),
+        Verdict::NoRule => {
+            no_rule(spoken, job)?;
+            Ok(Prepared::Ended(Outcome::NoRule))
+        }
+        Verdict::Remake => {
+            let reasons = reasons(alloc, job, own, newer)?;
+            expand_recipe(alloc, desk, spoken, job, own, reasons.items())
+        }
+    }
+}
+
+/// All that a job does before the first line of its recipe runs.
+pub(crate) fn prepare<V: View>(
+    alloc: Global,
+    desk: &mut Desk<V>,
+    spoken: &mut Spoken,
+    job: &Job,
+) -> Result<Prepared, Stop>
+    ensures { Does is_free V.tells desk.old desk.new spoken.old spoken.new result
+        (preparing.prepare job.now) }
+{
+    let (normal, fine) = prerequisites(alloc, desk, job)?;
+    if !fine {
+        return Ok(Prepared::Ended(Outcome::Skipped));
+    }
+    decide(alloc, desk, spoken, job, normal.items())
+}

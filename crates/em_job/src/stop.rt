@@ -1,0 +1,152 @@
+//! Why a job goes no further.
+ghost use Rattle.std.specs.Prelude.{◌≡◌, ◌++◌, false, IfOk, OnOk};
+ghost use Rattle.em_job.specs.declared.stop.Stop.TheVariants.{Refused, Halted, NoMemory as OutOfMemory};
+ghost use Rattle.em_recipe.specs.Messages as messages;
+ghost use Rattle.em_view.specs.declared.no.DeskNo.TheVariants as desk;
+ghost use Rattle.em_job.specs.Stops as stops;
+ghost use Rattle.em_job.specs.Stops.{is_free};
+
+use em_base::{Construct, NoMemory, Place, Text};
+use em_expand::ExpandNo;
+use em_recipe::{fault_text, put_halted, put_refused, put_spent, put_spent_early};
+use em_tree::Outcome;
+use em_view::{DeskNo, ExecNo};
+use std::alloc::{AllocError, AllocFailed, Global};
+
+/// Why a job goes no further. What it has changed and said stands.
+#[derive(Drop)]
+pub(crate) enum Stop {
+    /// Fuel was spent before a line was begun.
+    Early,
+    /// Fuel was spent in this line.
+    Spent(Place),
+    /// The line has a construct that isn't supported.
+    Refused(Construct, Place),
+    /// The line can't be expanded.
+    Halted(Text, Place),
+    NoMemory,
+}
+
+impl From<NoMemory> for Stop {
+    ghost from_gives = { λ _ e. e ≡ OutOfMemory };
+
+    fn from(_e: NoMemory) -> Stop {
+        Stop::NoMemory
+    }
+}
+
+impl From<AllocError> for Stop {
+    ghost from_gives = { λ _ e. e ≡ OutOfMemory };
+
+    fn from(_e: AllocError) -> Stop {
+        Stop::NoMemory
+    }
+}
+
+impl<T: Drop> From<AllocFailed<T>> for Stop {
+    ghost from_gives = { λ _ e. e ≡ OutOfMemory };
+
+    fn from(_e: AllocFailed<T>) -> Stop {
+        Stop::NoMemory
+    }
+}
+
+/// A desk's refusal before a line.
+pub(crate) fn early(e: DeskNo) -> Stop
+    ensures { result ≡ stops.early e }
+{
+    match e {
+        DeskNo::NoMemory => Stop::NoMemory,
+        DeskNo::Spent | DeskNo::File(_) => Stop::Early,
+    }
+}
+
+/// Fuel was spent in a line.
+fn spent(alloc: Global, place: &Place) -> Stop
+    ensures { is_free result ≡ false → result ≡ stops.of_desk place.now desk.Spent }
+{
+    match place.copy(alloc) {
+        Ok(place) => Stop::Spent(place),
+        Err(_) => Stop::NoMemory,
+    }
+}
+
+/// A desk's refusal at a line.
+pub(crate) fn of_desk(alloc: Global, place: &Place, e: DeskNo) -> Stop
+    ensures { is_free result ≡ false → result ≡ stops.of_desk place.now e }
+{
+    match e {
+        DeskNo::NoMemory => Stop::NoMemory,
+        DeskNo::Spent | DeskNo::File(_) => spent(alloc, place),
+    }
+}
+
+/// A construct in a line isn't supported.
+pub(crate) fn refused(alloc: Global, place: &Place, construct: Construct) -> Stop
+    ensures { is_free result ≡ false → result ≡ Refused construct place.now }
+{
+    match place.copy(alloc) {
+        Ok(place) => Stop::Refused(construct, place),
+        Err(_) => Stop::NoMemory,
+    }
+}
+
+/// A text in a line can't be expanded.
+fn halted(alloc: Global, place: &Place, e: &ExpandNo) -> Stop
+    ensures { is_free result ≡ false → result ≡ Halted (messages.fault_text e.now) place.now }
+{
+    let Ok(text) = fault_text(alloc, e) else {
+        return Stop::NoMemory;
+    };
+    match place.copy(alloc) {
+        Ok(place) => Stop::Halted(text, place),
+        Err(_) => Stop::NoMemory,
+    }
+}
+
+/// Why a text in a line has no expansion.
+pub(crate) fn of_expand(alloc: Global, place: &Place, e: ExpandNo) -> Stop
+    ensures { is_free result ≡ false → result ≡ stops.of_expand place.now e }
+{
+    match e {
+        ExpandNo::NoMemory => Stop::NoMemory,
+        ExpandNo::Spent => spent(alloc, place),
+        ExpandNo::Refused(name) => refused(alloc, place, Construct::MakeName(name)),
+        e => halted(alloc, place, &e),
+    }
+}
+
+/// Why a line has no status.
+pub(crate) fn of_line(alloc: Global, place: &Place, e: ExecNo) -> Stop
+    ensures { is_free result ≡ false → result ≡ stops.of_line place.now e }
+{
+    match e {
+        ExecNo::NoMemory => Stop::NoMemory,
+        ExecNo::Spent => spent(alloc, place),
+        ExecNo::Refused(construct) => refused(alloc, place, construct),
+    }
+}
+
+/// Says why the job stopped.
+pub(crate) fn put_stop(out: &mut Text, target: &[u8], stop: &Stop) -> Result<(), NoMemory>
+    ensures { OnOk result (out.new ≡ out.old ++ stops.stop_text target.now stop.now) }
+{
+    match stop {
+        Stop::Early => put_spent_early(out, target),
+        Stop::Spent(place) => put_spent(out, place, target),
+        Stop::Refused(construct, place) => put_refused(out, place, target, construct),
+        Stop::Halted(text, place) => put_halted(out, place, text.bytes()),
+        Stop::NoMemory => Ok(()),
+    }
+}
+
+/// How a job ends that stopped so.
+pub(crate) fn end_of(stop: Stop) -> Outcome
+    ensures { result ≡ stops.end_of stop }
+{
+    match stop {
+        Stop::Refused(construct, place) => Outcome::Refused { construct, place },
+        Stop::Halted(text, place) => Outcome::Halted { text, place },
+        Stop::Early | Stop::Spent(_) | Stop::NoMemory => Outcome::Spent,
+    }
+}

@@ -1,0 +1,4 @@
+mod Lines
+mod Doubles
+mod Splitting
+mod Setting

@@ -1,0 +1,1 @@
+pub use Rattle.em_vars.specs.Entries

@@ -1,0 +1,71 @@
+//! A job, as data.
+ghost use Rattle.std.specs.Prelude.{◌≡◌, IfOk};
+
+use crate::shared::SharedVars;
+use em_base::{NoMemory, Seq, Text};
+use em_path::Path;
+use em_plan::PlanJob;
+use std::alloc::Global;
+
+/// What an order says of all jobs.
+#[derive(Clone, Copy, Debug, PartialEq, Eq)]
+pub struct Flags {
+    /// `-k`
+    pub keep_going: bool,
+    /// `-n`
+    pub dry: bool,
+    /// `-q`
+    pub question: bool,
+    /// `-s`
+    pub silent: bool,
+    /// `-i`
+    pub ignore: bool,
+    /// `-B`
+    pub always: bool,
+}
+
+/// What there is to know of one job.
+#[derive(Drop, PartialEq, Eq)]
+pub struct Job {
+    /// Its number in serial order.
+    pub job: u32,
+    /// The greatest stamp of the starting tree.
+    pub base: u64,
+    /// The units of fuel that it may use.
+    pub fuel: u64,
+    /// The working directory.
+    pub cwd: Path,
+    pub flags: Flags,
+    /// Its lines aren't echoed: `-s`, or `.SILENT` covers the target.
+    pub quiet: bool,
+    /// Failures of its lines are ignored: `-i`, or `.IGNORE` covers the target.
+    pub lenient: bool,
+    /// `.DELETE_ON_ERROR`
+    pub delete_on_error: bool,
+    /// The phony names among the target and the normal prerequisites.
+    pub phony: Seq<Text>,
+    pub plan: PlanJob,
+    /// The makefile's variables.
+    pub vars: SharedVars,
+}
+
+impl Job {
+    /// An equal job. The variables are shared.
+    pub fn copy(&self, alloc: Global) -> Result<Job, NoMemory>
+        ensures { IfOk result (λ j. j ≡ self.now) }
+    {
+        Ok(Job {
+            job: self.job,
+            base: self.base,
+            fuel: self.fuel,
+            cwd: self.cwd.copy()?,
+            flags: self.flags,
+            quiet: self.quiet,
+            lenient: self.lenient,
+            delete_on_error: self.delete_on_error,
+            phony: self.phony.copy(alloc)?,
+            plan: self.plan.copy(alloc)?,
+            vars: self.vars.copy()?,
+        })
+    }
+}

@@ -1,0 +1,4 @@
+pub mod Kinds
+pub mod Shell
+pub mod Seen
+pub mod Words
