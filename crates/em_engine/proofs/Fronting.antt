@@ -1,15 +1,14 @@
 -- A front with one job more, and the table of which job changed a path last.
-use Rattle.std.proofs.Common.{◌≡◌, ◌≢◌, ◌<◌, ◌≤◌, ◌+◌, ◌^◌, ℕ, zero, suc, Bool, true, false, cond, ◌||◌, List, [], ◌∷◌, ◌++◌, Option, Some, None, length, map, take, get_or, refl, sym, ap, subst, ◌∙◌, add-zero, arith, slice_get}
+use Rattle.std.proofs.Common.{◌≡◌, ◌<◌, ◌≤◌, ◌+◌, ◌^◌, ℕ, zero, suc, Bool, true, false, cond, ◌||◌, List, [], ◌∷◌, ◌++◌, Option, Some, None, length, map, take, get_or, refl, sym, ap, subst, ◌∙◌, add-zero, arith, slice_get}
 use Rattle.std.specs.Prelude.{IsSome, IsSomeAnd, is_some}
 use Rattle.std.specs.declared.cmp.Ordering.{Ordering}
 use Rattle.std.specs.Ordering.{nat_cmp, eq_by_cmp}
 use Rattle.std.specs.Cmp.Lexicographic.{slice_cmp, nat_list_cmp_total}
-use Rattle.std.specs.FinMap.{FinMap, get, insert, keys, contains_key, contains_key-keys, get-insert}
+use Rattle.std.specs.FinMap.{FinMap, get, insert, keys, contains_key-keys, get-insert}
 use Rattle.std.proofs.lemmas.Cmp.{eq_by_cmp_equiv}
 use Rattle.std.proofs.Math.Bool.{or-true}
 use Rattle.std.proofs.lemmas.List.{length-map}
 use Rattle.std.proofs.lemmas.List.Folds.{list_any_more}
-use Rattle.std.proofs.lemmas.Option.{slice_get_within}
 use Rattle.em_tree.specs.declared.outcome.Outcome.{Outcome}
 use Rattle.em_tree.specs.declared.state.State.{State}
 use Rattle.em_tree.specs.Trees.{Changes}
@@ -18,7 +17,7 @@ use Rattle.em_view.specs.declared.effect.Effect.{Effect}
 use Rattle.em_view.specs.Serial.{after}
 use Rattle.em_run.specs.declared.run.Parts.{Parts}
 use Rattle.em_run.specs.Runs.{effect_in}
-use Rattle.em_run.specs.Serial.{Made, state_after, Ran, is_early, IsSerial}
+use Rattle.em_run.specs.Serial.{Made, Ran, is_early, IsSerial}
 use Rattle.em_run.proofs.Serials.{state_more, ran_more, is_early_more}
 use Rattle.em_engine.specs.Changed.{flat, is_among}
 use Rattle.em_engine.specs.Fronts.{Standing, next_of, last_from, named_last, committed, Stands, IsStanding}

@@ -1,5 +1,5 @@
 -- The laws of legal journals.
-use Rattle.std.proofs.Common.{◌≡◌, ◌≢◌, ℕ, zero, suc, ◌+◌, ◌≤◌, List, [], ◌∷◌, ◌++◌, Bool, true, false, Some, length, set, refl, sym, ap, subst, ◌∙◌, inl, inr, arith, slice_get}
+use Rattle.std.proofs.Common.{◌≡◌, ℕ, zero, suc, ◌+◌, ◌≤◌, List, [], ◌∷◌, ◌++◌, Bool, true, false, Some, length, set, refl, sym, ap, subst, ◌∙◌, inl, inr, arith, slice_get}
 use Rattle.std.specs.Prelude.{IfSome, ◌==◌, ◌⊎◌, if◌then◌else◌}
 use Rattle.std.specs.FinMap.{empty}
 use Rattle.std.proofs.lemmas.Bool.{eqb-true, eq-eqb}
@@ -10,7 +10,6 @@ use Rattle.em_chain.specs.Posts.{Posts}
 use Rattle.em_chain.specs.Looking.{looked}
 use Rattle.em_engine.specs.declared.event.Event.{Event}
 use Rattle.em_engine.specs.declared.event.Event.TheVariants as event
-use Rattle.em_engine.specs.declared.ready.Stage.{Stage}
 use Rattle.em_engine.specs.declared.ready.Stage.TheVariants as stage
 use Rattle.em_engine.specs.Stages.{is_free}
 use Rattle.em_engine.specs.Journal.{Replay, first, after, May, replay, IsLegal}

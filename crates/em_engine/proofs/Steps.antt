@@ -414,3 +414,71 @@ pub claims_none : {S : _} (old : Seen S) (found : Claim) → (told old).stopped 
 claims_none old (claim.Job j) going is not = absurd (not j refl)
 claims_none old claim.Done going is not = (inr is, refl)
 claims_none old claim.NotYet going is not = (going, is, refl)
+
+-- ---- what the conditions of calls, which speak of what is seen, say of the fields
+
+abbrev pub seen : {S : _} → Held S → Seen S
+seen h = record { start = h.start; waits = h.waits; journal = h.journal; phases = h.phases }
+
+-- a job that may be claimed
+pub record Startable {S : _} (h : Held S) (j : ℕ) : Type 0 where
+  pub can : CanClaim h.waits (map stage_of h.phases) j
+  pub staged : slice_get h.stages j ≡ Some stage.Free
+  pub within : j < length h.phases
+  pub owed : 3 ≤ h.owed
+
+pub startable : {S : _} (h : Held S) → IsBoard h → (v : Seen S) → seen h ≡ v → (j : ℕ) → CanClaim v.waits (stages v) j → Startable h j
+startable {S} h b v is j can =
+    let P : Seen S → Type 0 = λ u. CanClaim u.waits (stages u) j in
+    let here = subst P (sym is) can in
+    let f = found h.phases j stage.Free here.0 in
+    let w : weight_of (stage_of f.0) ≡ 3 = ap weight_of f.2 in
+    record {
+      can = here;
+      staged = staged_at h b j f.0 stage.Free f.1 f.2;
+      within = within h j f.0 f.1;
+      owed = (let o = owes h b j f.0 f.1 in omega (arith, o, w));
+    }
+
+-- a job that a worker has
+pub record Running {S : _} (h : Held S) (j : ℕ) : Type 0 where
+  pub at : slice_get h.phases j ≡ Some phase.Claimed
+  pub staged : slice_get h.stages j ≡ Some stage.Claimed
+  pub within : j < length h.phases
+  pub owed : 2 ≤ h.owed
+
+pub running : {S : _} (h : Held S) → IsBoard h → (v : Seen S) → seen h ≡ v → (j : ℕ) → slice_get v.phases j ≡ Some phase.Claimed → Running h j
+running {S} h b v is j at =
+    let P : Seen S → Type 0 = λ u. slice_get u.phases j ≡ Some phase.Claimed in
+    let here = subst P (sym is) at in
+    record { at = here; staged = staged_at h b j phase.Claimed stage.Claimed here refl; within = within h j phase.Claimed here; owed = owes h b j phase.Claimed here }
+
+-- the next job to be settled, which the committer has
+pub record Settling {S : _} (h : Held S) (j : ℕ) : Type 0 where
+  pub next : j ≡ h.settled
+  pub can : can_settle (slice_get h.phases j) ≡ true
+  pub staged : (slice_get h.stages j ≡ Some stage.Claimed) ⊎ (slice_get h.stages j ≡ Some stage.Ended)
+  pub within : j < length h.phases
+  pub small : h.settled < 2 ^ 32
+  pub owed : 1 ≤ h.owed
+
+pub settling : {S : _} (h : Held S) → IsBoard h → (v : Seen S) → seen h ≡ v → (j : ℕ) → j ≡ (told v).settled → can_settle (slice_get v.phases j) ≡ true → Settling h j
+settling {S} h b v is j next can =
+    let P : Seen S → Type 0 = λ u. can_settle (slice_get u.phases j) ≡ true in
+    let Q : Seen S → Type 0 = λ u. j ≡ (told u).settled in
+    let here = subst P (sym is) can in
+    let now : j ≡ h.settled = subst Q (sym is) next ∙ ap (λ (r : Replay). r.settled) b.replayed in
+    let f = fronts h.phases j here in
+    let lt : j < length h.phases = within h j f.phase f.at in
+    record {
+      next = now;
+      can = here;
+      staged = fronts_staged h b j f;
+      within = lt;
+      small = omega (arith, lt, now, b.phases_len, b.small);
+      owed = (let o = owes h b j f.phase f.at in let w = f.weight in omega (arith, o, w));
+    }
+
+-- what is left of a job is owed
+pub left_owed : {S : _} (h : Held S) → IsBoard h → (j : ℕ) (p : Phase S) (left : ℕ) → p ≡ get_or h.phases j p → j < length h.phases → left ≡ weight_of (stage_of p) → left ≤ h.owed
+left_owed h b j p left at lt is = let o = owes h b j p (read_at h.phases j p lt at) in omega (arith, o, is)

@@ -1,7 +1,6 @@
-use Rattle.std.proofs.Common.{◌≡◌, ◌∙◌, ℕ, List, Some, None, refl, sym, ap}
-use Rattle.std.specs.Prelude.{option_copied, IsSome}
-use Rattle.std.specs.FinMap.{get, insert}
-use Rattle.em_engine.specs.Changed.{flat}
+use Rattle.std.proofs.Common.{◌≡◌, ◌∙◌, None, sym, ap}
+use Rattle.std.specs.Prelude.{option_copied}
+use Rattle.std.specs.FinMap.{get}
 use Rattle.em_engine.proofs.Fronting.{no_some, place_same, place_stays, place_one}
 use Rattle.em_engine.proofs.changed.make_place.Goals as goal
 

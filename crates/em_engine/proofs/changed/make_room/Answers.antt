@@ -1,4 +1,4 @@
-use Rattle.std.proofs.Common.{◌≡◌, ◌∙◌, ℕ, List, Some, None, refl, sym, ap}
+use Rattle.std.proofs.Common.{◌∙◌}
 use Rattle.em_engine.proofs.Fronting.{room_more}
 use Rattle.em_engine.proofs.changed.make_room.Goals as goal
 

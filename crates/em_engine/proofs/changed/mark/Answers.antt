@@ -1,5 +1,4 @@
-use Rattle.std.proofs.Common.{◌≡◌, ◌∙◌, ℕ, List, Bool, true, Some, cond, refl, sym, ap, subst, ◌∷◌}
-use Rattle.std.specs.Prelude.{IsSome}
+use Rattle.std.proofs.Common.{◌≡◌, ◌∙◌, ℕ, List, Some, cond, sym, ap, ◌∷◌}
 use Rattle.std.specs.FinMap.{get}
 use Rattle.std.specs.Vec.Iter.{into_iter_items}
 use Rattle.em_engine.specs.Changed.{flat, is_among}

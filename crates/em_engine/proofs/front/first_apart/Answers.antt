@@ -1,4 +1,4 @@
-use Rattle.std.proofs.Common.{◌≡◌, ◌<◌, ℕ, length, arith}
+use Rattle.std.proofs.Common.{arith}
 use Rattle.em_engine.proofs.Finding.{same_lists}
 use Rattle.em_engine.proofs.front.first_apart.Goals as goal
 

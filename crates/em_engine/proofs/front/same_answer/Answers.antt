@@ -1,5 +1,4 @@
-use Rattle.std.proofs.Common.{◌≡◌, ◌∙◌, ap, sym, Option, List, ℕ, refl}
-use Rattle.em_tree.specs.declared.question.Answer.{Answer}
+use Rattle.std.proofs.Common.{◌∙◌, ap, sym}
 use Rattle.em_tree.specs.declared.question.Answer.TheVariants as told
 use Rattle.em_engine.proofs.Finding.{same_names, same_told}
 use Rattle.em_engine.proofs.front.same_answer.Goals as goal

@@ -1,8 +1,8 @@
-use Rattle.std.proofs.Common.{◌≡◌, ◌∙◌, ◌++◌, ◌∷◌, [], ℕ, List, Bool, Some, true, cond, length, refl, sym, ap, subst, arith, Option}
+use Rattle.std.proofs.Common.{◌≡◌, ◌∙◌, ℕ, List, Some, true, cond, length, sym, ap, subst, arith, Option}
 use Rattle.std.specs.Prelude.{IsSomeAnd}
 use Rattle.std.specs.FinMap.{get, keys}
 use Rattle.em_engine.specs.Changed.{flat, is_among}
-use Rattle.em_engine.specs.Fronts.{Standing, next_of, named_last}
+use Rattle.em_engine.specs.Fronts.{Standing, next_of}
 use Rattle.em_engine.proofs.Fronting.{commits, named_more, the_next}
 use Rattle.em_engine.proofs.front.Front.commit.Goals as goal
 

@@ -1,4 +1,4 @@
-use Rattle.std.proofs.Common.{◌≡◌, ◌∙◌, ℕ, List, refl, ap}
+use Rattle.std.proofs.Common.{ap}
 use Rattle.std.specs.FinMap.{get-empty}
 use Rattle.em_tree.proofs.Maps.{order}
 use Rattle.em_engine.specs.Changed.{flat}

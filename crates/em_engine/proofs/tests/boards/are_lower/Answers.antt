@@ -1,4 +1,4 @@
-use Rattle.std.proofs.Common.{◌≡◌, ◌≤◌, ◌<◌, ℕ, List, [], All, length, arith, sym, subst, get_or, inl, inr}
+use Rattle.std.proofs.Common.{◌<◌, ℕ, List, [], All, arith, sym, subst, get_or, inl, inr}
 use Rattle.std.proofs.lemmas.Bool.{cases_lt}
 use Rattle.std.proofs.lemmas.List.{get_or_past}
 use Rattle.em_engine.proofs.tests.boards.are_lower.Goals as goal
