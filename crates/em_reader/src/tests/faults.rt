@@ -42,7 +42,7 @@ const FAULTS: [Row; 35] = [
     (b"$(eval a:)\n\techo\n", b"*** Makefile:2: recipe"),
     (
         b"include open.mk\ninclude close.mk\n",
-        b"*** open.mk:1: conditional",
+        b"*** open.mk:1: no endif",
     ),
     (
         b"define T\na:\nbad\nendef\n$(eval $(T))\n",
