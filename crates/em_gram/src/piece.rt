@@ -1,5 +1,5 @@
 //! Reading of the lexemes inside words, and of redirections' operators.
-ghost use Rattle.std.specs.Prelude.{◌≡◌, ℕ, ◌<◌, ◌≤◌, ◌++◌, [], ◌∷◌, ◌-◌, List, length, take, slice_get, Some, None, true, false, IfOk, IfErr};
+ghost use Rattle.std.specs.Prelude.{◌≡◌, ℕ, ◌<◌, ◌≤◌, ◌++◌, [], ◌∷◌, ◌-◌, List, Bool, length, take, slice_get, Some, None, true, false, IfOk, IfErr, IsOk};
 ghost use Rattle.std.specs.Option.{option_map};
 ghost use Rattle.em_grammar.specs.Production.{empty, this, nested, ◌⨾◌};
 ghost use Rattle.em_grammar.specs.Gives.{begins_with, Gives, Turns, Spells, lead_of, lead_off};
@@ -109,7 +109,9 @@ pub fn argument_begin<'a>(
 
 /// Whether the substitution that begins here is quoted.
 fn first_quoted(tokens: &[Lexeme]) -> Result<bool, em_base::NoMemory>
-    ensures { IfOk result (λ x. slice_get (whats tokens.now) 0 ≡ Some (What.SubstitutionStart x)) }
+    ensures held { IfOk result (λ x. slice_get (whats tokens.now) 0 ≡ Some (What.SubstitutionStart x)) }
+    ensures comes { (quoted : Bool)
+        → slice_get (whats tokens.now) 0 ≡ Some (What.SubstitutionStart quoted) → IsOk result }
 {
     match tokens.first() {
         Some(token) => substitution_in(&token.what),
