@@ -1,5 +1,5 @@
 -- The exported variables, one more given at each turn.
-use Rattle.std.proofs.Common.{◌≡◌, ℕ, zero, suc, ◌+◌, ◌<◌, List, [], ◌∷◌, take, length, refl, arith, add-one}
+use Rattle.std.proofs.Common.{◌≡◌, ℕ, zero, suc, ◌<◌, [], ◌∷◌, take, length, refl, arith}
 use Rattle.std.specs.Prelude.{fold, slice_get}
 use Rattle.em_vars.specs.Entries.{Entries}
 use Rattle.em_reading.specs.Start.{given_one, given_at}

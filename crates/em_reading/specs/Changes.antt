@@ -1,7 +1,6 @@
 -- What a line does to what was read so far, without asking anything.
-use Rattle.std.specs.Prelude.{ℕ, ◌+◌, ◌-◌, ◌==◌, ◌&&◌, min, not, Bool, true, false, List, [], ◌∷◌, ◌++◌, length, take, map, Option, Some, None, is_some, is_none, option_map, unwrap_or, Result, Ok, Err, codes, decimal, if◌then◌else◌}
-use Rattle.std.specs.List.{list_any, flat_map}
-use Rattle.std.specs.Option.{option_or}
+use Rattle.std.specs.Prelude.{ℕ, ◌+◌, ◌-◌, ◌==◌, ◌&&◌, min, not, Bool, List, [], ◌∷◌, ◌++◌, length, take, fold, Option, Some, None, is_some, unwrap_or, Result, Ok, Err, codes, decimal, if◌then◌else◌}
+use Rattle.std.specs.List.{flat_map}
 use Rattle.std.specs.Str.{bytes_eq}
 use Rattle.em_base.specs.declared.place.Place.{Place}
 use Rattle.em_cond.specs.declared.nest.Conditional.{Conditional}
@@ -13,17 +12,16 @@ use Rattle.em_rules.specs.declared.rule.RecipeLine.{RecipeLine}
 use Rattle.em_rules.specs.declared.book.Book.{Book}
 use Rattle.em_rules.specs.declared.book.BookNo.{BookNo}
 use Rattle.em_rules.specs.declared.book.BookNo.TheVariants as book_no
-use Rattle.em_rules.specs.Rules.{recipe_rule}
+use Rattle.em_rules.specs.Rules.{is_in, recipe_rule}
 use Rattle.em_rules.specs.Static.{undotted_rule, unmatched}
 use Rattle.em_rules.specs.Books.{fault_of, added}
 use Rattle.em_vars.specs.Entries.{Entries}
 use Rattle.em_statement.specs.declared.assignment.Assignment.{Assignment}
-use Rattle.em_statement.specs.Split.{first_word, is_empty}
+use Rattle.em_statement.specs.Split.{first_word}
 use Rattle.em_reading.specs.declared.no.Fault.{Fault}
 use Rattle.em_reading.specs.declared.no.Fault.TheVariants as fault
 use Rattle.em_reading.specs.declared.no.RuleNo.TheVariants.{Recipe, Static}
 use Rattle.em_reading.specs.declared.no.ReadNo.{ReadNo}
-use Rattle.em_reading.specs.declared.no.ReadNo.TheVariants as no
 use Rattle.em_reading.specs.declared.reading.Reading.{Reading}
 use Rattle.em_reading.specs.declared.reading.Body.{Body}
 use Rattle.em_reading.specs.Faults.{at_place}
@@ -53,12 +51,21 @@ with_vars r vars = record r { book = record r.book { vars = vars } }
 abbrev pub warning : Place → List ℕ → List ℕ
 warning p target = p.file ++ 58 ∷ decimal p.line ++ codes ": warning: overriding recipe for target '" ++ target ++ codes "'" ++ 10 ∷ []
 
--- for each target of the rule that has a recipe from another rule already
+-- for a target that has a recipe from another rule already
 abbrev pub warning_for : Book → Place → List ℕ → List ℕ
 warning_for b p target = if is_some (recipe_rule b.rules target) then warning p target else []
 
+-- the names, and behind them the target, unless it is among them
+abbrev pub once_more : List (List ℕ) → List ℕ → List (List ℕ)
+once_more names target = if is_in names target then names else names ++ target ∷ []
+
+-- the targets, each where it first stands
+abbrev pub each_once : List (List ℕ) → List (List ℕ)
+each_once targets = fold once_more [] targets
+
+-- where the rule has a recipe, for each of its targets, once
 abbrev pub warnings : Book → Rule → List ℕ
-warnings b rule = if is_some rule.recipe then flat_map (warning_for b rule.place) rule.targets else []
+warnings b rule = if is_some rule.recipe then flat_map (warning_for b rule.place) (each_once rule.targets) else []
 
 abbrev pub say : List ℕ → Reading → Reading
 say t r = record r { spoken = record r.spoken { said = r.spoken.said ++ t } }

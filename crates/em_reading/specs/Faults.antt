@@ -1,5 +1,5 @@
 -- How the refusals of lower layers are called in a reading.
-use Rattle.std.specs.Prelude.{ℕ, Bool, true, false, List, Option, Some, None}
+use Rattle.std.specs.Prelude.{Bool, true, false}
 use Rattle.em_base.specs.declared.place.Place.{Place}
 use Rattle.em_view.specs.declared.no.DeskNo.{DeskNo}
 use Rattle.em_view.specs.declared.no.DeskNo.TheVariants as desk

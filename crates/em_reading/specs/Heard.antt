@@ -17,7 +17,6 @@ use Rattle.em_statement.specs.declared.condition.Condition.TheVariants.{Same, Di
 use Rattle.em_statement.specs.declared.statement.Undefine.{Undefine}
 use Rattle.em_reading.specs.declared.no.Fault.TheVariants as fault
 use Rattle.em_reading.specs.declared.heard.Heard.{Heard}
-use Rattle.em_reading.specs.declared.reading.Reading.{Reading}
 use Rattle.em_reading.specs.Variables.{has_text, assigned, undefined, all_marked, all_unmarked}
 use Rattle.em_reading.specs.Changes.{Change, good, bad, with_vars, enter, other}
 

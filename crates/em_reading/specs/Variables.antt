@@ -2,16 +2,14 @@
 --     assigned vars a name value      after an assignment of this name, whose value is expanded where it has to be
 --     undefined, marked, unmarked     after `undefine`, `export`, `unexport` of a name
 --     has_text vars name              the variable has a text that isn't empty
-use Rattle.std.specs.Prelude.{ℕ, ◌==◌, nat_lt, not, Bool, true, false, List, [], ◌∷◌, ◌++◌, length, fold, map, Option, Some, None, is_some, codes, if◌then◌else◌}
+use Rattle.std.specs.Prelude.{ℕ, ◌==◌, nat_lt, not, Bool, true, false, List, [], ◌∷◌, ◌++◌, length, fold, Option, Some, None, if◌then◌else◌}
 use Rattle.std.specs.Option.{option_map_or}
-use Rattle.std.specs.Str.{bytes_eq}
 use Rattle.em_vars.specs.Entries.{Entries, value_of, with_value, without, keeps, rank}
 use Rattle.em_vars.specs.declared.var.Var.{Var}
 use Rattle.em_vars.specs.declared.var.Flavour.{Flavour}
 use Rattle.em_vars.specs.declared.var.Flavour.TheVariants as flavour
 use Rattle.em_vars.specs.declared.var.Origin.{Origin}
 use Rattle.em_vars.specs.declared.var.Origin.TheVariants as origin
-use Rattle.em_statement.specs.declared.assignment.Assignment.{Assignment}
 use Rattle.em_statement.specs.declared.assignment.Modifiers.{Modifiers}
 use Rattle.em_statement.specs.declared.assignment.Operator.{Operator}
 use Rattle.em_statement.specs.declared.assignment.Operator.TheVariants as operator

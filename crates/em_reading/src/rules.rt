@@ -1,15 +1,18 @@
 //! Rules that are begun and closed.
-ghost use Rattle.std.specs.Prelude.{◌≡◌, ◌++◌, IfOk, OnOk};
+ghost use Rattle.std.specs.Prelude.{◌≡◌, ◌++◌, ◌||◌, ◌&&◌, [], ℕ, List, is_some, IfOk, OnOk, if◌then◌else◌};
 ghost use Rattle.std.specs.List.{flat_map};
+ghost use Rattle.std.specs.Str.{bytes_eq};
+ghost use Rattle.std.specs.FinMap as table;
+ghost use Rattle.em_rules.specs.Rules.{recipe_rule};
 ghost use Rattle.em_rules.specs.Books.{fault_of};
 ghost use Rattle.em_reading.specs.Changes as changes;
-ghost use Rattle.em_reading.specs.Changes.{warning, warning_for, warnings, with_line, recipe_line};
+ghost use Rattle.em_reading.specs.Changes.{warning, warning_for, each_once, warnings, with_line, recipe_line};
 ghost use Rattle.em_reading.specs.Faults.{is_free};
 ghost use Rattle.em_view.specs.Steps.{Works};
 
 use crate::no::{Fault, ReadNo, RuleNo, at};
 use crate::reading::Reading;
-use em_base::{NoMemory, Place, Seq, Text};
+use em_base::{NoMemory, Place, Seq, Table, Text};
 use em_lines::Line;
 use em_rules::{Book, BookNo, RecipeLine, Rule, undotted_rule, unmatched};
 use itoa::Buffer;
@@ -29,45 +32,56 @@ fn add_warning(text: &mut Text, place: &Place, target: &[u8]) -> Result<(), NoMe
     text.add(b"'\n")
 }
 
-/// Appends the warning for a target that has a recipe already.
+/// Appends the warning for a target that has a recipe already, unless it was told of. The table has the targets that were.
 fn add_warning_for(
+    alloc: Global,
     text: &mut Text,
+    told: &mut Table<()>,
     book: &Book,
     place: &Place,
     target: &[u8],
 ) -> Result<(), NoMemory>
-    ensures { OnOk result (text.new ≡ text.old ++ warning_for book.now place.now target.now) }
+    ensures said { OnOk result (text.new ≡ text.old
+        ++ (if is_some (table.get told.old target.now) then []
+        else warning_for book.now place.now target.now)) }
+    ensures told { OnOk result ((q : List ℕ) → is_some (table.get told.new q)
+        ≡ (is_some (table.get told.old q)
+        || (bytes_eq target.now q && is_some (recipe_rule book.now.rules q)))) }
 {
-    if book.rules.recipe_rule(target).is_none() {
+    if told.get(target).is_some() || book.rules.recipe_rule(target).is_none() {
         return Ok(());
     }
-    add_warning(text, place, target)
+    add_warning(text, place, target)?;
+    told.insert(Text::from_slice(alloc, target)?, ())?;
+    Ok(())
 }
 
-/// Appends the warnings for these targets.
+/// Appends the warnings for these targets, one for each, where it first stands. Two searches for each target.
 fn add_warnings(
+    alloc: Global,
     text: &mut Text,
     book: &Book,
     place: &Place,
     targets: &[Text],
 ) -> Result<(), NoMemory>
     ensures { OnOk result
-        (text.new ≡ text.old ++ flat_map (warning_for book.now place.now) targets.now) }
+        (text.new ≡ text.old ++ flat_map (warning_for book.now place.now) (each_once targets.now)) }
 {
+    let mut told = Table::new(alloc);
     for target in targets {
-        add_warning_for(text, book, place, target.bytes())?;
+        add_warning_for(alloc, text, &mut told, book, place, target.bytes())?;
     }
     Ok(())
 }
 
 /// Appends the warnings for a rule.
-fn warn(text: &mut Text, book: &Book, rule: &Rule) -> Result<(), NoMemory>
+fn warn(alloc: Global, text: &mut Text, book: &Book, rule: &Rule) -> Result<(), NoMemory>
     ensures { OnOk result (text.new ≡ text.old ++ warnings book.now rule.now) }
 {
     if rule.recipe.is_none() {
         return Ok(());
     }
-    add_warnings(text, book, &rule.place, rule.targets.items())
+    add_warnings(alloc, text, book, &rule.place, rule.targets.items())
 }
 
 /// The rule with one recipe line more.
@@ -115,7 +129,7 @@ impl Reading {
     fn add_rule(&mut self, alloc: Global, rule: Rule) -> Result<(), ReadNo>
         ensures { Works is_free self.old self.new result (changes.add_rule rule (fault_of rule)) }
     {
-        warn(&mut self.spoken.said, &self.book, &rule)?;
+        warn(alloc, &mut self.spoken.said, &self.book, &rule)?;
         let place = rule.place.copy(alloc)?;
         match self.book.add(rule) {
             Ok(()) => Ok(()),

@@ -284,7 +284,7 @@ type Made = (
     u32,
 );
 
-const MAKEFILES: [Made; 14] = [
+const MAKEFILES: [Made; 15] = [
     (
         b"a: b | c\n\techo 1\n# no end\n\n\techo 2\n",
         1,
@@ -299,6 +299,14 @@ const MAKEFILES: [Made; 14] = [
         2,
         b"",
         b"Makefile:3: warning: overriding recipe for target 'b'\n",
+        b"a",
+        0,
+    ),
+    (
+        b"a e:\n\t1\ne a e:\n\t2\n",
+        2,
+        b"",
+        b"Makefile:3: warning: overriding recipe for target 'e'\nMakefile:3: warning: overriding recipe for target 'a'\n",
         b"a",
         0,
     ),

@@ -1,6 +1,6 @@
-use Rattle.std.proofs.Common.{◌≡◌, ◌∙◌, ap, add-one, []}
-use Rattle.std.specs.Prelude.{fold, slice_get, take}
-use Rattle.em_reading.specs.Start.{given_one, given_at}
+use Rattle.std.proofs.Common.{◌∙◌, ap, add-one, []}
+use Rattle.std.specs.Prelude.{slice_get}
+use Rattle.em_reading.specs.Start.{given_at}
 use Rattle.em_reading.proofs.Giving.{one_more}
 use Rattle.em_reading.proofs.begin.given.Goals as goal
 
