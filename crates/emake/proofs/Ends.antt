@@ -1,19 +1,30 @@
 -- The ends of a run: what limits say of its image, and what its calls come to.
 --     failed-so          a refusal of the image is what reading gives
 --     base-bound         the greatest stamp of an image that is read
---     headline           a run that followed its course keeps the headline
-use Rattle.std.proofs.Common.{◌≡◌, ℕ, ◌<◌, ◌≤◌, ◌^◌, Bool, true, false, cond, ◌||◌, List, [], ◌∷◌, ◌++◌, ◌==◌, length, take, map, Option, Some, None, Result, Ok, Err, nat_lt, refl, sym, ap, subst, ◌∙◌, inl, inr, ◌⊎◌, ⊎_elim, arith}
+--     entered_dir, book_ok ..      what the parts of a project come to
+--     reaches            a run that gave a project and built it
+--     stops              a run that gave none
+--     headline           a run that reached its ending keeps the headline
+use Rattle.std.proofs.Common.{◌≡◌, ◌≢◌, ℕ, ◌<◌, ◌≤◌, ◌^◌, Bool, true, false, cond, ◌||◌, List, [], ◌∷◌, ◌++◌, ◌==◌, length, take, map, Option, Some, None, Result, Ok, Err, nat_lt, refl, sym, ap, subst, ◌∙◌, inl, inr, ◌⊎◌, ⊎_elim, arith}
+use Rattle.std.specs.Prelude.{IfOk, IsErr, IsErrAnd}
 use Rattle.std.specs.List.{list_any}
-use Rattle.std.specs.FinMap.{entries}
+use Rattle.std.specs.FinMap.{entries, get}
 use Rattle.std.proofs.lemmas.Bool.{false≢true}
 use Rattle.em_host.specs.declared.call.Call.{Call}
 use Rattle.em_host.specs.declared.call.Call.TheVariants.{Take, Replace, Print}
 use Rattle.em_host.specs.Outside.{Files, Outside, Tells}
 use Rattle.em_host.specs.Calls.{files_after, Makes, MakesFront, FailsIn}
-use Rattle.em_host.proofs.Telling.{Tells-weaken, IsQuiet, LastReplaces, quiet_then, quiet_both, front_printed, fails_printed, front_files, fails_files}
-use Rattle.em_tree.specs.Trees.{Table, greatest, base_of, stamp_in}
+use Rattle.em_host.proofs.Telling.{Tells-then, Tells-weaken, Tells-same, IsQuiet, LastReplaces, front_none, quiet_then, quiet_both, front_printed, fails_printed, front_files, fails_files}
+use Rattle.em_tree.specs.Trees.{Table, greatest, base_of, kind_of, stamp_in}
+use Rattle.em_view.specs.Actions.{snapshot}
+use Rattle.em_reader.specs.Makefiles as makefiles
 use Rattle.em_tree.specs.declared.node.Node.{Node}
+use Rattle.em_tree.specs.declared.node.Kind.{Kind}
+use Rattle.em_tree.specs.declared.node.Kind.TheVariants as kind
 use Rattle.em_tree.specs.declared.state.State.{State}
+use Rattle.em_path.specs.declared.path.PathNo.{PathNo}
+use Rattle.em_path.specs.Paths.{root_text}
+use Rattle.em_path.specs.Reading.{read_fault, resolved_text}
 use Rattle.em_image.specs.Image.{limits, broken, is_too_late, is_too_big, entries_text, writing}
 use Rattle.em_image.specs.Parts.{Fails}
 use Rattle.em_image.specs.declared.no.ImageNo.{ImageNo}
@@ -21,25 +32,28 @@ use Rattle.em_image.specs.declared.no.ImageNo.TheVariants as no
 use Rattle.em_image.specs.declared.no.Which.{Which}
 use Rattle.em_image.specs.declared.no.Which.TheVariants as which
 use Rattle.em_image.specs.Reading.{reading}
-use Rattle.em_simple.specs.declared.job.Job.{Job}
-use Rattle.em_simple.specs.declared.makefile.Rule.{Rule}
-use Rattle.em_simple.specs.declared.plan.Planned.{Planned}
-use Rattle.em_simple.specs.Reading.{read_makefile}
-use Rattle.em_simple.specs.Plan.{serial_order}
-use Rattle.emake.specs.declared.build.Makefile.{Makefile}
-use Rattle.emake.specs.declared.serial.Ran.{Ran}
+use Rattle.em_cmdline.specs.declared.order.Order.{Order}
+use Rattle.em_cmdline.specs.declared.order.WordNo.{WordNo}
+use Rattle.em_cmdline.specs.Words.{refusal, order_of}
+use Rattle.em_rules.specs.declared.book.Book.{Book}
+use Rattle.em_reading.specs.declared.no.ReadNo.{ReadNo}
+use Rattle.em_plan.specs.declared.no.PlanNo.{PlanNo}
+use Rattle.em_plan.specs.declared.planned.Plan.{Plan}
+use Rattle.em_plan.specs.Plans.{plan_of}
+use Rattle.em_run.specs.Serial.{Made, outputs_of, state_after}
+use Rattle.emake.specs.declared.project.Project.{Project}
 use Rattle.emake.specs.declared.verdict.Verdict.{Verdict}
-use Rattle.emake.specs.declared.verdict.Verdict.TheVariants.{Done, Faulty, Refused, Spent}
+use Rattle.emake.specs.declared.verdict.Verdict.TheVariants.{Done, Outdated, Faulty, Refused, Spent}
 use Rattle.emake.specs.declared.stop.Stop.{Stop}
 use Rattle.emake.specs.declared.stop.Stop.TheVariants.{End, Failed, NoMemory}
-use Rattle.emake.specs.declared.words.Order.{Order}
 use Rattle.emake.specs.Closing.{code_of, status_of, closing}
-use Rattle.emake.specs.Course.{Trace, Course, go_on, ◌>>=◌, done, quit, say, say_all, take as take_file, keep, stop, Ends, RunsOut, Meets, Follows}
-use Rattle.emake.specs.Endings.{as_ordered, ordered, as_found, image_in, as_read, tree_of, with_rules, as_makefile, makefile_of, as_jobs, planned, spoken, built, closed, finish, ended, makefile_in, image_line}
-use Rattle.emake.specs.Messages.{too_many_jobs}
-use Rattle.em_simple.specs.Jobs.{jobs_of}
-use Rattle.emake.specs.Headline.{verdict_of, exit_status, IsCut, Comes, Headline}
-use Rattle.emake.specs.Words.{order_of}
+use Rattle.emake.specs.Course.{Trace, Course, go_on, ◌>>=◌, done, quit, print, prints, say, say_all, take as take_file, keep, stop, Ends, RunsOut, Meets, Follows}
+use Rattle.emake.specs.Messages.{bad_words, image_line, dir_line, read_line}
+use Rattle.emake.specs.Words.{is_supported, supported, as_ordered, ordered, image_name}
+use Rattle.emake.specs.Projects.{as_found, image_in, as_read, tree_of, no_dir, as_dir, as_path, entered, start_of, as_book, book_of, as_plan, planned, site, assembled, project}
+use Rattle.emake.specs.Endings.{closed, written, finish, is_early, is_whole, broken_off, after_jobs, building, Builds, ended}
+use Rattle.emake.specs.Headline.{verdict_of, exit_status, IsCut, Comes, Built, HasRun, HasRunWhole, Reaches, Headline}
+use Rattle.emake.proofs.Following.{then_does, leave_does}
 
 -- an answer other than want of memory is what reading gives
 pub failed-so : {Y : Type 0} (e : ImageNo) (read : Result Y ImageNo) → (e ≡ no.NoMemory → ⊥) → Fails e read → read ≡ Err e
@@ -83,12 +97,6 @@ base-bound t e =
     (last_of_four (nat_lt limits.image (length (entries_text (entries t)))) (nat_lt limits.nodes (length (entries t))) (list_any (is_too_big limits) (entries t)) (list_any (is_too_late limits) (entries t))
     which.Image which.Nodes which.File which.Stamp e)
 
-pub less_false : (m n : ℕ) → n ≤ m → nat_lt m n ≡ false
-less_false m n le = grind (arith, le)
-
-pub less_true : (m n : ℕ) → m < n → nat_lt m n ≡ true
-less_true m n lt = grind (arith, lt)
-
 -- ---- no call of a run but the last one replaces a file
 
 quiet_last : (calls : List Call) → IsQuiet calls → LastReplaces calls
@@ -126,9 +134,16 @@ quiet_stop : (A : Type 0) (text : List ℕ) (verdict : Verdict) (files : Files) 
 unfolding quit
 quiet_stop A text verdict files = quiet (say text) (λ u. quit {A = A} verdict) files (quiet_say text files) (λ u f. tt)
 
-quiet_ordered : (order : Option Order) (files : Files) → IsQuiet (as_ordered order files).calls
-quiet_ordered None files = quiet_stop _ _ Faulty files
-quiet_ordered (Some order) files = quiet_done order files
+quiet_supported : (order : Order) (files : Files) → IsQuiet (supported order files).calls
+quiet_supported order files = elim (is_supported order) as (λ b. IsQuiet (cond b (done order) (stop bad_words Faulty) files).calls) [ true ↦ quiet_done order files | false ↦ quiet_stop _ _ Faulty files ]
+
+quiet_ordered : (no : Option WordNo) (order : Order) (files : Files) → IsQuiet (as_ordered no order files).calls
+quiet_ordered None order files = quiet_supported order files
+quiet_ordered (Some e) order files = quiet_stop _ _ Faulty files
+
+quiet_name : (name : Option (List ℕ)) (files : Files) → IsQuiet (image_name name files).calls
+quiet_name None files = quiet_stop _ _ Faulty files
+quiet_name (Some name) files = quiet_done name files
 
 quiet_found : (bytes : Option (List ℕ)) (files : Files) → IsQuiet (as_found bytes files).calls
 quiet_found None files = quiet_stop _ _ Faulty files
@@ -142,49 +157,212 @@ quiet_read : (read : Result Table ImageNo) (files : Files) → IsQuiet (as_read 
 quiet_read (Ok tree) files = quiet_done tree files
 quiet_read (Err e) files = quiet_stop _ _ Faulty files
 
-quiet_rules : (name : List ℕ) (rules : Result (List Rule) ℕ) (files : Files) → IsQuiet (with_rules name rules files).calls
-quiet_rules name (Err line) files = quiet_stop _ _ Faulty files
-quiet_rules name (Ok rules) files = quiet_done _ files
+quiet_dir : (name path : List ℕ) (k : Kind) (files : Files) → IsQuiet (as_dir name path k files).calls
+quiet_dir name path kind.Dir files = quiet_done path files
+quiet_dir name path kind.File files = quiet_stop _ _ Faulty files
+quiet_dir name path kind.Absent files = quiet_stop _ _ Faulty files
 
-quiet_makefile : (file : Option (List ℕ × List ℕ)) (files : Files) → IsQuiet (as_makefile file files).calls
-quiet_makefile None files = quiet_done _ files
-quiet_makefile (Some file) files = quiet_rules file.0 (read_makefile file.1) files
+quiet_path : (t : Table) (name : List ℕ) (no : Option PathNo) (files : Files) → IsQuiet (as_path t name no files).calls
+quiet_path t name None files = quiet_dir name _ _ files
+quiet_path t name (Some e) files = quiet_stop _ _ Faulty files
 
-quiet_jobs : (rules : List Rule) (order : List Planned) (files : Files) → IsQuiet (as_jobs rules order files).calls
-quiet_jobs rules order files = elim (nat_lt 65536 (length order)) as (λ b. IsQuiet (cond b (stop too_many_jobs Faulty) (done (jobs_of rules order)) files).calls) [ true ↦ quiet_stop _ _ Faulty files | false ↦ quiet_done _ files ]
+quiet_book : (read : Result (Book × List ℕ) (ReadNo × List ℕ)) (files : Files) → IsQuiet (as_book read files).calls
+quiet_book (Ok p) files = quiet (say p.1) _ files (quiet_say p.1 files) (λ u f. quiet_done p.0 f)
+quiet_book (Err p) files = quiet (say p.1) _ files (quiet_say p.1 files) (λ u f. quiet_stop _ _ Faulty f)
 
-quiet_all : {A : Type 0} (texts : List (List ℕ)) (a : A) (files : Files) → IsQuiet (say_all texts a files).calls
-quiet_all [] a files = quiet_done a files
-quiet_all (text ∷ texts) a files = quiet (say text) (λ u. say_all texts a) files (quiet_say text files) (λ u f. quiet_all texts a f)
+quiet_plan : (found : Bool) (plan : Result Plan PlanNo) (files : Files) → IsQuiet (as_plan found plan files).calls
+quiet_plan found (Ok plan) files = quiet (say plan.notes) _ files (quiet_say plan.notes files) (λ u f. quiet_done plan f)
+quiet_plan found (Err e) files = quiet_stop _ _ Faulty files
+
+quiet_site : (words : List (List ℕ)) (files : Files) → IsQuiet (site words files).calls
+quiet_site words files =
+    quiet (ordered words) _ files (quiet_ordered (refusal words) (order_of words) files) (λ order f.
+    quiet (image_name order.image) _ f (quiet_name order.image f) (λ image g.
+    quiet (image_in image) _ g (quiet_image image g) (λ bytes h.
+    quiet (tree_of bytes) _ h (quiet_read (reading limits bytes) h) (λ tree i.
+    quiet (entered tree order.dir) _ i (quiet_path tree order.dir (read_fault root_text order.dir) i) (λ cwd j.
+    quiet_done _ j)))))
+
+quiet_project : (words : List (List ℕ)) (files : Files) → IsQuiet (project words files).calls
+quiet_project words files =
+    quiet (site words) _ files (quiet_site words files) (λ s f.
+    quiet (book_of s.order s.start) _ f (quiet_book _ f) (λ book g.
+    quiet (planned book s.order s.start.tree s.cwd) _ g (quiet_plan book.found _ g) (λ plan h.
+    quiet_done _ h)))
+
+quiet_prints : (texts : List (List ℕ)) → IsQuiet (prints texts)
+unfolding say
+quiet_prints [] = tt
+quiet_prints (t ∷ ts) = quiet_both (print t) (prints ts) (elim (length t == 0) as (λ b. IsQuiet (cond b [] (Print t ∷ []))) [ true ↦ tt | false ↦ tt ]) (quiet_prints ts)
+
+quiet_all : (texts : List (List ℕ)) (files : Files) → IsQuiet (say_all texts files).calls
+unfolding say_all
+quiet_all texts files = quiet_prints texts
 
 last_kept : (image bytes : List ℕ) (verdict : Verdict) (files : Files) → LastReplaces ((keep image bytes >>= (λ (u : Unit {0}). done verdict)) files).calls
 unfolding keep done ◌>>=◌
 last_kept image bytes verdict files = refl
 
 last_closed : (image text : List ℕ) (s : State) (written : Result (List ℕ) ImageNo) (files : Files) → LastReplaces (closed image text s written files).calls
-last_closed image text s (Ok bytes) files = last (say text) (λ u. keep image bytes >>= (λ (v : Unit {0}). done (status_of false s.outcomes))) files (quiet_say text files) (λ u f. last_kept image bytes (status_of false s.outcomes) f)
-last_closed image text s (Err e) files = quiet_last (closed image text s (Err e) files).calls (quiet (say (text ++ image_line e)) (λ u. done (status_of true s.outcomes)) files (quiet_say (text ++ image_line e) files) (λ u f. quiet_done (status_of true s.outcomes) f))
+last_closed image text s (Ok bytes) files = last (say text) _ files (quiet_say text files) (λ u f. last_kept image bytes (status_of false false s.outcomes) f)
+last_closed image text s (Err e) files = quiet_last (closed image text s (Err e) files).calls (quiet (say (text ++ image_line e)) _ files (quiet_say (text ++ image_line e) files) (λ u f. quiet_done (status_of false true s.outcomes) f))
 
-last_ended : (words : List (List ℕ)) (files : Files) → LastReplaces (ended words files).calls
-last_ended words files =
-    last (ordered words) _ files (quiet_ordered (order_of words) files) (λ order f.
-    last (image_in order.image) _ f (quiet_image order.image f) (λ bytes g.
-    last (tree_of bytes) _ g (quiet_read (reading limits bytes) g) (λ tree h.
-    last (makefile_of tree) _ h (quiet_makefile (makefile_in tree) h) (λ makefile i.
-    last (planned makefile.rules order.goal) _ i (quiet_jobs makefile.rules (serial_order makefile.rules order.goal) i) (λ jobs j.
-    last (built tree makefile.name jobs) _ j (quiet_all _ _ j) (λ ran k.
-    last_closed order.image _ ran.state (writing limits ran.state.tree) k))))))
+last_done : {A : Type 0} (a : A) (files : Files) → LastReplaces (done a files).calls
+last_done a files = quiet_last (done a files).calls (quiet_done a files)
+
+last_finish : (order : Order) (image : List ℕ) (plan : Plan) (early : Bool) (s : State) (files : Files) → LastReplaces (finish order image plan early s files).calls
+last_finish order image plan early s files = by_case order.question
+  where
+    by_case : (b : Bool) → LastReplaces (cond b (done (status_of true false s.outcomes)) (closed image (closing order.silent plan s.outcomes early) s (written s)) files).calls
+    by_case true = last_done _ files
+    by_case false = last_closed image _ s (written s) files
+
+module _ (p : Project) (made : List Made) where
+  last_after : (files : Files) → LastReplaces (after_jobs p made files).calls
+  last_after files = by_case (is_whole p made)
+    where
+      by_case : (b : Bool) → LastReplaces (cond b (finish p.order p.image p.plan (is_early p made) (state_after p.start made)) broken_off files).calls
+      by_case true = last_finish p.order p.image p.plan (is_early p made) (state_after p.start made) files
+      by_case false = last_done Faulty files
+
+  last_building : (files : Files) → LastReplaces (building p made files).calls
+  last_building files = last (say_all (outputs_of made)) _ files (quiet_all (outputs_of made) files) (λ u f. last_after f)
+
+last_ended : (words : List (List ℕ)) (made : List Made) (files : Files) → LastReplaces (ended words made files).calls
+last_ended words made files = last (project words) _ files (quiet_project words files) (λ p f. last_building p made f)
+
+-- ---- the parts of a project
+
+-- a directory, another kind, and no path
+pub entered_dir : (t : Table) (name path : List ℕ) → read_fault root_text name ≡ None → path ≡ resolved_text root_text name → kind_of (get t path) ≡ kind.Dir → entered t name ≡ done path
+entered_dir t name path none is dir =
+    ap (as_path t name) none ∙ ap (as_dir name (resolved_text root_text name)) (ap (λ (p : List ℕ). kind_of (get t p)) (sym is) ∙ dir) ∙ ap done (sym is)
+
+other_kind : (name path : List ℕ) (k : Kind) → (k ≡ kind.Dir → ⊥) → as_dir name path k ≡ no_dir name
+other_kind name path kind.Dir other = absurd (other refl)
+other_kind name path kind.File other = refl
+other_kind name path kind.Absent other = refl
+
+pub entered_other : (t : Table) (name path : List ℕ) → read_fault root_text name ≡ None → path ≡ resolved_text root_text name → (kind_of (get t path) ≡ kind.Dir → ⊥) → entered t name ≡ no_dir name
+entered_other t name path none is other =
+    ap (as_path t name) none ∙ other_kind name _ _ (λ (dir : kind_of (get t (resolved_text root_text name)) ≡ kind.Dir). other (ap (λ (p : List ℕ). kind_of (get t p)) is ∙ dir))
+
+pub entered_none : (t : Table) (name : List ℕ) (e : PathNo) → read_fault root_text name ≡ Some e → entered t name ≡ no_dir name
+entered_none t name e named = ap (as_path t name) named
+
+abbrev pub reading_from : Order → State → List ℕ → Result (Book × List ℕ) (ReadNo × List ℕ)
+reading_from order start said = (makefiles.reading order (resolved_text root_text order.dir) [] said (snapshot start) makefiles.fresh).0
+
+-- what was said before is nothing
+pub book_ok : (order : Order) (start : State) (book : Book) (none said : List ℕ) → none ≡ [] → (let r : Result (Book × List ℕ) (ReadNo × List ℕ) = Ok (book, said) in r ≡ reading_from order start none)
+    → book_of order start ≡ (say said >>= (λ (u : Unit {0}). done book))
+book_ok order start book none said empty e = ap as_book (sym (e ∙ ap (reading_from order start) empty))
+
+pub book_err : (order : Order) (start : State) (fault : ReadNo) (none said : List ℕ) → none ≡ [] → (let r : Result (Book × List ℕ) (ReadNo × List ℕ) = Err (fault, said) in r ≡ reading_from order start none)
+    → book_of order start ≡ (say said >>= (λ (u : Unit {0}). stop (read_line fault) Faulty))
+book_err order start fault none said empty e = ap as_book (sym (e ∙ ap (reading_from order start) empty))
+
+pub if_err : {A E : Type 0} (P : A → Type 0) (r : Result A E) → IsErr r → IfOk r P
+if_err P (Ok a) h = absurd (false≢true h)
+if_err P (Err e) h = tt
+
+-- ---- behind the project nothing is refused
+
+abbrev IsCalm : {A : Type 0} → Course A → Type 0
+IsCalm m = (files : Files) (verdict : Verdict) → (m files).end ≡ Err verdict → ⊥
+
+module _ {A B : Type 0} (m : Course A) (k : A → Course B) where
+  calm_on : (calls : List Call) (end : Result A Verdict) (files : Files) → ((verdict : Verdict) → end ≡ Err verdict → ⊥) → ((a : A) → IsCalm (k a)) → (verdict : Verdict) → (go_on calls end k files).end ≡ Err verdict → ⊥
+  calm_on calls (Ok a) files here later verdict e = later a (files_after calls files) verdict e
+  calm_on calls (Err v) files here later verdict e = here v refl
+
+  calm : IsCalm m → ((a : A) → IsCalm (k a)) → IsCalm (m >>= k)
+  unfolding ◌>>=◌
+  calm here later files verdict e = calm_on (m files).calls (m files).end files (here files) later verdict e
+
+ok_err : {A E : Type 0} {a : A} {e : E} → let x : Result A E = Ok a in let y : Result A E = Err e in x ≡ y → ⊥
+ok_err e = cc
+
+calm_done : {A : Type 0} (a : A) → IsCalm (done a)
+unfolding done
+calm_done a files verdict e = ok_err e
+
+calm_say : (text : List ℕ) → IsCalm (say text)
+unfolding say
+calm_say text files verdict e = ok_err e
+
+calm_all : (texts : List (List ℕ)) → IsCalm (say_all texts)
+unfolding say_all
+calm_all texts files verdict e = ok_err e
+
+calm_keep : (image bytes : List ℕ) → IsCalm (keep image bytes)
+unfolding keep
+calm_keep image bytes files verdict e = ok_err e
+
+calm_closed : (image text : List ℕ) (s : State) (written : Result (List ℕ) ImageNo) → IsCalm (closed image text s written)
+calm_closed image text s (Ok bytes) = calm (say text) _ (calm_say text) (λ u. calm (keep image bytes) _ (calm_keep image bytes) (λ v. calm_done _))
+calm_closed image text s (Err e) = calm (say (text ++ image_line e)) _ (calm_say _) (λ u. calm_done _)
+
+calm_if : {A : Type 0} (b : Bool) (m n : Course A) → IsCalm m → IsCalm n → IsCalm (cond b m n)
+calm_if true m n p q = p
+calm_if false m n p q = q
+
+calm_finish : (order : Order) (image : List ℕ) (plan : Plan) (early : Bool) (s : State) → IsCalm (finish order image plan early s)
+calm_finish order image plan early s = calm_if order.question _ _ (calm_done _) (calm_closed image _ s (written s))
+
+calm_building : (p : Project) (made : List Made) → IsCalm (building p made)
+calm_building p made =
+    calm (say_all (outputs_of made)) _ (calm_all (outputs_of made))
+    (λ u. calm_if (is_whole p made) _ _ (calm_finish p.order p.image p.plan (is_early p made) (state_after p.start made)) (calm_done Faulty))
+
+-- ---- from the parts to the run
+
+ok_same : {A E : Type 0} {a b : A} → let x : Result A E = Ok a in let y : Result A E = Ok b in x ≡ y → a ≡ b
+ok_same e = cc
+
+if_ok : {A E : Type 0} {P Q : Type 0} (r : Result A E) → (P → Q) → IfOk r (λ a. P) → IfOk r (λ a. Q)
+if_ok (Ok a) f h = f h
+if_ok (Err e) f h = tt
+
+-- the project was given, and was built
+pub reaches : (words : List (List ℕ)) {p : Project} {r : Result Verdict Stop} {a b c : Option Outside} → Follows (project words) (Ok p) a b → Builds p r b c → Tells (Reaches words r) a c
+unfolding ◌>>=◌
+reaches words {p} {r} {a} {b} {c} given built = Tells-then a b c
+    (λ x y z h i.
+    let it : (q : Project) → (project words x.files).end ≡ Ok q → p ≡ q = λ q e. ok_same (sym h.same ∙ e) in
+    let res : Reaches words r x z = record {
+      made = built.made;
+      ran = λ q e. subst (HasRun built.made) (it q e) built.ran;
+      whole = if_ok r (λ whole q e. subst (HasRunWhole built.made) (it q e) whole) built.whole;
+      meets = then_does (λ q. building q built.made) (project words x.files) p r x y z h i;
+    } in res)
+    given.told built.follows.told
+
+-- no project was given
+pub stops : (words : List (List ℕ)) (r : Result Verdict Stop) {e : Stop} {a b : Option Outside} → IsErrAnd r (λ s. s ≡ e) → Follows (project words) (Err e) a b → Tells (Reaches words r) a b
+unfolding ◌>>=◌
+stops words (Ok v) is given = absurd is
+stops words (Err s) {e} {a} {b} is given = Tells-weaken a b
+    (λ x y h. let res : Reaches words (Err s) x y = record {
+      made = [];
+      ran = λ q given. tt;
+      whole = tt;
+      meets = subst (λ (t : Stop). Meets (ended words [] x.files) (Err t) x y) (sym is) (leave_does (λ q. building q []) (project words x.files) e x y h);
+    } in res)
+    given.told
 
 -- ---- the headline
 
 not_3 : (verdict : Verdict) → code_of verdict ≡ 3 → ⊥
 not_3 Done e = omega arith
+not_3 Outdated e = omega arith
 not_3 Faulty e = omega arith
 not_3 Refused e = omega arith
 not_3 Spent e = omega arith
 
 not_7 : (verdict : Verdict) → code_of verdict ≡ 7 → ⊥
 not_7 Done e = omega arith
+not_7 Outdated e = omega arith
 not_7 Faulty e = omega arith
 not_7 Refused e = omega arith
 not_7 Spent e = omega arith
@@ -222,11 +400,31 @@ comes_short steps x y last p = record {
   cut = λ e. cut_short steps.calls x y last p;
 }
 
-comes : (words : List (List ℕ)) (r : Result Verdict Stop) (x y : Outside) → Meets (ended words x.files) r x y → Headline words (exit_status r) x y
-comes words (Ok verdict) x y p = comes_whole (ended words x.files) (Ok verdict) x y p
-comes words (Err (End verdict)) x y p = comes_whole (ended words x.files) (Err verdict) x y p
-comes words (Err Failed) x y p = comes_failed (ended words x.files) x y (last_ended words x.files) p
-comes words (Err NoMemory) x y p = comes_short (ended words x.files) x y (last_ended words x.files) p
+comes : (words : List (List ℕ)) (made : List Made) (r : Result Verdict Stop) (x y : Outside) → Meets (ended words made x.files) r x y → Comes (ended words made x.files) (exit_status r) x y
+comes words made (Ok verdict) x y p = comes_whole (ended words made x.files) (Ok verdict) x y p
+comes words made (Err (End verdict)) x y p = comes_whole (ended words made x.files) (Err verdict) x y p
+comes words made (Err Failed) x y p = comes_failed (ended words made x.files) x y (last_ended words made x.files) p
+comes words made (Err NoMemory) x y p = comes_short (ended words made x.files) x y (last_ended words made x.files) p
 
-pub headline : (words : List (List ℕ)) {r : Result Verdict Stop} {a b : Option Outside} → Follows (ended words) r a b → Tells (Headline words (exit_status r)) a b
-headline words {r} {a} {b} p = Tells-weaken a b (comes words r) p.told
+-- a run that ended with a verdict before its end gave no project
+no_end : (words : List (List ℕ)) (made : List Made) (verdict : Verdict) (x y : Outside) → Ends (ended words made x.files) (Err verdict) x y → (p : Project) → (project words x.files).end ≡ Ok p → ⊥
+unfolding ◌>>=◌
+no_end words made verdict x y h p e =
+    let behind : (go_on (project words x.files).calls (Ok p) (λ q. building q made) x.files).end ≡ Err verdict =
+    subst (λ (end : Result Project Verdict). (go_on (project words x.files).calls end (λ q. building q made) x.files).end ≡ Err verdict) e h.same in
+    calm_building p made (files_after (project words x.files).calls x.files) verdict behind
+
+whole_at : (words : List (List ℕ)) (r : Result Verdict Stop) (x y : Outside) (p : Reaches words r x y) → exit_status r ≢ 3 → exit_status r ≢ 7 → Built words x.files (HasRunWhole p.made)
+whole_at words (Ok verdict) x y p a b = p.whole
+whole_at words (Err (End verdict)) x y p a b = λ q e. absurd (no_end words p.made verdict x y p.meets q e)
+whole_at words (Err Failed) x y p a b = absurd (a refl)
+whole_at words (Err NoMemory) x y p a b = absurd (b refl)
+
+pub headline : (words : List (List ℕ)) (r : Result Verdict Stop) (a b : Option Outside) → Tells (Reaches words r) a b → Tells (Headline words (exit_status r)) a b
+headline words r a b p = Tells-weaken a b
+    (λ x y h. let res : Headline words (exit_status r) x y = record { made = h.made; ran = h.ran; whole = whole_at words r x y h; comes = comes words h.made r x y h.meets } in res) p
+
+-- want of memory before the first call
+pub headline_none : (words : List (List ℕ)) (a : Option Outside) → Tells (Headline words 7) a a
+headline_none words a = headline words (Err NoMemory) a a (Tells-same (Reaches words (Err NoMemory)) a
+    (λ x. let res : Reaches words (Err NoMemory) x x = record { made = []; ran = λ q given. tt; whole = tt; meets = inl (front_none (ended words [] x.files).calls x) } in res))

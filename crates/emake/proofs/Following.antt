@@ -4,9 +4,10 @@
 --     finish, quits      no call, and a value or a status
 --     ran_out, out       want of memory before any call, at a `?` and where it is returned
 --     said, said_nothing, not_said ..      the calls, and each that failed
---     more, halt, over   the turns of a loop whose invariant is in continuation form
-use Rattle.std.proofs.Common.{◌≡◌, ℕ, Bool, true, false, cond, ◌==◌, List, [], ◌∷◌, ◌++◌, length, Option, Some, None, Result, Ok, Err, refl, sym, ap, subst, ◌∙◌, inl, inr, ⊎_elim, append-nil}
+--     said_none, said_more, cut      no text, one text more, and want of memory behind some texts
+use Rattle.std.proofs.Common.{◌≡◌, ℕ, Bool, true, false, cond, ◌==◌, List, [], ◌∷◌, ◌++◌, length, Option, Some, None, Result, Ok, Err, refl, sym, ap, subst, ◌∙◌, inl, inr, ◌⊎◌, ⊎_elim, append-nil, append_assoc}
 use Rattle.std.specs.Prelude.{IsErrAnd}
+use Rattle.std.specs.List.{flat_map}
 use Rattle.em_host.specs.declared.call.Call.{Call}
 use Rattle.em_host.specs.declared.call.Call.TheVariants.{Take, Replace, Print}
 use Rattle.em_host.specs.declared.no.HostNo.{HostNo}
@@ -17,7 +18,7 @@ use Rattle.em_host.proofs.Telling.{Tells-then, Tells-weaken, Tells-same, Went, m
 use Rattle.emake.specs.declared.verdict.Verdict.{Verdict}
 use Rattle.emake.specs.declared.stop.Stop.{Stop}
 use Rattle.emake.specs.declared.stop.Stop.TheVariants.{End, Failed, NoMemory}
-use Rattle.emake.specs.Course.{Trace, Course, behind, go_on, ◌>>=◌, done, quit, say, take, keep, Ends, RunsOut, Meets, Follows, stop_of}
+use Rattle.emake.specs.Course.{Trace, Course, behind, go_on, ◌>>=◌, done, quit, print, prints, say, say_all, take, keep, Ends, RunsOut, Meets, Follows, faults_after, stop_of}
 
 -- ---- one part, and then another
 
@@ -31,7 +32,7 @@ behind_does calls steps (Err Failed) x y z p q = fails_then true calls steps.cal
 behind_does calls steps (Err NoMemory) x y z p q = ⊎_elim (λ f. inl (front_then calls steps.calls x y z p f)) (λ f. inr (f.0, fails_then f.0 calls steps.calls x y z p f.1)) q
 
 module _ {A B : Type 0} (k : A → Course B) where
-  then_does : (steps : Trace A) (a : A) (r : Result B Stop) (x y z : Outside) → Ends steps (Ok a) x y → Meets (k a y.files) r y z → Meets (go_on steps.calls steps.end k x.files) r x z
+  pub then_does : (steps : Trace A) (a : A) (r : Result B Stop) (x y z : Outside) → Ends steps (Ok a) x y → Meets (k a y.files) r y z → Meets (go_on steps.calls steps.end k x.files) r x z
   then_does steps a r x y z p q =
       subst (λ end. Meets (go_on steps.calls end k x.files) r x z) (sym p.same)
       (behind_does steps.calls (k a (files_after steps.calls x.files)) r x y z p.made (subst (λ f. Meets (k a f) r y z) p.made.files q))
@@ -40,7 +41,7 @@ module _ {A B : Type 0} (k : A → Course B) where
   more_calls calls (Ok a) f P more p = more calls (k a (files_after calls f)).calls p
   more_calls calls (Err verdict) f P more p = p
 
-  leave_does : (steps : Trace A) (e : Stop) (x y : Outside) → Meets steps (Err e) x y → Meets (go_on steps.calls steps.end k x.files) (Err e) x y
+  pub leave_does : (steps : Trace A) (e : Stop) (x y : Outside) → Meets steps (Err e) x y → Meets (go_on steps.calls steps.end k x.files) (Err e) x y
   leave_does steps (End verdict) x y p = subst (λ end. Ends (go_on steps.calls end k x.files) (Err verdict) x y) (sym p.same) (record { same = refl; made = p.made })
   leave_does steps Failed x y p = more_calls steps.calls steps.end x.files (λ c. FailsIn true c x y) (λ a b q. fails_more true a b x y q) p
   leave_does steps NoMemory x y p = more_calls steps.calls steps.end x.files (λ c. RunsOut c x y)
@@ -56,6 +57,21 @@ module _ {A B : Type 0} (k : A → Course B) where
     unfolding ◌>>=◌
     leave {r = Ok b} is p = absurd is
     leave {r = Err s} {e} is p = subst (λ t. Follows (m >>= k) (Err t) x y) (sym is) (record { told = Tells-weaken x y (λ u v h. leave_does (m u.files) e u v h) p.told })
+
+same_faults : (B : Type 0) (e : Stop) (n : ℕ) → faults_after (let a : Result (Unit {0}) Stop = Err e in a) n ≡ faults_after (let b : Result B Stop = Err e in b) n
+same_faults B (End verdict) n = refl
+same_faults B Failed n = refl
+same_faults B NoMemory n = refl
+
+-- the count of faults at a `?`
+pub faults_left : {B : Type 0} (r : Result B Stop) (e : Stop) (k m n : ℕ) → IsErrAnd r (λ s. s ≡ e) → k ≡ faults_after (let a : Result (Unit {0}) Stop = Err e in a) m → m ≡ n → k ≡ faults_after r n
+faults_left (Ok b) e k m n is counted same = absurd is
+faults_left {B} (Err s) e k m n is counted same =
+    counted ∙ ap (faults_after (let a : Result (Unit {0}) Stop = Err e in a)) same ∙ same_faults B e n ∙ ap (λ (t : Stop). faults_after (let b : Result B Stop = Err t in b) n) (sym is)
+
+-- the other one of two
+pub but : {P Q : Type 0} → (P → ⊥) → P ⊎ Q → Q
+but other p = ⊎_elim (λ h. absurd (other h)) (λ h. h) p
 
 -- ---- no call
 
@@ -126,17 +142,25 @@ module _ (name bytes : List ℕ) {x y : Option Outside} where
   unfolding keep
   not_kept e is p = call_failed (Unit {0}) (Replace name bytes) e (Replaces name bytes (Err e)) (λ u v h. replace_went name bytes (Err e) u v h) (λ f. refl) is p
 
--- ---- loops
+-- ---- several texts
 
--- whatever goes on with the rest from here goes on with the whole from the first
-abbrev pub Continues : {A : Type 0} → Option Outside → Option Outside → Course A → Course A → Type 0
-Continues {A} first here whole rest = (new : Option Outside) (r : Result A Stop) → Follows rest r here new → Follows whole r first new
+prints-more : (texts : List (List ℕ)) (text : List ℕ) → prints (texts ++ text ∷ []) ≡ prints texts ++ print text
+prints-more [] text = append-nil (print text)
+prints-more (t ∷ ts) text = ap (λ cs. print t ++ cs) (prints-more ts text) ∙ sym (append_assoc (print t) (prints ts) (print text))
 
-module _ {A B : Type 0} {first here next : Option Outside} {whole : Course B} {m : Course A} (k : A → Course B) where
-  -- a turn gave a value, and the loop goes on
-  pub more : {a : A} → Continues first here whole (m >>= k) → Follows m (Ok a) here next → Continues first next whole (k a)
-  more inv p new r q = inv new r (then k p q)
+pub said_none : {x : Option Outside} → Follows (say_all []) (Ok tt) x x
+unfolding say_all
+said_none {x} = record { told = Tells-same _ x (λ y. record { same = refl; made = makes_none y }) }
 
-  -- a turn broke off at a `?`
-  pub halt : {r : Result B Stop} {e : Stop} → Continues first here whole (m >>= k) → IsErrAnd r (λ s. s ≡ e) → Follows m (Err e) here next → Follows whole r first next
-  halt {r} inv is p = inv next r (leave k is p)
+module _ (texts : List (List ℕ)) {x y : Option Outside} where
+  pub said_more : (text : List ℕ) {r : Result (Unit {0}) Stop} {z : Option Outside} → Follows (say_all texts) (Ok tt) x y → Follows (say text) r y z → Follows (say_all (texts ++ text ∷ [])) r x z
+  unfolding say_all say
+  said_more text {r} {z} p q = record {
+    told = Tells-then x y z
+        (λ u v w h i. subst (λ (cs : List Call). let t : Trace (Unit {0}) = record { calls = cs; end = Ok tt } in Meets t r u w) (sym (prints-more texts text)) (behind_does (prints texts) (say text v.files) r u v w h.made i))
+        p.told q.told;
+  }
+
+  pub cut : Follows (say_all texts) (Ok tt) x y → Follows (say_all texts) (Err NoMemory) x y
+  unfolding say_all
+  cut p = record { told = Tells-weaken x y (λ u v h. inl (record { made = prints texts; left = []; all = sym (append-nil (prints texts)); done = h.made })) p.told }

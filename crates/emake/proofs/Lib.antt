@@ -1,4 +1,5 @@
-pub mod NameLemmas
 pub mod Following
-pub mod Runs
 pub mod Ends
+pub mod Numbers
+pub mod Building
+pub mod Fronts

@@ -3,9 +3,11 @@
 --     done a, quit verdict      no call, and a value or a status
 --     say, take, keep      the three calls; an empty text isn't printed
 --     stop text verdict    a last text is said, and the run ends
+--     say_all texts        several texts, in order
 --     m >>= k              one part, and then another on the files that it leaves
 --     Follows course result ..      a function on a host did what the course says, or broke off on the way
 use Rattle.std.specs.Prelude.{◌≡◌, ℕ, Bool, true, false, ◌==◌, List, [], ◌∷◌, ◌++◌, length, Option, Result, Ok, Err, ◌⊎◌, if◌then◌else◌}
+use Rattle.std.specs.List.{flat_map}
 use Rattle.std.specs.FinMap.{get}
 use Rattle.em_host.specs.declared.call.Call.{Call}
 use Rattle.em_host.specs.declared.call.Call.TheVariants.{Take, Replace, Print}
@@ -44,8 +46,11 @@ done a = λ files. record { calls = []; end = Ok a }
 unfoldable pub quit : {A : Type 0} → Verdict → Course A
 quit verdict = λ files. record { calls = []; end = Err verdict }
 
+abbrev pub print : List ℕ → List Call
+print text = if length text == 0 then [] else Print text ∷ []
+
 unfoldable pub say : List ℕ → Course (Unit {0})
-say text = λ files. record { calls = if length text == 0 then [] else Print text ∷ []; end = Ok tt }
+say text = λ files. record { calls = print text; end = Ok tt }
 
 unfoldable pub take : List ℕ → Course (Option (List ℕ))
 take name = λ files. record { calls = Take name ∷ []; end = Ok (get files name) }
@@ -58,12 +63,12 @@ stop text verdict = do
   u ← say text
   quit verdict
 
--- the texts are said one by one, and then there is the value
-abbrev pub say_all : {A : Type 0} → List (List ℕ) → A → Course A
-say_all [] a = done a
-say_all (text ∷ texts) a = do
-  u ← say text
-  say_all texts a
+-- texts are said one by one
+abbrev pub prints : List (List ℕ) → List Call
+prints texts = flat_map print texts
+
+unfoldable pub say_all : List (List ℕ) → Course (Unit {0})
+say_all texts = λ files. record { calls = prints texts; end = Ok tt }
 
 -- ---- what a function promises that follows a course
 
@@ -72,7 +77,7 @@ pub record Ends {A : Type 0} (steps : Trace A) (end : Result A Verdict) (before 
   pub same : steps.end ≡ end
   pub made : Makes steps.calls before after
 
--- the first calls were made; the next one, if any, was made or lost for want of memory
+-- the first calls were made, and perhaps one more, which answered an error or was lost
 abbrev pub RunsOut : List Call → Outside → Outside → Type 0
 RunsOut calls before after = MakesFront calls before after ⊎ ((is_noted : Bool) × FailsIn is_noted calls before after)
 

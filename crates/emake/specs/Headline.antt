@@ -1,14 +1,21 @@
 -- What `emake` promises over a host that tells its files, what was printed, and its calls.
-use Rattle.std.specs.Prelude.{◌≡◌, ◌≢◌, ℕ, true, List, ◌++◌, take, Result, Ok, Err, ◌⊎◌}
+--     Headline words status before after      there are effects of the jobs in the serial run, such that the run made the ending's calls for
+--                                             them; at the statuses 3 and 7 effects of a front of the jobs, and a front of the calls
+use Rattle.std.specs.Prelude.{◌≡◌, ◌≢◌, ℕ, true, List, ◌++◌, take, Result, Ok, Err, IfOk, ◌⊎◌}
 use Rattle.em_host.specs.declared.call.Call.{Call}
-use Rattle.em_host.specs.Outside.{Outside}
+use Rattle.em_host.specs.Outside.{Outside, Files}
 use Rattle.em_host.specs.Calls.{printed_by, files_after, Makes, FailsIn}
+use Rattle.em_run.specs.Serial.{Made, Ran, IsSerial}
+use Rattle.em_job.specs.Effects as job
+use Rattle.emake.specs.declared.project.Project.{Project}
 use Rattle.emake.specs.declared.verdict.Verdict.{Verdict}
 use Rattle.emake.specs.declared.stop.Stop.{Stop}
 use Rattle.emake.specs.declared.stop.Stop.TheVariants.{End, Failed, NoMemory}
 use Rattle.emake.specs.Closing.{code_of}
-use Rattle.emake.specs.Course.{Trace, RunsOut}
+use Rattle.emake.specs.Course.{Trace, RunsOut, Meets}
 use Rattle.emake.specs.Endings.{ended}
+use Rattle.emake.specs.Projects.{project}
+use Rattle.emake.specs.Serial.{ends}
 
 abbrev pub verdict_of : Result Verdict Verdict → Verdict
 verdict_of (Ok verdict) = verdict
@@ -33,9 +40,30 @@ pub record Comes (ending : Trace Verdict) (code : ℕ) (before after : Outside) 
   pub done : code ≢ 3 → code ≢ 7 → Makes ending.calls before after
   -- at 3 one failed, and nothing was called behind it
   pub failed : code ≡ 3 → FailsIn true ending.calls before after
-  -- at 7 memory ran out between two of them or in one
+  -- at 7 a front of them was made, and perhaps one more call, which answered an error or was lost
   pub short : code ≡ 7 → RunsOut ending.calls before after
   pub cut : (code ≡ 3) ⊎ (code ≡ 7) → IsCut ending.calls before after
 
-abbrev pub Headline : List (List ℕ) → ℕ → Outside → Outside → Type 0
-Headline words status before after = Comes (ended words before.files) status before after
+-- a fact of what there is to build, where nothing is refused before the build
+abbrev pub Built : List (List ℕ) → Files → (Project → Type 0) → Type 0
+Built words files P = (p : Project) → (project words files).end ≡ Ok p → P p
+
+abbrev pub HasRun : List Made → Project → Type 0
+HasRun made p = Ran job.Makes ends p.start p.specs made
+
+abbrev pub HasRunWhole : List Made → Project → Type 0
+HasRunWhole made p = IsSerial job.Makes ends p.start p.specs made
+
+-- the same of what a run answered
+pub record Reaches (words : List (List ℕ)) (result : Result Verdict Stop) (before after : Outside) : Type 0 where
+  pub made : List Made
+  pub ran : Built words before.files (HasRun made)
+  pub whole : IfOk result (λ verdict. Built words before.files (HasRunWhole made))
+  pub meets : Meets (ended words made before.files) result before after
+
+pub record Headline (words : List (List ℕ)) (code : ℕ) (before after : Outside) : Type 0 where
+  -- of each job its effect on the state that the jobs before it left
+  pub made : List Made
+  pub ran : Built words before.files (HasRun made)
+  pub whole : code ≢ 3 → code ≢ 7 → Built words before.files (HasRunWhole made)
+  pub comes : Comes (ended words made before.files) code before after

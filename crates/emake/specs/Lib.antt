@@ -1,9 +1,8 @@
 pub mod Words
 pub mod Messages
-pub mod Effects
-pub mod Serial
-pub mod Turns
 pub mod Course
 pub mod Closing
+pub mod Projects
+pub mod Serial
 pub mod Endings
 pub mod Headline

@@ -1,62 +1,122 @@
--- What `emake` says. FILE is the makefile's name as it was found.
-use Rattle.std.specs.Prelude.{ℕ, List, [], ◌∷◌, ◌++◌, Option, Some, None, codes, decimal}
-use Rattle.em_view.specs.declared.no.FileNo.{FileNo}
-use Rattle.em_view.specs.declared.no.FileNo.TheVariants as file
+-- What `emake` says besides its jobs.
+--     word_line e, image_line e, dir_line name, read_line e, plan_line found e     why there is no build
+--     not_remade, nothing_to_do, up_to_date                                        the closing text's lines
+use Rattle.std.specs.Prelude.{ℕ, Bool, true, false, List, [], ◌++◌, codes, decimal}
+use Rattle.em_base.specs.declared.place.Place.{Place}
+use Rattle.em_cmdline.specs.declared.order.WordNo.{WordNo}
+use Rattle.em_cmdline.specs.declared.order.WordNo.TheVariants as word
+use Rattle.em_image.specs.declared.no.ImageNo.{ImageNo}
+use Rattle.em_image.specs.declared.no.ImageNo.TheVariants as no
+use Rattle.em_image.specs.declared.no.Which.{Which}
+use Rattle.em_image.specs.declared.no.Which.TheVariants as which
+use Rattle.em_reading.specs.declared.no.Fault.{Fault}
+use Rattle.em_reading.specs.declared.no.Fault.TheVariants as fault
+use Rattle.em_reading.specs.declared.no.RuleNo.{RuleNo}
+use Rattle.em_reading.specs.declared.no.RuleNo.TheVariants as rule
+use Rattle.em_reading.specs.declared.no.ReadNo.{ReadNo}
+use Rattle.em_reading.specs.declared.no.ReadNo.TheVariants as read
+use Rattle.em_plan.specs.declared.no.PlanNo.{PlanNo}
+use Rattle.em_plan.specs.declared.no.PlanNo.TheVariants as plan
+use Rattle.em_recipe.specs.Messages.{quoted, fault_text, halted}
 
-abbrev pub newline : List ℕ
-newline = 10 ∷ []
-
+-- the words are none that are read
 abbrev pub bad_words : List ℕ
 bad_words = codes "emake: *** bad words.  Stop.\n"
 
+-- a refusal that ends the run
+abbrev pub stopped : List ℕ → List ℕ
+stopped text = codes "emake: *** " ++ text ++ codes ".  Stop.\n"
+
+abbrev pub word_text : WordNo → List ℕ
+word_text word.Unknown = codes "bad words"
+word_text word.Missing = codes "missing -I"
+word_text (word.BadNumber w) = codes "bad number " ++ quoted w
+word_text (word.BadName w) = codes "bad name " ++ quoted w
+word_text (word.SameName w) = codes "same file " ++ quoted w
+word_text word.NoMemory = []
+
+abbrev pub word_line : WordNo → List ℕ
+word_line e = stopped (word_text e)
+
 abbrev pub no_image : List ℕ
-no_image = codes "emake: *** image: absent.  Stop.\n"
+no_image = stopped (codes "image: absent")
 
-abbrev pub too_many_jobs : List ℕ
-too_many_jobs = codes "emake: *** Too many jobs.  Stop.\n"
+abbrev pub limit_name : Which → List ℕ
+limit_name which.Image = codes "Limit(Image)"
+limit_name which.Nodes = codes "Limit(Nodes)"
+limit_name which.File = codes "Limit(File)"
+limit_name which.Stamp = codes "Limit(Stamp)"
 
--- the line of the makefile that isn't read
-abbrev pub bad_line : List ℕ → ℕ → List ℕ
-bad_line file n = file ++ codes ":" ++ decimal n ++ codes ": *** not read.  Stop.\n"
+abbrev pub fault_name : ImageNo → List ℕ
+fault_name (no.Form at) = codes "Form"
+fault_name (no.Number at) = codes "Number"
+fault_name (no.Path at) = codes "Path"
+fault_name (no.Order at) = codes "Order"
+fault_name (no.Parent at) = codes "Parent"
+fault_name (no.Short at) = codes "Short"
+fault_name (no.Rest at) = codes "Rest"
+fault_name (no.Limit w at) = limit_name w
+fault_name no.NoMemory = []
 
--- by whom a name is needed, if by anyone
-abbrev pub needed_by : Option (List ℕ) → List ℕ
-needed_by None = []
-needed_by (Some n) = codes ", needed by '" ++ n ++ codes "'"
+abbrev pub fault_place : ImageNo → ℕ
+fault_place (no.Form at) = at
+fault_place (no.Number at) = at
+fault_place (no.Path at) = at
+fault_place (no.Order at) = at
+fault_place (no.Parent at) = at
+fault_place (no.Short at) = at
+fault_place (no.Rest at) = at
+fault_place (no.Limit w at) = at
+fault_place no.NoMemory = 0
 
-abbrev pub no_rule : List ℕ → Option (List ℕ) → List ℕ
-no_rule target by = codes "emake: *** No rule to make target '" ++ target ++ codes "'" ++ needed_by by ++ codes ".  Stop.\n"
+abbrev pub image_line : ImageNo → List ℕ
+image_line e = stopped (codes "image: " ++ fault_name e ++ codes " at byte " ++ decimal (fault_place e))
+
+-- the directory that `-C` names
+abbrev pub dir_line : List ℕ → List ℕ
+dir_line name = stopped (name ++ codes ": no such directory")
+
+abbrev pub rule_text : RuleNo → List ℕ
+rule_text rule.Recipe = codes "recipe commences before first target"
+rule_text (rule.Static target) = codes "target " ++ quoted target ++ codes " doesn't match the target pattern"
+
+abbrev pub read_text : Fault → List ℕ
+read_text fault.Separator = codes "missing separator"
+read_text fault.Conditional = codes "extraneous conditional"
+read_text fault.Endless = codes "missing endif"
+read_text (fault.Include name) = name ++ codes ": absent"
+read_text (fault.Expand e) = fault_text e
+read_text fault.Define = codes "missing endef"
+read_text (fault.Refused name) = codes "refused: " ++ name
+read_text fault.Spent = codes "fuel spent"
+read_text fault.Limit = codes "limit"
+read_text (fault.Rule r) = rule_text r
+
+abbrev pub fault_line : Place → Fault → List ℕ
+fault_line p f = halted p (read_text f)
+
+abbrev pub read_line : ReadNo → List ℕ
+read_line (read.At p f) = fault_line p f
+read_line read.NoMemory = []
+
+-- found: there was a makefile
+abbrev pub no_targets : Bool → List ℕ
+no_targets true = codes "No targets"
+no_targets false = codes "No targets specified and no makefile found"
+
+abbrev pub plan_text : Bool → PlanNo → List ℕ
+plan_text found plan.NoTargets = no_targets found
+plan_text found plan.TooManyJobs = codes "Too many jobs"
+plan_text found plan.NoMemory = []
+
+abbrev pub plan_line : Bool → PlanNo → List ℕ
+plan_line found e = stopped (plan_text found e)
+
+abbrev pub not_remade : List ℕ → List ℕ
+not_remade goal = codes "emake: Target " ++ quoted goal ++ codes " not remade because of errors.\n"
 
 abbrev pub nothing_to_do : List ℕ → List ℕ
-nothing_to_do goal = codes "emake: Nothing to be done for '" ++ goal ++ codes "'.\n"
+nothing_to_do goal = codes "emake: Nothing to be done for " ++ quoted goal ++ codes ".\n"
 
 abbrev pub up_to_date : List ℕ → List ℕ
-up_to_date goal = codes "emake: '" ++ goal ++ codes "' is up to date.\n"
-
--- why an operation on a file is refused
-abbrev pub reason : FileNo → List ℕ
-reason file.Absent = codes "absent"
-reason file.NoParent = codes "no parent"
-reason file.NotDir = codes "not a directory"
-reason file.IsDir = codes "is a directory"
-reason file.Exists = codes "exists"
-reason file.NotEmpty = codes "not empty"
-reason file.TooBig = codes "too big"
-reason file.Root = codes "root"
-
--- a redirection that fails
-abbrev pub redirection_fault : Option (List ℕ) → FileNo → List ℕ
-redirection_fault None why = []
-redirection_fault (Some word) why = codes "emake: sh: " ++ word ++ codes ": " ++ reason why ++ newline
-
--- the recipe line of the target
-abbrev pub line_place : List ℕ → ℕ → List ℕ → List ℕ
-line_place file line target = codes "emake: *** [" ++ file ++ codes ":" ++ decimal line ++ codes ": " ++ target ++ codes "]"
-
--- it ended with this status
-abbrev pub failed_line : List ℕ → ℕ → List ℕ → ℕ → List ℕ
-failed_line file line target status = line_place file line target ++ codes " Error " ++ decimal status ++ newline
-
--- the job's fuel ended in it
-abbrev pub spent_line : List ℕ → ℕ → List ℕ → List ℕ
-spent_line file line target = line_place file line target ++ codes " Fuel spent.  Stop.\n"
+up_to_date goal = codes "emake: " ++ quoted goal ++ codes " is up to date.\n"

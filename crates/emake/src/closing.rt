@@ -1,29 +1,35 @@
 //! How a build ends.
-ghost use Rattle.std.specs.Prelude.{◌≡◌, IfOk};
+ghost use Rattle.std.specs.Prelude.{◌≡◌, ◌++◌, ◌<◌, ◌^◌, Some, IfOk, OnOk, slice_get, take, drop};
 ghost use Rattle.std.specs.List.{list_any};
-ghost use Rattle.emake.specs.Closing.{is_made, is_spent, is_refused, is_faulty, closing, status_of};
+ghost use Rattle.emake.specs.Closing as closing;
 
-use crate::messages::{nothing_to_do, up_to_date};
+use crate::messages::{put_not_remade, put_nothing_to_do, put_up_to_date};
 use crate::verdict::Verdict;
 use em_base::{NoMemory, Text};
-use em_simple::Job;
+use em_plan::{Plan, PlanJob};
 use em_tree::Outcome;
 use std::alloc::Global;
 
-fn has_made(outcomes: &[Outcome]) -> bool
-    ensures { result ≡ list_any is_made outcomes.now }
+fn is_made(outcome: &Outcome) -> bool
+    ensures { result ≡ closing.is_made outcome.now }
 {
-    outcomes.iter().any(|o| matches!(o, Outcome::Made))
+    matches!(outcome, Outcome::Made)
+}
+
+fn has_made(outcomes: &[Outcome]) -> bool
+    ensures { result ≡ list_any closing.is_made outcomes.now }
+{
+    outcomes.iter().any(is_made)
 }
 
 fn has_spent(outcomes: &[Outcome]) -> bool
-    ensures { result ≡ list_any is_spent outcomes.now }
+    ensures { result ≡ list_any closing.is_spent outcomes.now }
 {
     outcomes.iter().any(|o| matches!(o, Outcome::Spent))
 }
 
 fn has_refused(outcomes: &[Outcome]) -> bool
-    ensures { result ≡ list_any is_refused outcomes.now }
+    ensures { result ≡ list_any closing.is_refused outcomes.now }
 {
     outcomes
         .iter()
@@ -31,7 +37,7 @@ fn has_refused(outcomes: &[Outcome]) -> bool
 }
 
 fn has_faulty(outcomes: &[Outcome]) -> bool
-    ensures { result ≡ list_any is_faulty outcomes.now }
+    ensures { result ≡ list_any closing.is_faulty outcomes.now }
 {
     outcomes.iter().any(|o| {
         matches!(
@@ -41,33 +47,102 @@ fn has_faulty(outcomes: &[Outcome]) -> bool
     })
 }
 
-/// What is said of the goal where nothing was made for it.
-pub fn closing(
-    alloc: Global,
-    jobs: &[Job],
-    early: bool,
-    outcomes: &[Outcome],
-) -> Result<Text, NoMemory>
-    ensures { IfOk result (λ t. t ≡ closing jobs.now early outcomes.now) }
+// ---- the closing text
+
+/// Appends what is said of a goal for which nothing was made.
+fn put_idle(out: &mut Text, goal: &PlanJob) -> Result<(), NoMemory>
+    ensures { OnOk result (out.new ≡ out.old ++ closing.idle goal.now) }
 {
-    if early || has_made(outcomes) {
-        return Ok(Text::new(alloc));
+    if goal.phony || goal.recipe.is_none() {
+        put_nothing_to_do(out, goal.target.bytes())
+    } else {
+        put_up_to_date(out, goal.target.bytes())
     }
-    match jobs.last() {
-        None => Ok(Text::new(alloc)),
-        Some(goal) => {
-            if goal.recipe.items().is_empty() {
-                nothing_to_do(alloc, &goal.target)
+}
+
+/// Appends what is said of a goal that ended so; `made` tells that something was made for it.
+fn put_line(
+    out: &mut Text,
+    silent: bool,
+    goal: &PlanJob,
+    outcome: &Outcome,
+    made: bool,
+) -> Result<(), NoMemory>
+    ensures { OnOk result (out.new ≡ out.old ++ closing.line_of silent goal.now outcome.now made) }
+{
+    match outcome {
+        Outcome::Skipped => put_not_remade(out, goal.target.bytes()),
+        Outcome::Failed(_) | Outcome::NoRule => Ok(()),
+        _ => {
+            if silent || made || is_made(outcome) {
+                Ok(())
             } else {
-                up_to_date(alloc, &goal.target)
+                put_idle(out, goal)
             }
         }
     }
 }
 
-/// The build's status, by its outcomes; `broken` tells that the new image breaks a limit.
-pub fn status_of(broken: bool, outcomes: &[Outcome]) -> Verdict
-    ensures { result ≡ status_of broken outcomes.now }
+/// The items from one place up to before another.
+fn between(outcomes: &[Outcome], from: usize, to: usize) -> &[Outcome]
+    ensures { result.now ≡ drop from (take to outcomes.now) }
+{
+    let (front, _) = outcomes.split_at(to.min(outcomes.len()));
+    let (_, back) = front.split_at(from.min(front.len()));
+    back
+}
+
+/// Appends what is said of the goal with this number, where the jobs from `from` on are first reached through it.
+fn put_goal(
+    out: &mut Text,
+    silent: bool,
+    plan: &Plan,
+    outcomes: &[Outcome],
+    from: usize,
+    goal: usize,
+) -> Result<(), NoMemory>
+    requires { goal < 2 ^ 32 }
+    ensures { OnOk result (out.new
+        ≡ out.old ++ closing.goal_line silent plan.now outcomes.now from goal) }
+{
+    match (plan.jobs.get(goal), outcomes.get(goal)) {
+        (Some(job), Some(outcome)) => {
+            let made = has_made(between(outcomes, from, goal + 1));
+            put_line(out, silent, job, outcome, made)
+        }
+        _ => Ok(()),
+    }
+}
+
+/// What is said of the goals. Linear in goals and jobs.
+pub fn closing_text(
+    alloc: Global,
+    silent: bool,
+    plan: &Plan,
+    outcomes: &[Outcome],
+    early: bool,
+) -> Result<Text, NoMemory>
+    ensures { IfOk result (λ t. t ≡ closing.closing silent plan.now outcomes.now early) }
+{
+    let mut text = Text::new(alloc);
+    if early {
+        return Ok(text);
+    }
+    let mut from: usize = 0;
+    for goal in plan.goals.items() {
+        let goal = *goal as usize;
+        put_goal(&mut text, silent, plan, outcomes, from, goal)?;
+        from = from.max(goal + 1);
+    }
+    Ok(text)
+}
+
+// ---- the status
+
+/// The build's status, by its outcomes; `asked` tells that it was only asked whether something is to be made,
+/// and `broken` that the new image breaks a limit.
+pub fn status_of(asked: bool, broken: bool, outcomes: &[Outcome]) -> Verdict
+    ensures { result ≡ closing.status_of asked broken outcomes.now }
 {
     if has_spent(outcomes) {
         Verdict::Spent
@@ -75,6 +150,8 @@ pub fn status_of(broken: bool, outcomes: &[Outcome]) -> Verdict
         Verdict::Refused
     } else if broken || has_faulty(outcomes) {
         Verdict::Faulty
+    } else if asked && has_made(outcomes) {
+        Verdict::Outdated
     } else {
         Verdict::Done
     }

@@ -1,20 +1,26 @@
 //! The top call: what the program does.
-ghost use Rattle.std.specs.Prelude.{◌≡◌, ◌≢◌, ◌⊎◌};
+ghost use Rattle.std.specs.Prelude.{◌≡◌, ◌≢◌, ◌⊎◌, List, length, take};
 ghost use Rattle.em_host.specs.Outside.{Tells};
 ghost use Rattle.em_host.specs.Faults.{next_count};
-ghost use Rattle.emake.specs.Course.{Follows, faults_after};
-ghost use Rattle.emake.specs.Endings.{ordered, ended};
+ghost use Rattle.em_tree.specs.declared.state.State.{State};
+ghost use Rattle.em_run.specs.Serial.{Made, Ran, IsSerial};
+ghost use Rattle.em_task.specs.declared.job.Job.{Job};
+ghost use Rattle.em_job.specs.Effects.{Makes};
+ghost use Rattle.emake.specs.Course.{faults_after};
+ghost use Rattle.emake.specs.Headline.{Headline, Reaches, exit_status};
+ghost use Rattle.emake.specs.Serial.{ends};
 ghost use Rattle.emake.specs.Words.{words_of};
-ghost use Rattle.emake.specs.Headline.{Headline, exit_status};
 
-use crate::build::{built, finish, image_in, makefile_of, planned, tree_of};
-use crate::messages::BAD_WORDS;
-use crate::say::stop;
+use crate::build::built;
+use crate::project::project_of;
 use crate::stop::Stop;
 use crate::verdict::Verdict;
-use crate::words::{Order, behind_first, given_words, order_of};
+use crate::words::{behind_first, given_words};
 use em_base::{NoMemory, Text};
 use em_host::Host;
+use em_job::JobSpec;
+use em_job::laws::law_one_effect;
+use em_run::law_one_run;
 use std::alloc::Global;
 use std::env::Args;
 use std::io;
@@ -22,33 +28,18 @@ use std::io;
 /// How a run ended.
 #[derive(Clone, Copy, Debug, PartialEq, Eq)]
 pub struct Ended {
-    /// 0: the goal is made. 2: a fault. 3: the host failed. 4: a construct was refused. 5: fuel was spent. 7: memory ran out.
+    /// 0: nothing went wrong. 1: `-q` was given, and something is to be made. 2: a fault. 3: the host failed.
+    /// 4: a construct was refused. 5: fuel was spent. 7: memory ran out.
     pub status: u8,
-}
-
-/// What the words order.
-fn ordered<H: Host>(alloc: Global, words: &[Text], host: &mut H) -> Result<Order, Stop>
-    ensures told { Follows (ordered words.now) result (H.told host.old) (H.told host.new) }
-    ensures faults { H.faults host.new ≡ faults_after result (H.faults host.old) }
-{
-    match order_of(alloc, words)? {
-        Some(order) => Ok(order),
-        None => stop(host, BAD_WORDS, Verdict::Faulty),
-    }
 }
 
 /// The run, from the words to its end.
 fn run<H: Host>(alloc: Global, words: &[Text], host: &mut H) -> Result<Verdict, Stop>
-    ensures told { Follows (ended words.now) result (H.told host.old) (H.told host.new) }
+    ensures told { Tells (Reaches words.now result) (H.told host.old) (H.told host.new) }
     ensures faults { H.faults host.new ≡ faults_after result (H.faults host.old) }
 {
-    let order = ordered(alloc, words, host)?;
-    let bytes = image_in(alloc, order.image.bytes(), host)?;
-    let tree = tree_of(alloc, bytes, host)?;
-    let makefile = makefile_of(alloc, &tree, host)?;
-    let jobs = planned(alloc, makefile.rules.items(), &order.goal, host)?;
-    let ran = built(alloc, tree, makefile.name.bytes(), jobs.items(), host)?;
-    finish(alloc, order.image.bytes(), jobs.items(), &ran, host)
+    let project = project_of(alloc, words, host)?;
+    built(alloc, project, host)
 }
 
 fn exit_status(answer: Result<Verdict, Stop>) -> u8
@@ -56,21 +47,23 @@ fn exit_status(answer: Result<Verdict, Stop>) -> u8
 {
     match answer {
         Ok(verdict) => verdict.code(),
-        Err(stop) => match stop {
-            Stop::End(verdict) => verdict.code(),
-            Stop::Failed => 3,
-            Stop::NoMemory => 7,
-        },
+        Err(Stop::End(verdict)) => verdict.code(),
+        Err(Stop::Failed) => 3,
+        Err(Stop::NoMemory) => 7,
     }
 }
 
-/// Does all that the program does: reads the words and the image, builds the goal and replaces the image.
+/// Does all that the program does, in this order: reads the words, the image and the makefiles, plans, runs the
+/// jobs, says the closing text and replaces the image.
 ///
-/// Over a host that tells its files and what was printed, and with a status other than 3 and 7, the
-/// printed bytes grew by exactly what the serial run says, the image is the serial run's, and the
-/// status is the serial run's. At 3 and 7 a front of this was done, and the image is the old one or
-/// the new one. No other file is touched. Status 3 comes only where a call on the host failed, and
-/// where one failed the status is 3 or 7 and nothing more is called.
+/// Over a host that tells its files and what was printed, and with a status other than 3 and 7, the printed
+/// bytes grew by exactly what the serial run says, the image is the serial run's, and so is the status. At 3
+/// and 7 a front of this was done, and the image is the old one or the new one. No other file is touched.
+/// Status 3 comes only where a call on the host failed, and where one failed the status is 3 or 7 and nothing
+/// more is called.
+///
+/// Besides the jobs themselves it takes time linear in the image, in what is read of makefiles and in the plan,
+/// with searches by name or path for each name and each change.
 pub fn emake<H: Host>(alloc: Global, words: &[Text], host: &mut H) -> Ended
     ensures headline { Tells (Headline words.now result.status) (H.told host.old) (H.told host.new) }
     ensures cause { result.status ≡ 3 → H.faults host.new ≡ next_count (H.faults host.old) }
@@ -80,6 +73,17 @@ pub fn emake<H: Host>(alloc: Global, words: &[Text], host: &mut H) -> Ended
     Ended {
         status: exit_status(answer),
     }
+}
+
+/// Jobs have one serial run at most, and jobs that have run so are a front of it.
+pub fn law_one_build()
+    ensures front { (start : State) (jobs : List Job) (a b : List Made)
+        → Ran Makes ends start jobs a → IsSerial Makes ends start jobs b → a ≡ take (length a) b }
+    ensures one { (start : State) (jobs : List Job) (a b : List Made)
+        → IsSerial Makes ends start jobs a → IsSerial Makes ends start jobs b → a ≡ b }
+{
+    law_one_effect();
+    law_one_run::<JobSpec>();
 }
 
 /// The program, from the words that the system gives to the exit status.

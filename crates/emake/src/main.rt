@@ -1,16 +1,11 @@
-//! `emake`: builds a goal of a makefile in a tree of files that one file holds.
+//! `emake`: builds goals of a makefile in a tree of files that one file holds.
 #![tactic(auto)]
 
 mod build;
 mod closing;
-mod commit;
-mod decide;
-mod effect;
 mod emake;
-mod faults;
 mod messages;
-mod paths;
-mod run;
+mod project;
 mod say;
 mod serial;
 mod stop;
@@ -18,7 +13,7 @@ mod verdict;
 mod words;
 
 use em_host::RealHost;
-pub use emake::{Ended, emake, program};
+pub use emake::{Ended, emake, law_one_build, program};
 use std::env;
 use std::process::ExitCode;
 

@@ -1,98 +1,60 @@
-//! The serial run of the jobs.
-ghost use Rattle.std.specs.Prelude.{◌≡◌, ◌≤◌, ◌^◌, IfOk};
-ghost use Rattle.em_tree.specs.Trees.{IsTree};
-ghost use Rattle.emake.specs.Serial.{ends, serial};
-ghost use Rattle.emake.specs.Turns.{turn_of};
-ghost use Rattle.emake.specs.Course.{Follows, faults_after};
-ghost use Rattle.emake.specs.Endings.{spoken};
+//! The serial run of the jobs, one after another.
+ghost use Rattle.std.specs.Prelude.{◌≡◌, false, None, IfOk, OnErr, MatchOption};
+ghost use Rattle.em_engine.specs.Fronts.{next_of};
+ghost use Rattle.emake.specs.Course.{faults_after};
+ghost use Rattle.emake.specs.Serial.{Advances, Commits};
 
-use crate::commit::{committed, effect};
 use crate::say::say;
 use crate::stop::Stop;
 use em_base::{NoMemory, Text};
+use em_engine::Front;
 use em_host::Host;
-use em_simple::Job;
-use em_tree::{Outcome, State};
-use em_view::Effect;
+use em_job::{JobSpec, JobWork};
+use em_run::{Run, Spec, Work};
+use em_view::PlainView;
 use std::alloc::Global;
 
-/// The state that jobs left, and whether one of them ended the run.
+/// What a job says, and whether the run ends with it.
 #[derive(Drop)]
-pub struct Ran {
-    pub state: State,
-    pub early: bool,
+pub struct Turn {
+    pub output: Text,
+    pub ended: bool,
 }
 
-fn ends(outcome: &Outcome) -> bool
-    ensures { result ≡ ends outcome.now }
+/// Runs the next job whole, on the state that those before it left, and commits it. None where there is no next job.
+fn advance(alloc: Global, front: &mut Front<JobSpec>) -> Result<Option<Turn>, NoMemory>
+    ensures turn { IfOk result (λ turn. MatchOption turn
+        ((next_of front.old ≡ None) × (front.new ≡ front.old))
+        (λ t. Advances front.old front.new t)) }
+    ensures err { OnErr result (front.new ≡ front.old) }
 {
-    match outcome {
-        Outcome::Failed(_) | Outcome::NoRule | Outcome::Spent => true,
-        Outcome::Halted { .. } | Outcome::Refused { .. } => true,
-        _ => false,
+    let Some(next) = front.next() else {
+        return Ok(None);
+    };
+    let run = JobWork::new().run(alloc, next, PlainView::new(front.state()))?;
+    let ended = run.spec().ends(run.outcome());
+    match front.commit(run) {
+        Ok(output) => Ok(Some(Turn { output, ended })),
+        Err(_) => Err(NoMemory),
     }
 }
 
-/// The state after a job, whether the run ends with it, and what it says.
-#[derive(Drop)]
-struct Turn {
-    ran: Ran,
-    output: Text,
-}
-
-/// One job, run whole and committed.
-fn advanced(
-    alloc: Global,
-    base: u64,
-    makefile: &[u8],
-    job: &Job,
-    state: State,
-) -> Result<Turn, NoMemory>
-    requires base { base ≤ 2 ^ 62 }
-    requires tree { IsTree state.tree }
-    ensures turn { IfOk result (λ t. t ≡ turn_of base makefile.now job.now state) }
-    ensures tree { IfOk result (λ t. IsTree t.ran.state.tree) }
-{
-    let done = effect(alloc, base, makefile, job, &state)?;
-    let Effect {
-        changes,
-        output,
-        outcome,
-    } = done;
-    let early = ends(&outcome);
-    let state = committed(state, &changes, outcome)?;
-    Ok(Turn {
-        ran: Ran { state, early },
-        output,
-    })
-}
-
-/// Runs the jobs in order, from a state on, up to the first that ends the run. What each says is printed
-/// before the next one runs.
+/// Runs the jobs that are left, up to the first that ends the run. What each says is printed before the next
+/// one runs. Whether a job ended the run.
 pub fn run_jobs<H: Host>(
     alloc: Global,
-    base: u64,
-    makefile: &[u8],
-    jobs: &[Job],
-    start: State,
+    front: &mut Front<JobSpec>,
     host: &mut H,
-) -> Result<Ran, Stop>
-    requires base { base ≤ 2 ^ 62 }
-    requires tree { IsTree start.tree }
-    ensures told { Follows (spoken (serial base makefile.now jobs.now start)) result (H.told host.old) (H.told host.new) }
+) -> Result<bool, Stop>
+    requires { front.old.ended ≡ false }
+    ensures jobs { Commits front.old front.new result (H.told host.old) (H.told host.new) }
     ensures faults { H.faults host.new ≡ faults_after result (H.faults host.old) }
+    ensures whole { IfOk result (λ ended. (next_of front.new ≡ None) × (ended ≡ front.new.ended)) }
 {
-    let mut state = start;
-    for job in jobs {
-        let Turn { ran, output } = advanced(alloc, base, makefile, job, state)?;
-        say(host, output.bytes())?;
-        if ran.early {
-            return Ok(ran);
-        }
-        state = ran.state;
+    let mut ended = false;
+    while let Some(turn) = advance(alloc, front)? {
+        say(host, turn.output.bytes())?;
+        ended = turn.ended;
     }
-    Ok(Ran {
-        state,
-        early: false,
-    })
+    Ok(ended)
 }

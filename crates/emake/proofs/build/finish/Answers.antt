@@ -1,29 +1,13 @@
-use Rattle.emake.proofs.Following.{then, leave, finish}
-use Rattle.emake.proofs.Ends.{failed-so}
+use Rattle.std.proofs.Common.{ap, ◌∙◌, List}
+use Rattle.em_tree.specs.declared.outcome.Outcome.{Outcome}
+use Rattle.emake.specs.Closing.{closing}
+use Rattle.emake.proofs.Following.{finish}
 use Rattle.emake.proofs.build.finish.Goals as goal
 
-pub returns-in_err-say-in-Ok-clause-told : goal.returns-in_err-say-in-Ok-clause-told
-returns-in_err-say-in-Ok-clause-told g c =
-    rw c.in-Ok.ensures.exact (leave _ c.from_residual-in_err-say-in-Ok.ensures.1 (rw (c.bytes-in-Ok.ensures, c.in_ok-last-in-Ok.ensures, c.items-outcomes.ensures) at c.in_err-say-in-Ok.ensures.told))
+pub returns-then-order-clause-told : goal.returns-then-order-clause-told
+returns-then-order-clause-told g c = rw (c.if-order.true, c.status_of.ensures, c.items-outcomes.ensures) finish
 
-pub returns-in_err-keep-in-Ok-clause-told : goal.returns-in_err-keep-in-Ok-clause-told
-returns-in_err-keep-in-Ok-clause-told g c =
-    rw c.in-Ok.ensures.exact
-    (then _ (rw (c.bytes-in-Ok.ensures, c.in_ok-last-in-Ok.ensures, c.items-outcomes.ensures) at c.in_ok-say-in-Ok.ensures.told)
-    (leave _ c.from_residual-in_err-keep-in-Ok.ensures.1 (rw c.bytes-in-Ok-2.ensures at c.in_err-keep-in-Ok.ensures.told)))
-
-pub returns-in_ok-keep-in-Ok-clause-told : goal.returns-in_ok-keep-in-Ok-clause-told
-returns-in_ok-keep-in-Ok-clause-told g c =
-    rw c.in-Ok.ensures.exact
-    (then _ (rw (c.bytes-in-Ok.ensures, c.in_ok-last-in-Ok.ensures, c.items-outcomes.ensures) at c.in_ok-say-in-Ok.ensures.told)
-    (then _ (rw c.bytes-in-Ok-2.ensures at c.in_ok-keep-in-Ok.ensures.told) (rw (c.status_of.ensures, c.items-outcomes.ensures) finish)))
-
-pub returns-in_err-say-in_default-clause-told : goal.returns-in_err-say-in_default-clause-told
-returns-in_err-say-in_default-clause-told g c =
-    rw (failed-so c.in-Err.no _ c.in_default.not-NoMemory c.in-Err.ensures.exact)
-    (leave _ c.from_residual-in_err-say-in_default.ensures.1 (rw (c.bytes-in_default.ensures, c.in_ok-last-in_default.ensures) at c.in_err-say-in_default.ensures.told))
-
-pub returns-in_ok-say-in_default-clause-told : goal.returns-in_ok-say-in_default-clause-told
-returns-in_ok-say-in_default-clause-told g c =
-    rw (failed-so c.in-Err.no _ c.in_default.not-NoMemory c.in-Err.ensures.exact)
-    (then _ (rw (c.bytes-in_default.ensures, c.in_ok-last-in_default.ensures) at c.in_ok-say-in_default.ensures.told) (rw (c.status_of-in_default.ensures, c.items-outcomes.ensures) finish))
+pub returns-clause-told : goal.returns-clause-told
+returns-clause-told g c =
+    let text = c.in_ok-text.ensures ∙ ap (λ (os : List Outcome). closing c.args.order.now.silent c.args.plan.now os c.args.early) c.items-outcomes.ensures in
+    rw c.if-order.false (rw text at c.close.ensures.told)

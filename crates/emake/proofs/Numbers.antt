@@ -1,0 +1,41 @@
+-- How many jobs a plan has, and its specs: as many as it has jobs, each with its number.
+use Rattle.std.proofs.Common.{◌≡◌, ◌+◌, ◌≤◌, ℕ, zero, suc, List, [], ◌∷◌, length, Result, Ok, refl, sym, ap, subst, ◌∙◌, arith}
+use Rattle.std.specs.Prelude.{IfSome, slice_get}
+use Rattle.em_cmdline.specs.declared.order.Order.{Order}
+use Rattle.em_rules.specs.declared.book.Book.{Book}
+use Rattle.em_plan.specs.declared.planned.PlanJob.{PlanJob}
+use Rattle.em_plan.specs.declared.making.Making.{Making}
+use Rattle.em_plan.specs.declared.planned.Plan.{Plan}
+use Rattle.em_plan.specs.Makings.{making_of}
+use Rattle.em_plan.specs.Plans.{asked, plan_for, plan_of}
+use Rattle.em_tree.specs.Trees.{Table}
+use Rattle.em_task.specs.declared.job.Job.{Job}
+use Rattle.em_job.specs.Making.{jobs_from, jobs_of}
+use Rattle.em_engine.specs.Fronts.{AreNumbered}
+
+module _ (book : Book) (order : Order) (base : ℕ) where
+  count_from : (i : ℕ) (plans : List PlanJob) → length (jobs_from book order base i plans) ≡ length plans
+  count_from i [] = refl
+  count_from i (p ∷ ps) = ap suc (count_from (suc i) ps)
+
+  numbers_from : (i : ℕ) (plans : List PlanJob) (k : ℕ) → IfSome (slice_get (jobs_from book order base i plans) k) (λ j. j.job ≡ i + k)
+  numbers_from i [] k = tt
+  numbers_from i (p ∷ ps) zero = omega arith
+  numbers_from i (p ∷ ps) (suc k) =
+      let shift : suc i + k ≡ i + suc k = omega arith in
+      subst (λ (n : ℕ). IfSome (slice_get (jobs_from book order base (suc i) ps) k) (λ j. j.job ≡ n)) shift (numbers_from (suc i) ps k)
+
+  pub spec_count : (plans : List PlanJob) → length (jobs_of book order base plans) ≡ length plans
+  unfolding jobs_of
+  spec_count plans = count_from 0 plans
+
+  pub numbered : (plans : List PlanJob) → AreNumbered (λ (j : Job). j.job) (jobs_of book order base plans)
+  unfolding jobs_of
+  numbered plans k =
+      let from_0 : 0 + k ≡ k = omega arith in
+      subst (λ (n : ℕ). IfSome (slice_get (jobs_from book order base 0 plans) k) (λ j. j.job ≡ n)) from_0 (numbers_from 0 plans k)
+
+pub plan_few : ((says : List ℕ → Making) (goals : List (List ℕ)) (p : Plan) → plan_for says goals ≡ Ok p → length p.jobs ≤ 65536)
+    → (book : Book) (goals : List (List ℕ)) (t : Table) (cwd : List ℕ) (p : Plan) → plan_of book goals t cwd ≡ Ok p → length p.jobs ≤ 65536
+unfolding plan_of
+plan_few law book goals t cwd p e = law (making_of book.rules book.patterns t cwd) (asked goals book.default_goal) p e
