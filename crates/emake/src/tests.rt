@@ -6,7 +6,9 @@ use std::alloc::Global;
 use std::process::Abort;
 use std::test::Fail;
 
+mod big;
 mod builds;
+mod usage;
 
 use builds::{After, BUILDS, Build};
 

@@ -1,0 +1,163 @@
+//! What a job asks of a view whose answers change, and what a front finds of its run.
+ghost use Rattle.std.specs.Prelude.{◌≡◌, ◌≤◌, [], length, IfOk};
+ghost use Rattle.em_task.specs.declared.job.Job.{Job};
+ghost use Rattle.em_engine.specs.Fronts.{AreNumbered};
+
+use super::*;
+use crate::project::project_of;
+use em_engine::{Front, Verdict};
+use em_image::read_image;
+use em_job::{JobSpec, JobWork};
+use em_run::{Run, Work};
+use em_tree::{Answer, Entry, Kind, Outcome, Outcomes, Question, State};
+use em_view::ScriptView;
+
+const MAKEFILE: &[u8] = b"EMTREE 1\nd 5 /\nf 5 27 /Makefile\nall:\n\t@ls d; cat d/x; ls d\n\n.\n";
+
+const LISTED: &str = "EMTREE 1\nd 5 /\nd 5 /d\nf 5 0 /d/x\n\n.\n";
+
+const EMPTY: &str = "EMTREE 1\nd 5 /\nd 5 /d\n.\n";
+
+const FILE: &str = "EMTREE 1\nd 5 /\nf 5 0 /d\n\n.\n";
+
+const BARE: &str = "EMTREE 1\nd 5 /\n.\n";
+
+fn state_of(alloc: Global, image: &str) -> Result<State, Fail>
+    ensures { IfOk result (λ s. s.outcomes ≡ []) }
+{
+    let tree = read_image(alloc, image.as_bytes())?;
+    let outcomes = Outcomes::new(alloc);
+    Ok(State { tree, outcomes })
+}
+
+fn keep(states: &mut Vec<State>, state: State) -> Result<(), Fail> {
+    states.push(state)?;
+    Ok(())
+}
+
+/// `/d` is listed, is then empty, and is a file at last.
+fn script(alloc: Global) -> Result<Vec<State>, Fail> {
+    let mut states = Vec::new(alloc);
+    for image in [LISTED, LISTED, LISTED, EMPTY, EMPTY, FILE] {
+        keep(&mut states, state_of(alloc, image)?)?;
+    }
+    Ok(states)
+}
+
+/// The makefile's jobs.
+fn jobs(alloc: Global) -> Result<Seq<JobSpec>, Fail>
+    ensures few { IfOk result (λ specs. length specs ≤ 65536) }
+    ensures numbered { IfOk result (λ specs. AreNumbered (λ (j : Job). j.job) specs) }
+{
+    let mut host = MemHost::new(alloc);
+    host.put(alloc, b"i", MAKEFILE)?;
+    let words = words_of(alloc, "-I i")?;
+    Ok(project_of(alloc, words.items(), &mut host)?.specs)
+}
+
+/// The run of the job over these states, if there is a job and a state.
+fn run_over(
+    alloc: Global,
+    jobs: &Seq<JobSpec>,
+    states: Vec<State>,
+) -> Result<Option<Run<JobSpec>>, Fail> {
+    if states.is_empty() {
+        return Ok(None);
+    }
+    let view = ScriptView::new(states);
+    match jobs.get(0) {
+        Some(job) => Ok(Some(JobWork::new().run(alloc, job, view)?)),
+        None => Ok(None),
+    }
+}
+
+/// The run of the job over the changing view.
+fn run_of(alloc: Global) -> Result<Run<JobSpec>, Fail> {
+    let jobs = jobs(alloc)?;
+    let run = run_over(alloc, &jobs, script(alloc)?)?;
+    Ok(run.ok_or("a run")?)
+}
+
+/// The name of a list of one name that is `x`.
+fn listed(names: &[Text]) -> &'static str {
+    match names {
+        [name] if name.bytes() == b"x".as_slice() => "x",
+        _ => "other names",
+    }
+}
+
+/// The path that is asked for, and what is told of it.
+fn told(entry: &Entry) -> (&[u8], &'static str) {
+    match (&entry.question, &entry.answer) {
+        (Question::Stamp(p), Answer::Stamp(None)) => (p.text(), "no stamp"),
+        (Question::Content(p), Answer::Content(None)) => (p.text(), "no bytes"),
+        (Question::Names(p), Answer::Names(Some(names))) => (p.text(), listed(names.names())),
+        (Question::Kind(p), Answer::Kind(Kind::Dir)) => (p.text(), "a directory"),
+        (Question::Kind(p), Answer::Kind(Kind::File)) => (p.text(), "a file"),
+        (Question::Kind(p), Answer::Kind(Kind::Absent)) => (p.text(), "nothing"),
+        _ => (b"", ""),
+    }
+}
+
+const TOLD: [(&str, &str); 6] = [
+    ("/all", "no stamp"),
+    ("/d", "a directory"),
+    ("/d", "x"),
+    ("/d/x", "no bytes"),
+    ("/d/x", "nothing"),
+    ("/d", "a file"),
+];
+
+/// Whether the usage is what was told, entry by entry.
+fn is_told(usage: &[Entry]) -> bool {
+    for (entry, want) in usage.iter().zip(TOLD) {
+        let (path, what) = told(entry);
+        if path != want.0.as_bytes() || what != want.1 {
+            return false;
+        }
+    }
+    usage.len() == TOLD.len()
+}
+
+#[test]
+fn a_job_tells_what_it_was_told(rt: HostRuntime) -> Result<(), Fail> {
+    let run = run_of(rt.alloc())?;
+    let is_told = is_told(run.usage().items());
+    assert!(rt; is_told);
+    let output = run.output().bytes();
+    assert_eq!(rt; output, b"x\nemake: cat: d/x: absent\nd\n".as_slice());
+    let is_made = matches!(run.outcome(), Outcome::Made);
+    assert!(rt; is_made);
+    Ok(())
+}
+
+/// What a front that stands on this state finds of the run, where the board has answered its first `count` asks.
+fn found(
+    alloc: Global,
+    image: &str,
+    run: &Run<JobSpec>,
+    count: usize,
+) -> Result<Option<Verdict>, Fail> {
+    let state = state_of(alloc, image)?;
+    let jobs = jobs(alloc)?;
+    let front = Front::new(alloc, state, jobs)?;
+    let asked = run.usage().items().get(..count).unwrap_or(&[]);
+    Ok(match front.next() {
+        Some(_) => Some(front.check(run, asked)),
+        None => None,
+    })
+}
+
+#[test]
+fn a_front_finds_where_a_run_was_told_otherwise(rt: HostRuntime) -> Result<(), Fail> {
+    let run = run_of(rt.alloc())?;
+    for (image, count, verdict) in [
+        (LISTED, 6, Verdict::Differ { place: 3 }),
+        (BARE, 6, Verdict::Differ { place: 1 }),
+        (LISTED, 2, Verdict::Strange { place: 2 }),
+    ] {
+        let found = found(rt.alloc(), image, &run, count)?;
+        assert_eq!(rt; found, Some(verdict));
+    }
+    Ok(())
+}
