@@ -233,7 +233,7 @@ numbered_fits {t} {p} {m} {s} (Some n) to h near =
     spend (emit s.start to to to (Number n) h.fit zero (omega arith, omega arith, (omega arith, omega arith)))
 numbered_fits {t} {p} {m} {s} None to h near =
     let before = h.before in
-    spend (refuse Descriptor s.start (widen to to h.fit (omega arith) (omega arith)) h.within)
+    spend (emit s.start to to to (Number 9) (refuse Descriptor s.start h.fit h.within) tt (omega arith, omega arith, (omega arith, omega arith)))
 
 pub worded_fits : {t : List ℕ} {p : ℕ} {m : Mode} {s : Lexer} (to : ℕ) → Heading t p m s → p ≤ to → Fit t to to Ready (worded s to)
 unfolding worded

@@ -256,7 +256,11 @@ trim_sound {t} {s} a b here code h opener =
 
 -- outside of words
 refused_or_sound : {t : List ℕ} {s : Lexer} (o : Option Construct) (a : ℕ) (b : Byte) → In t b → slice_index t b.at ≡ b.code → Held t b.at (Operating a) s → Sound t b.end (refused_or o a s b)
-refused_or_sound {t} {s} (Some c) a b here code h = let end = here.end in plain (at_rest (at_spot Operand (spend (refuse c s.start (widen_held b.end h (omega arith)) h.within)) tt))
+refused_or_sound {t} {s} (Some c) a b here code h =
+    let end = here.end in
+    let before = h.before in
+    let put = emit_plain s.start b.end (single a) (single_fits a) (refuse c s.start h.fit h.within) (omega arith) (omega arith) (omega arith) in
+    plain (at_rest (at_spot Operand (spend put) tt))
 refused_or_sound None a b here code h = ready_sound b here code (operated_fits (single a) b.at (single_fits a) h (omega arith))
 
 paired_or_sound : {t : List ℕ} {s : Lexer} (o : Option What) (a : ℕ) (b : Byte) → IfSome o Ordinary → In t b → slice_index t b.at ≡ b.code → Held t b.at (Operating a) s → Sound t b.end (paired_or o a s b)

@@ -34,9 +34,10 @@ headed start to s =
     let t = spent (started start s.start s) in
     if is_assigning start then with_assignment s.text to t else emitted t s.start to (Bytes false s.text)
 
+-- a descriptor, which is 9 where it is refused
 abbrev pub numbered : Option ℕ → ℕ → Lexer → Lexer
 numbered (Some n) to s = spent (emitted s s.start to (Number n))
-numbered None to s = spent (refused s Descriptor s.start)
+numbered None to s = spent (emitted (refused s Descriptor s.start) s.start to (Number 9))
 
 -- a word of unquoted bytes alone
 unfoldable pub worded : Lexer → ℕ → Lexer

@@ -90,9 +90,9 @@ settled_in _ s at = spoiled s at
 unfoldable pub settled : Lexer → ℕ → Lexer
 settled s at = settled_in s.mode s at
 
--- behind the first byte a of an operator
+-- behind the first byte a of an operator. One that is refused stands as its first byte would.
 abbrev pub refused_or : Option Construct → ℕ → Lexer → Byte → Lexer
-refused_or (Some construct) a s b = record (spent (refused s construct s.start)) { spot = Operand }
+refused_or (Some construct) a s b = record (spent (emitted (refused s construct s.start) s.start b.end (single a))) { spot = Operand }
 refused_or None a s b = ready (operated s (single a) b.at) b
 
 abbrev pub paired_or : Option What → ℕ → Lexer → Byte → Lexer

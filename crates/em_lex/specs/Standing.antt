@@ -1,5 +1,7 @@
 -- Where the tokens and the fault of a line stand in it.
 use Rattle.std.specs.Prelude.{◌≡◌, ◌⊎◌, ℕ, ◌+◌, ◌<◌, ◌≤◌, ◌==◌, ◌||◌, Bool, true, List, [], ◌∷◌, length, slice_index}
+use Rattle.em_lexeme.specs.Faults.{redirects}
+use Rattle.em_lexeme.specs.declared.lexeme.Lexeme.{Lexeme}
 use Rattle.em_lexeme.specs.declared.lexeme.Token.{Token}
 use Rattle.em_lexeme.specs.declared.no.LexNo.{LexNo}
 use Rattle.em_lexeme.specs.declared.no.LexNo.TheVariants.{Unclosed, Refused, NoMemory}
@@ -43,3 +45,7 @@ abbrev pub Stands : List ℕ → LexNo → Type 0
 Stands line (Unclosed at) = Opens line at
 Stands line (Refused construct at) = at < length line
 Stands line NoMemory = ⊥
+
+-- it ends at a place or before, or a redirection begins there with it
+abbrev pub StandsUpTo : ℕ → Lexeme → Type 0
+StandsUpTo at l = (l.span.end ≤ at) ⊎ ((l.span.start ≡ at) × (redirects l.what ≡ true))

@@ -69,7 +69,7 @@ impl Lexer {
         self.emit(self.start, to, What::Bytes { quoted, text })
     }
 
-    /// Puts the descriptor, which ends at `to`, or refuses what was gathered as one.
+    /// Puts the descriptor, which ends at `to`; where it is refused, 9.
     fn put_number(&mut self, alloc: Global, number: Option<u8>, to: usize) -> Result<(), NoMemory>
         ensures { OnOk result (self.new ≡ heads.numbered number to self.old) }
     {
@@ -78,7 +78,7 @@ impl Lexer {
             Some(number) => self.emit(self.start, to, What::Number(number)),
             None => {
                 self.refuse(Construct::Descriptor, self.start);
-                Ok(())
+                self.emit(self.start, to, What::Number(9))
             }
         }
     }

@@ -4,7 +4,7 @@ ghost use Rattle.em_lex.specs.Alone.{quoted_word, bare_word};
 ghost use Rattle.em_lexeme.specs.Frames.{is_plain};
 ghost use Rattle.em_lexeme.specs.Faults.{place_of};
 ghost use Rattle.em_lex.specs.Lexing.{lexed};
-ghost use Rattle.em_lex.specs.Standing.{InOrder, Stands};
+ghost use Rattle.em_lex.specs.Standing.{InOrder, Stands, StandsUpTo};
 ghost use Rattle.em_lex.specs.Tokens.{tokens_of};
 ghost use Rattle.em_lexeme.specs.Words.{reserved, whole_start, is_assigning};
 
@@ -23,10 +23,11 @@ pub fn law_bare()
         ≡ bare_word (whole_start (reserved (b ∷ bytes)) (b ∷ bytes)) (b ∷ bytes) }
 {}
 
-/// Where a line has a fault, every lexeme ends at its place or before.
+/// Where a line has a fault, every lexeme ends at its place or before; only the first one of a
+/// redirection that is refused begins there.
 pub fn law_cut()
     ensures { (line : List ℕ) → IfSome (lexed line).stop
-        (λ fault. All (λ l. l.span.end ≤ place_of fault) (lexed line).items) }
+        (λ fault. All (StandsUpTo (place_of fault)) (lexed line).items) }
 {}
 
 /// Where a line has a fault, it stands within the line, and what isn't closed at an opener.

@@ -211,7 +211,7 @@ impl Lexer {
             self.refuse(construct, self.start);
             self.spend(alloc);
             self.spot = Spot::Operand;
-            return Ok(());
+            return self.emit(self.start, b.end, single(first));
         }
         self.operate(alloc, single(first), b.at)?;
         self.ready(alloc, b)

@@ -136,6 +136,11 @@ fn lines_have_lexemes(rt: HostRuntime) -> Result<(), Fail> {
         (b"a 'b", b"n[-a-]p["),
         (b"a b$(c", b"n[-a-]p[-b-"),
         (b"$(a $1)", b"p[(:n[-a-]p["),
+        // a redirection that is refused has begun
+        (b"a <<E", b"n[-a-]<"),
+        (b"a 2>&-", b"n[-a-]#2>&"),
+        (b"a 3>f", b"n[-a-]#9"),
+        (b"`a 0>&1`", b"p[(:n[-a-]#0"),
     ] {
         assert!(rt; shown(rt.alloc(), line)?.bytes() == wanted);
     }

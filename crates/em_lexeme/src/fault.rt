@@ -2,7 +2,7 @@
 ghost use Rattle.std.specs.Prelude.{◌≡◌};
 ghost use Rattle.em_lexeme.specs.Faults as faults;
 
-use crate::lexeme::{Lexed, Lexeme};
+use crate::lexeme::{Lexed, Lexeme, What};
 use crate::no::LexNo;
 use em_base::Seq;
 
@@ -32,11 +32,28 @@ pub fn leftmost(unclosed: Option<usize>, fault: Option<LexNo>) -> Option<LexNo>
     Some(LexNo::Unclosed(at))
 }
 
-/// How many lexemes at the begin end at the place or before.
+/// Whether this is of a redirection.
+fn redirects(what: &What) -> bool
+    ensures { result ≡ faults.redirects what.now }
+{
+    matches!(
+        what,
+        What::Number(_) | What::Less | What::Great | What::DoubleGreat | What::GreatAnd
+    )
+}
+
+/// Whether the lexeme ends at the place or before, or a redirection begins there with it.
+fn is_until(l: &Lexeme, at: usize) -> bool
+    ensures { result ≡ faults.is_until at l.now }
+{
+    l.span.end <= at || l.span.start == at && redirects(&l.what)
+}
+
+/// How many lexemes at the begin stand up to the place.
 fn count_until(items: &[Lexeme], at: usize) -> usize
     ensures { result ≡ faults.count_until at items.now }
 {
-    items.iter().take_while(|l| l.span.end <= at).count()
+    items.iter().take_while(|l| is_until(l, at)).count()
 }
 
 /// The lexemes up to the fault.

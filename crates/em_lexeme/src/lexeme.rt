@@ -75,7 +75,7 @@ pub enum What {
     /// `)`, also that which ends the patterns of a `case`
     RightParen,
     /// The 0, 1 or 2 right before `<`, `>` or `>>`; the 1 or 2 right before `>&`; the 1 or 2 behind
-    /// `>&`.
+    /// `>&`. Where a descriptor is refused, it stands as 9.
     Number(u8),
     /// `<`
     Less,
@@ -132,8 +132,8 @@ pub struct Lexeme {
 #[derive(Debug, Drop, PartialEq, Eq)]
 pub struct Lexed {
     /// The lexemes, where the line has a fault those that end at its place or before. A word that
-    /// begins with what is faulty has its `WordStart` there, so that whatever is wrong with a word
-    /// at that place is known.
+    /// begins with what is faulty has its `WordStart` there, and a redirection that is refused its
+    /// first lexeme, so that whatever is wrong with a word or a redirection at that place is known.
     pub items: Seq<Lexeme>,
     /// The leftmost fault, where there is one: `Unclosed` or `Refused`.
     pub stop: Option<LexNo>,

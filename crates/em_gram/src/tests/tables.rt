@@ -120,7 +120,16 @@ pub static TREES: [(&str, &str); 82] = [
 ];
 
 /// Syntax errors, each in front of the byte behind the `^`, which is not of the line.
-pub static MISPLACED: [&str; 83] = [
+pub static MISPLACED: [&str; 91] = [
+    // where no redirection may stand, one that isn't supported is unexpected
+    "a > ^<<E",
+    "a > ^3>f",
+    "a > ^>&-",
+    "a > ^0>&1 b",
+    "a 2>& ^>|f",
+    "$(a > ^<>f)",
+    "`a > ^<<E`",
+    "\"`a < ^12>f`\"",
     // what begins no command
     "^fi",
     "^in",
@@ -212,7 +221,14 @@ pub static MISPLACED: [&str; 83] = [
 ];
 
 /// Syntax errors in compound commands.
-pub static MISPLACED_IN_COMPOUNDS: [&str; 67] = [
+pub static MISPLACED_IN_COMPOUNDS: [&str; 74] = [
+    "case x in ^<<E",
+    "case ^<<E in esac",
+    "for x ^<<E",
+    "for ^3>f",
+    "for x in y ^<<E; do a; done",
+    "case x ^>&- in esac",
+    "case x in a | ^<>f) ;; esac",
     // `if`, `while`, `until`
     "if a;^fi",
     "if ^; a",
