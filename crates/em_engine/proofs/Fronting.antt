@@ -29,16 +29,16 @@ next_by false o next e = (refl, e)
 pub next_is : {S : Type 0} (v : Standing S) (next : S) → next_of v ≡ Some next → (v.ended ≡ false) × (slice_get v.specs (length v.deltas) ≡ Some next)
 next_is v next e = next_by v.ended (slice_get v.specs (length v.deltas)) next e
 
-map-push : {A B : Type 0} (f : A → B) (xs : List A) (x : A) → map f (xs ++ x ∷ []) ≡ map f xs ++ f x ∷ []
+pub map-push : {A B : Type 0} (f : A → B) (xs : List A) (x : A) → map f (xs ++ x ∷ []) ≡ map f xs ++ f x ∷ []
 map-push f [] x = refl
 map-push f (y ∷ xs) x = ap (λ (ys : List _). f y ∷ ys) (map-push f xs x)
 
 -- what a run made
-pub made_by : {S : Type 0} → Parts S → Made
+abbrev pub made_by : {S : Type 0} → Parts S → Made
 made_by r = record { effect = effect_in r; fuel = r.fuel }
 
 module _ {S : Type 0} (makes : S → State → Effect → ℕ → Type 0) (ends : S → Outcome → Bool) where
-  no_early : (specs : List S) → is_early makes ends specs [] ≡ false
+  pub no_early : (specs : List S) → is_early makes ends specs [] ≡ false
   no_early [] = refl
   no_early (s ∷ specs) = refl
 
@@ -54,7 +54,6 @@ module _ {S : Type 0} (makes : S → State → Effect → ℕ → Type 0) (ends 
   -- a run of the next job more
   pub stands_more : (v : Standing S) (made : List Made) (r : Parts S) (next : S) → Stands makes ends v made → next_of v ≡ Some next
       → makes next v.state (effect_in r) r.fuel → ends r.spec r.outcome ≡ ends next r.outcome → Stands makes ends (committed ends v r) (made ++ made_by r ∷ [])
-  unfolding made_by
   stands_more v made r next s is it same =
       let m : Made = made_by r in
       let early : is_early makes ends v.specs made ≡ false = sym s.ended_is ∙ (next_is v next is).0 in

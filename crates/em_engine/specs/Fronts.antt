@@ -2,7 +2,8 @@
 --     Standing             the start, the state now, the jobs, whether the run has ended; of each committed job its fuel and its delta
 --     next_of v            the spec of the next job
 --     named_last ds p      the place of the last of these deltas that names the path
---     last_change v q      the last committed job that changed what the question asks
+--     last_among ds q      the place of the last that changes what the question asks
+--     last_change v q      the last committed job that does
 --     committed ends v r   what it is with a run of the next job committed
 --     Stands .. v made     the committed jobs have run so in the serial run, and the front stands behind them
 --     IsStanding .. v      some effects are such
@@ -39,12 +40,15 @@ abbrev pub named_last : List Changes → List ℕ → Option ℕ
 named_last ds p = last_from None 0 ds p
 
 -- of a job's outcome it is that job
+abbrev pub last_among : List Changes → Question → Option ℕ
+last_among ds (ask.Kind p) = named_last ds p
+last_among ds (ask.Stamp p) = named_last ds p
+last_among ds (ask.Content p) = named_last ds p
+last_among ds (ask.Names p) = named_last ds p
+last_among ds (ask.Outcome k) = if nat_lt k (length ds) then Some k else None
+
 abbrev pub last_change : {S : Type 0} → Standing S → Question → Option ℕ
-last_change v (ask.Kind p) = named_last v.deltas p
-last_change v (ask.Stamp p) = named_last v.deltas p
-last_change v (ask.Content p) = named_last v.deltas p
-last_change v (ask.Names p) = named_last v.deltas p
-last_change v (ask.Outcome k) = if nat_lt k (length v.deltas) then Some k else None
+last_change v q = last_among v.deltas q
 
 abbrev pub committed : {S : Type 0} → (S → Outcome → Bool) → Standing S → Parts S → Standing S
 committed ends v r = record v { state = after (effect_in r) v.state; ended = ends r.spec r.outcome; fuel = v.fuel ++ r.fuel ∷ []; deltas = v.deltas ++ r.delta ∷ [] }

@@ -7,4 +7,3 @@ pub mod Fitting
 pub mod Looking
 pub mod Editing
 pub mod Doing
-pub mod Serially

@@ -197,7 +197,7 @@ end {new} {r} inv p = inv new r p
 
 -- ---- plain views
 
-agreed_with : (s : State) (es : List Entry) → AreTrue (λ i q. Some (answer s q)) es → Agrees s es
+pub agreed_with : (s : State) (es : List Entry) → AreTrue (λ i q. Some (answer s q)) es → Agrees s es
 agreed_with s [] h = tt
 agreed_with s (e ∷ es) h = (sym h.0, agreed_with s es h.1)
 
