@@ -7,6 +7,3 @@ mod versions;
 
 pub use post::Post;
 pub use versions::Versions;
-
-#[cfg(test)]
-mod tests;

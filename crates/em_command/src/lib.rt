@@ -15,6 +15,3 @@ pub use delivery::{deliver, hand};
 pub use here::{Here, Scene};
 pub use jump::{Flow, Jump};
 pub use streams::{Opened, Sink, Streams, redirect};
-
-#[cfg(test)]
-mod tests;

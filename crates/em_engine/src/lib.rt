@@ -17,6 +17,3 @@ pub use front::Front;
 pub use laws::{law_answered, law_claimed_once, law_settled_in_order};
 pub use note::{Cause, Note, Verdict};
 pub use ready::{Claim, Stage};
-
-#[cfg(test)]
-mod tests;

@@ -11,6 +11,3 @@ mod remove;
 mod table;
 
 pub use command::utility;
-
-#[cfg(test)]
-mod tests;

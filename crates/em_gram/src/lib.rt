@@ -14,6 +14,3 @@ pub use em_syntax::{
 };
 pub use no::GramNo;
 pub use parse_line::parse;
-
-#[cfg(test)]
-mod tests;

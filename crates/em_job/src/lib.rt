@@ -18,6 +18,3 @@ pub use em_task::{Flags, Job, SharedVars};
 pub use making::specs;
 pub use spec::JobSpec;
 pub use work::JobWork;
-
-#[cfg(test)]
-mod tests;

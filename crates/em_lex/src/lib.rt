@@ -16,6 +16,3 @@ mod value;
 pub use em_lexeme::{LexNo, Lexed, Lexeme, Start, Token, TokenKind, What};
 pub use outer::tokens;
 pub use read::lexemes;
-
-#[cfg(test)]
-mod tests;

@@ -5,6 +5,3 @@ pub mod laws;
 mod line;
 
 pub use line::Line;
-
-#[cfg(test)]
-mod tests;

@@ -16,6 +16,3 @@ mod source;
 mod texts;
 
 pub use command::utility;
-
-#[cfg(test)]
-mod tests;

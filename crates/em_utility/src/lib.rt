@@ -11,6 +11,3 @@ pub use operand::{OperandNo, fault, located, named, read, settle};
 pub use options::{Options, read_options};
 pub use reason::{Reason, error_line};
 pub use writing::{begun, fail, write};
-
-#[cfg(test)]
-mod tests;

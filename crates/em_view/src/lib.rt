@@ -20,6 +20,3 @@ pub use done::{Done, ExecNo, Piece};
 pub use effect::Effect;
 pub use no::{DeskNo, FileNo};
 pub use view::{PlainView, ScriptView, View};
-
-#[cfg(test)]
-mod tests;

@@ -13,6 +13,3 @@ pub use expander::Expander;
 pub use fault::WordFault;
 pub use shell::Shell;
 pub use turn::{Mode, WordTurn};
-
-#[cfg(test)]
-mod tests;

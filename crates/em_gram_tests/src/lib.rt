@@ -1,0 +1,7 @@
+//! The tests of a recipe line's tokens and of its syntax tree.
+#![tactic(auto)]
+
+#[cfg(test)]
+mod gram;
+#[cfg(test)]
+mod lex;

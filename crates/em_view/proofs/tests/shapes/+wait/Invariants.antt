@@ -1,4 +1,0 @@
-use Rattle.em_view.proofs.tests.shapes.+wait.Given as goal
-
-abbrev pub decreases-wait : goal.decreases-wait
-decreases-wait g l = l.turns

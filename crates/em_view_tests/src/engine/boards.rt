@@ -1,0 +1,252 @@
+//! Boards, call after call.
+ghost use Rattle.std.specs.Prelude.{◌↔◌, ◌<◌, ℕ, [], IsTrue, All, slice_index_or};
+
+use super::marks::{Mark, root, run_on};
+use em_base::Seq;
+use em_engine::{Board, Claim, Taken};
+use em_path::Path;
+use em_run::Spec;
+use em_tree::{Answer, Entry, Kind, Question};
+use std::alloc::{AllocError, Global};
+use std::test::Fail;
+
+/// A call on a board, with the job.
+enum Step {
+    Next,
+    Front(u32),
+    Ask(u32),
+    Publish(u32),
+    GiveUp(u32),
+    Take(u32),
+    Settle(u32),
+    Stop,
+}
+
+use Step::*;
+
+/// What each job waits for, the calls, and what they answer.
+type Row = (&'static [&'static [u32]], &'static [Step], &'static str);
+
+/// A claim answers a job, or `wait` or `done`. Each question is the kind of `/x`, which each run makes.
+static ROWS: [Row; 5] = [
+    (
+        &[&[], &[], &[1], &[2]],
+        &[
+            Next,
+            Next,
+            Next,
+            Publish(1),
+            Next,
+            Take(0),
+            Publish(0),
+            Take(0),
+            Stop,
+            Next,
+        ],
+        "0 1 wait posted 2 wait posted run stopped done ",
+    ),
+    (
+        &[&[], &[]],
+        &[
+            Next,
+            Next,
+            Ask(1),
+            Publish(0),
+            Ask(1),
+            Publish(1),
+            Take(0),
+            Settle(0),
+            Take(1),
+        ],
+        "0 1 absent posted file posted run settled run absent file ",
+    ),
+    (
+        &[&[], &[]],
+        &[Next, Next, Publish(1), Ask(0)],
+        "0 1 posted absent ",
+    ),
+    (
+        &[&[], &[]],
+        &[Front(0), Next, Settle(0), Ask(1), Front(1), Settle(1)],
+        "yes 1 settled file no phase ",
+    ),
+    (
+        &[&[], &[0], &[0, 0]],
+        &[
+            Next,
+            Next,
+            GiveUp(0),
+            Next,
+            Take(0),
+            Next,
+            Next,
+            Settle(0),
+            Ask(0),
+        ],
+        "0 wait gave 1 gave 2 done settled phase ",
+    ),
+];
+
+fn all_below(jobs: &[u32], job: usize) -> bool
+    ensures { IsTrue result ↔ All (λ k. k < job) jobs.now }
+{
+    jobs.iter().all(|k| (*k as usize) < job)
+}
+
+/// Whether each job waits for jobs below it.
+fn are_lower(waits: &[Seq<u32>]) -> bool
+    ensures { IsTrue result → (j : ℕ) → All (λ k. k < j) (slice_index_or waits.now j []) }
+{
+    for job in 0..waits.len() {
+        if !all_below(waits[job].items(), job) {
+            return false;
+        }
+    }
+    true
+}
+
+fn waits_of(alloc: Global, rows: &[&[u32]]) -> Result<Seq<Seq<u32>>, Fail> {
+    let mut waits = Seq::new(alloc);
+    for row in rows {
+        waits.push(Seq::from_vec(Vec::from_slice(alloc, row)?))?;
+    }
+    Ok(waits)
+}
+
+fn board_of(alloc: Global, rows: &[&[u32]]) -> Result<Board<Mark>, Fail> {
+    let waits = waits_of(alloc, rows)?;
+    if waits.len() > 10 || !are_lower(waits.items()) {
+        return Err("waits".into());
+    }
+    Ok(Board::new(alloc, root(alloc)?, waits)?)
+}
+
+fn show_claim(claim: Claim, log: &mut String) -> Result<(), AllocError> {
+    match claim {
+        Claim::Job(job) => write!(log, "{job} "),
+        Claim::Done => log.push_str("done "),
+        Claim::NotYet => log.push_str("wait "),
+    }
+}
+
+fn show_answer(answer: &Answer, log: &mut String) -> Result<(), AllocError> {
+    log.push_str(match answer {
+        Answer::Kind(Kind::File) => "file ",
+        Answer::Kind(Kind::Absent) => "absent ",
+        _ => "other ",
+    })
+}
+
+fn show_taken(taken: &Taken<Mark>, log: &mut String) -> Result<(), AllocError> {
+    match taken {
+        Taken::Run(_, asked) => {
+            log.push_str("run ")?;
+            show_asked(asked.items(), log)
+        }
+        Taken::GivenUp => log.push_str("gave "),
+        Taken::NotYet => log.push_str("wait "),
+    }
+}
+
+fn show_asked(asked: &[Entry], log: &mut String) -> Result<(), AllocError> {
+    for entry in asked {
+        show_answer(&entry.answer, log)?;
+    }
+    Ok(())
+}
+
+fn front(board: &mut Board<Mark>, job: u32) -> &'static str {
+    if job as usize >= board.len() || job != board.settled() {
+        return "phase ";
+    }
+    if board.claim_front(job) {
+        "yes "
+    } else {
+        "no "
+    }
+}
+
+fn ask(alloc: Global, board: &mut Board<Mark>, job: u32, log: &mut String) -> Result<(), Fail> {
+    if !board.is_claimed(job) {
+        return Ok(log.push_str("phase ")?);
+    }
+    let path = Path::from_text(alloc, b"/x")?.ok_or("no path")?;
+    let answer = board.ask(job, &Question::Kind(path))?;
+    Ok(show_answer(&answer, log)?)
+}
+
+fn publish(alloc: Global, board: &mut Board<Mark>, job: u32) -> Result<&'static str, Fail> {
+    let run = run_on(alloc, job, 20, &root(alloc)?)?;
+    if !board.is_claimed(run.spec().job()) {
+        return Ok("phase ");
+    }
+    match board.publish(run) {
+        Ok(()) => Ok("posted "),
+        Err(_) => Err(AllocError.into()),
+    }
+}
+
+fn give_up(board: &mut Board<Mark>, job: u32) -> &'static str {
+    if !board.is_claimed(job) {
+        return "phase ";
+    }
+    board.give_up(job);
+    "gave "
+}
+
+fn take(board: &mut Board<Mark>, job: u32, log: &mut String) -> Result<(), AllocError> {
+    if job != board.settled() || !board.can_take(job) {
+        return log.push_str("phase ");
+    }
+    show_taken(&board.take(job), log)
+}
+
+fn settle(alloc: Global, board: &mut Board<Mark>, job: u32) -> Result<&'static str, Fail> {
+    let parts = run_on(alloc, job, 20, &root(alloc)?)?.into_parts();
+    if job != board.settled() || !board.can_settle(job) {
+        return Ok("phase ");
+    }
+    board.settle(job, parts.delta, parts.outcome)?;
+    Ok("settled ")
+}
+
+fn take_step(
+    alloc: Global,
+    board: &mut Board<Mark>,
+    step: &Step,
+    log: &mut String,
+) -> Result<(), Fail> {
+    match step {
+        Next => show_claim(board.claim(), log)?,
+        Front(job) => log.push_str(front(board, *job))?,
+        Ask(job) => ask(alloc, board, *job, log)?,
+        Publish(job) => log.push_str(publish(alloc, board, *job)?)?,
+        GiveUp(job) => log.push_str(give_up(board, *job))?,
+        Take(job) => take(board, *job, log)?,
+        Settle(job) => log.push_str(settle(alloc, board, *job)?)?,
+        Stop => {
+            board.stop();
+            log.push_str("stopped ")?;
+        }
+    }
+    Ok(())
+}
+
+fn log_of(alloc: Global, row: &Row) -> Result<String, Fail> {
+    let mut board = board_of(alloc, row.0)?;
+    let mut log = String::new(alloc);
+    for step in row.1 {
+        take_step(alloc, &mut board, step, &mut log)?;
+    }
+    Ok(log)
+}
+
+#[test]
+fn boards_answer_call_after_call(rt: HostRuntime) -> Result<(), Fail> {
+    for row in &ROWS {
+        let log = log_of(rt.alloc(), row)?;
+        let wanted = row.2;
+        assert!(rt; log.as_str() == wanted, "{wanted}: {log}");
+    }
+    Ok(())
+}

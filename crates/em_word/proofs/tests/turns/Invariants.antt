@@ -1,5 +1,0 @@
-use Rattle.em_word.specs.Held.{IsReady}
-use Rattle.em_word.proofs.tests.turns.Given as goal
-
-abbrev pub invariant-loop : goal.invariant-loop
-invariant-loop g l = IsReady l.expander
