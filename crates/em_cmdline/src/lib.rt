@@ -9,6 +9,3 @@ mod read;
 
 pub use order::{HistoryMode, Order, WordNo};
 pub use read::read_words;
-
-#[cfg(test)]
-mod tests;

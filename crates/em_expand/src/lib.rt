@@ -15,6 +15,3 @@ mod values;
 pub use no::ExpandNo;
 pub use spoken::Spoken;
 pub use text::expand;
-
-#[cfg(test)]
-mod tests;

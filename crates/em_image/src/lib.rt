@@ -15,6 +15,3 @@ pub use law::{faults_have_places, faults_stay, one_tree_of_a_text};
 pub use no::{ImageNo, Which};
 pub use reading::{read_image, read_text};
 pub use writing::write_image;
-
-#[cfg(test)]
-mod tests;

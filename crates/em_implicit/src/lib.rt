@@ -10,6 +10,3 @@ mod there;
 pub use made::{Prerequisites, prerequisites_of};
 pub use pattern::{Match, rule_match};
 pub use seek::{Found, find};
-
-#[cfg(test)]
-mod tests;

@@ -9,6 +9,3 @@ mod wild;
 
 pub use function::name_function;
 pub use wild::wildcard;
-
-#[cfg(test)]
-mod tests;

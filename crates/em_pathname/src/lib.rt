@@ -6,6 +6,3 @@ mod names;
 mod walk;
 
 pub use walk::matching_names;
-
-#[cfg(test)]
-mod tests;

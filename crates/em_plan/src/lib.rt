@@ -14,6 +14,3 @@ pub use making::{Makefile, Making, Need};
 pub use no::PlanNo;
 pub use planned::{Plan, PlanJob, Pre};
 pub use planning::plan;
-
-#[cfg(test)]
-mod tests;

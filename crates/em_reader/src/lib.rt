@@ -11,6 +11,3 @@ mod read;
 
 pub use em_reading::{Fault, ReadNo, RuleNo};
 pub use makefiles::{read_makefiles, read_through};
-
-#[cfg(test)]
-mod tests;

@@ -19,6 +19,3 @@ pub use heard::{Expanded, Heard};
 pub use no::{Fault, ReadNo, RuleNo, absent, at, desk_fault, expand_fault, refused};
 pub use reading::{Body, Reading};
 pub use vars::is_expanded;
-
-#[cfg(test)]
-mod tests;

@@ -15,6 +15,3 @@ pub use message::{
     fault_text, put_deleted, put_failed, put_halted, put_ignored, put_no_rule, put_refused,
     put_spent, put_spent_early,
 };
-
-#[cfg(test)]
-mod tests;

@@ -17,6 +17,3 @@ pub use made::{undotted_rule, unmatched};
 pub use rule::{RecipeLine, Rule};
 pub use rules::Rules;
 pub use special::{Names, Special};
-
-#[cfg(test)]
-mod tests;

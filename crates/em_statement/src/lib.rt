@@ -20,6 +20,3 @@ pub use line::read_statement;
 pub use refusal::refused_in_head;
 pub use split::{first_word, is_empty};
 pub use statement::{Include, RuleLine, Statement, Undefine};
-
-#[cfg(test)]
-mod tests;

@@ -20,6 +20,3 @@ pub use outcome::{Outcome, Outcomes};
 pub use question::{Answer, Entry, Question};
 pub use state::State;
 pub use tree::Tree;
-
-#[cfg(test)]
-mod tests;
