@@ -1,0 +1,5 @@
+mod Printing
+mod Lending
+mod Turning
+mod Noting
+mod Committing

@@ -1,0 +1,6 @@
+pub mod Printing
+pub mod Lending
+pub mod Turns
+pub mod Notes
+pub mod Commits
+pub mod Builds

@@ -1,0 +1,5 @@
+//! Tests of builds with workers.
+#![tactic(auto)]
+
+#[cfg(test)]
+mod small;
