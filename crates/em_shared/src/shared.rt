@@ -95,7 +95,10 @@ impl<S: Spec> Shared<S> {
         }
         let published = board.publish(run);
         self.changed.notify_all();
-        published.map_err(Held::Memory)
+        match published {
+            Ok(()) => Ok(()),
+            Err(run) => Err(Held::Memory(run)),
+        }
     }
 
     /// Gives up the run of a job that a worker has.

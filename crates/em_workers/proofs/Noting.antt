@@ -65,6 +65,8 @@ module _ {S : Type 0} (job_of : S → ℕ) (eq : S → S → Bool) where
   turns_then s ds js (l ∷ ls) ks [] os ns ps t u = absurd t
   turns_then s ds js (l ∷ ls) ks (m ∷ ms) os [] ps t u = absurd t
   turns_then s ds [] (l ∷ ls) ks (m ∷ ms) os (n ∷ ns) ps t u = absurd t
-  turns_then s ds (j ∷ js) (l ∷ ls) ks (m ∷ ms) os (n ∷ ns) ps t u = (t.0,
+  turns_then s ds (j ∷ js) (l ∷ ls) ks (m ∷ ms) os (n ∷ ns) ps t u = (
+    t.0,
     turns_then (after m.effect s) (ds ++ m.effect.changes ∷ []) js ls ks ms os ns ps t.1
-    (subst (λ (es : List Changes). AreTurns job_of eq (state_after (after m.effect s) ms) es (drop (length ms) js) ks os ps) (sym (append_assoc ds (m.effect.changes ∷ []) (map (λ m. m.effect.changes) ms))) u))
+        (subst (λ (es : List Changes). AreTurns job_of eq (state_after (after m.effect s) ms) es (drop (length ms) js) ks os ps) (sym (append_assoc ds (m.effect.changes ∷ []) (map (λ m. m.effect.changes) ms))) u),
+  )

@@ -33,7 +33,7 @@ pub struct Built {
 }
 
 /// Runs so many workers beside one another, with numbers from the first on.
-fn crew<R: Threads + Wait + Sync, S: Spec, W: Work<S> + Sync, G: Gate + Sync>(
+fn crew<R: Threads + Wait + Sync, S: Spec + Send + Sync, W: Work<S> + Sync, G: Gate + Sync>(
     rt: &R,
     alloc: Global,
     shared: &Shared<S>,
