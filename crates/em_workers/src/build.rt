@@ -124,7 +124,13 @@ fn build_alone<S: Spec, W: Work<S>, G: Gate, H: Host>(
 }
 
 /// A build by the committer and so many workers beside it.
-fn build_beside<R: Threads + Wait + Sync, S: Spec, W: Work<S> + Sync, G: Gate + Sync, H: Host>(
+fn build_beside<
+    R: Threads + Wait + Sync,
+    S: Spec + Send + Sync,
+    W: Work<S> + Sync,
+    G: Gate + Sync,
+    H: Host,
+>(
     rt: &R,
     alloc: Global,
     start: State,
@@ -166,7 +172,13 @@ fn build_beside<R: Threads + Wait + Sync, S: Spec, W: Work<S> + Sync, G: Gate + 
 ///
 /// With one worker the committer runs each job once, and there is no board. Beside the runs it takes for each job what
 /// `turn` and the board's calls take.
-pub fn build<R: Threads + Wait + Sync, S: Spec, W: Work<S> + Sync, G: Gate + Sync, H: Host>(
+pub fn build<
+    R: Threads + Wait + Sync,
+    S: Spec + Send + Sync,
+    W: Work<S> + Sync,
+    G: Gate + Sync,
+    H: Host,
+>(
     rt: &R,
     alloc: Global,
     start: State,
