@@ -21,7 +21,7 @@ use Rattle.em_engine.proofs.Fronting.{next_is, stands_more}
 use Rattle.em_workers.specs.declared.lender.Settled.{Settled}
 use Rattle.em_workers.specs.declared.no.BuildNo.{BuildNo}
 use Rattle.em_workers.specs.declared.no.BuildNo.TheVariants.{NoMemory}
-use Rattle.em_workers.specs.declared.turn.Committed.{Committed}
+use Rattle.em_workers.specs.declared.next.Committed.{Committed}
 use Rattle.em_workers.specs.Lending.{Lending, Told}
 use Rattle.em_workers.specs.Turns.{effect_of, behind, IsCommitted, IsNote}
 use Rattle.em_workers.specs.Notes.{AreTurns}
@@ -41,9 +41,13 @@ drop_at (y ∷ ys) zero x e = ap (λ (z : _). z ∷ ys) (same_Some y x e)
 drop_at (y ∷ ys) (suc i) x e = drop_at ys i x e
 
 module _ {S : Type 0} (job_of : S → ℕ) where
+  no_jobs : (ms : List Made) → settled_by job_of [] ms ≡ []
+  no_jobs [] = refl
+  no_jobs (m ∷ ms) = refl
+
   settled_then : (js : List S) (ms ns : List Made) → settled_by job_of js (ms ++ ns) ≡ settled_by job_of js ms ++ settled_by job_of (drop (length ms) js) ns
   settled_then js [] ns = refl
-  settled_then [] (m ∷ ms) ns = refl
+  settled_then [] (m ∷ ms) ns = sym (no_jobs ns)
   settled_then (j ∷ js) (m ∷ ms) ns = ap (λ (ss : List Settled). settled_as job_of j m ∷ ss) (settled_then js ms ns)
 
 abbrev pub made_of : Committed → Made
@@ -100,11 +104,11 @@ module _ {S : Type 0} (makes : S → State → Effect → ℕ → Type 0) (ends 
         made = made_of c ∷ [];
         lent = lent ∷ [];
         notes = n ∷ [];
-        start = ap (λ (u : Standing S). u.start) it.behind;
-        specs = ap (λ (u : Standing S). u.specs) it.behind;
-        state = ap (λ (u : Standing S). u.state) it.behind;
-        deltas = ap (λ (u : Standing S). u.deltas) it.behind;
-        stands = λ earlier s. subst (λ (u : Standing S). Stands makes ends u (earlier ++ made_of c ∷ [])) (sym it.behind) (stands_more makes ends v earlier (run_of next c) next s is it.makes refl);
+        start = ap (λ (u : Standing S). u.start) it.stands;
+        specs = ap (λ (u : Standing S). u.specs) it.stands;
+        state = ap (λ (u : Standing S). u.state) it.stands;
+        deltas = ap (λ (u : Standing S). u.deltas) it.stands;
+        stands = λ earlier s. subst (λ (u : Standing S). Stands makes ends u (earlier ++ made_of c ∷ [])) (sym it.stands) (stands_more makes ends v earlier (run_of next c) next s is it.made refl);
         turns = subst (λ (js : List S). AreTurns job_of eq v.state v.deltas js (lent ∷ []) (made_of c ∷ []) (n ∷ [])) (sym left) (note, tt);
         noted = noted;
         served = subst (λ (js : List S). Told (Serves (is_ok r) (lent ∷ []) (settled_by job_of js (made_of c ∷ []))) a b) (sym left) served;

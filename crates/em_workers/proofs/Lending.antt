@@ -1,5 +1,5 @@
 -- What a lender tells over several calls.
-use Rattle.std.proofs.Common.{◌≡◌, ℕ, zero, suc, ◌+◌, Bool, true, false, List, [], ◌∷◌, ◌++◌, length, take, drop, Option, Some, None, refl, sym, ap, subst, ◌∙◌, append-nil, append_assoc, length-append}
+use Rattle.std.proofs.Common.{◌≡◌, ℕ, zero, suc, ◌+◌, Bool, true, false, List, [], ◌∷◌, ◌++◌, length, take, drop, arith, Option, Some, None, refl, sym, ap, subst, ◌∙◌, append-nil, append_assoc, length-append}
 use Rattle.std.proofs.Math.Seq.{take-append-add}
 use Rattle.std.proofs.lemmas.List.{drop-drop}
 use Rattle.em_engine.specs.declared.event.Taken.{Taken}
@@ -27,20 +27,20 @@ told_same P None same = tt
 told_same P (Some x) same = same x
 
 given-add : {A : Type 0} (n m : ℕ) (ls : List (Option A)) → given (n + m) ls ≡ given n ls ++ given m (drop n ls)
-given-add zero m ls = refl
-given-add (suc n) m ls = ap (λ (ks : List (Option _)). first_of ls ∷ ks) (given-add n m (drop 1 ls) ∙ ap (λ (ks : List (Option _)). given n (drop 1 ls) ++ given m ks) (drop-drop n 1 ls))
+given-add zero m ls = ap (λ (k : ℕ). given k ls) (let e : 0 + m ≡ m = omega arith in e)
+given-add (suc n) m ls = ap (λ (k : ℕ). given k ls) (let e : suc n + m ≡ suc (n + m) = omega arith in e) ∙ ap (λ (ks : List (Option _)). first_of ls ∷ ks) (given-add n m (drop 1 ls) ∙ ap (λ (ks : List (Option _)). given n (drop 1 ls) ++ given m ks) (drop-drop n 1 ls))
 
 module _ {S : Type 0} where
   pub serves_none : (whole : Bool) (v : Lending S) → Serves whole [] [] v v
-  serves_none whole v = record { given = refl; rest = λ _. refl; some = 0; settled = sym (append-nil v.settled); all = λ _. sym (append-nil v.settled); stopped = refl }
+  serves_none whole v = record { first = refl; rest = λ _. refl; some = 0; settled = sym (append-nil v.settled); all = λ _. sym (append-nil v.settled); stopped = refl }
 
   pub serves_then : (whole : Bool) (l k : List (Option (Taken S))) (s t : List Settled) (a b c : Lending S) → Serves true l s a b → Serves whole k t b c → Serves whole (l ++ k) (s ++ t) a c
   serves_then whole l k s t a b c p q =
       let rest : b.lends ≡ drop (length l) a.lends = p.rest refl in
       let all : b.settled ≡ a.settled ++ s = p.all refl in
       record {
-        given = ap (λ (x : List (Option (Taken S))). x ++ k) p.given
-            ∙ ap (λ (x : List (Option (Taken S))). given (length l) a.lends ++ x) (q.given ∙ ap (given (length k)) rest)
+        first = ap (λ (x : List (Option (Taken S))). x ++ k) p.first
+            ∙ ap (λ (x : List (Option (Taken S))). given (length l) a.lends ++ x) (q.first ∙ ap (given (length k)) rest)
             ∙ sym (given-add (length l) (length k) a.lends)
             ∙ ap (λ (n : ℕ). given n a.lends) (sym (length-append l k));
         rest = λ is. q.rest is ∙ ap (drop (length k)) rest ∙ drop-drop (length k) (length l) a.lends ∙ ap (λ (n : ℕ). drop n a.lends) (sym (length-append l k));
@@ -53,7 +53,7 @@ module _ {S : Type 0} where
   -- something was lent, and nothing more came of it
   pub lent_in_vain : (t : Option (Taken S)) (v w : Lending S) → Lends t v w → Serves false [] [] v w
   lent_in_vain t v w p = record {
-    given = refl;
+    first = refl;
     rest = λ is. absurd (cc);
     some = 0;
     settled = ap (λ (l : Lending S). l.settled) p.rest ∙ sym (append-nil v.settled);
@@ -64,7 +64,7 @@ module _ {S : Type 0} where
   -- it was lent, and its job wasn't settled
   pub lent_alone : (t : Option (Taken S)) (s : Settled) (v w : Lending S) → Lends t v w → Serves false (t ∷ []) (s ∷ []) v w
   lent_alone t s v w p = record {
-    given = ap (λ (x : Option (Taken S)). x ∷ []) p.first;
+    first = ap (λ (x : Option (Taken S)). x ∷ []) p.first;
     rest = λ is. absurd (cc);
     some = 0;
     settled = ap (λ (l : Lending S). l.settled) p.rest ∙ sym (append-nil v.settled);
@@ -77,7 +77,7 @@ module _ {S : Type 0} where
   lent_settled t s u v w p q =
       let put : w.settled ≡ u.settled ++ s ∷ [] = ap (λ (l : Lending S). l.settled) q ∙ ap (λ (l : Lending S). l.settled ++ s ∷ []) p.rest in
       record {
-        given = ap (λ (x : Option (Taken S)). x ∷ []) p.first;
+        first = ap (λ (x : Option (Taken S)). x ∷ []) p.first;
         rest = λ is. ap (λ (l : Lending S). l.lends) q ∙ ap (λ (l : Lending S). l.lends) p.rest;
         some = 1;
         settled = put;
@@ -86,4 +86,4 @@ module _ {S : Type 0} where
       }
 
   pub serves_cut : {l : List (Option (Taken S))} {s : List Settled} (a b : Lending S) → Serves true l s a b → Serves false l s a b
-  serves_cut a b p = record { given = p.given; rest = λ is. absurd (cc); some = p.some; settled = p.settled; all = λ is. absurd (cc); stopped = p.stopped }
+  serves_cut a b p = record { first = p.first; rest = λ is. absurd (cc); some = p.some; settled = p.settled; all = λ is. absurd (cc); stopped = p.stopped }

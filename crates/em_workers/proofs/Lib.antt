@@ -1,5 +1,4 @@
 mod Printing
 mod Lending
-mod Turning
 mod Noting
 mod Committing

@@ -29,7 +29,7 @@ module _ {S : Type 0} (eq : S → S → Bool) (s : State) (ds : List Changes) (n
   found_cause r asked found.Same is = tt
   found_cause r asked found.Foreign is = tt
   found_cause r asked (found.Strange i) is = λ same. is.1.apart (sym same)
-  found_cause r asked (found.Differ i) is = differs s ds i (slice_get r.usage i) is.1.1.wrong
+  found_cause r asked (found.Differ i) is = differs s ds i (slice_get r.usage i) is.2.wrong
 
   cause_is : (lent : Option (Taken S)) (why : Option Cause) → Finds eq s ds next lent why → IfSome why (IsCause s ds)
   cause_is None why is = subst (λ (w : Option Cause). IfSome w (IsCause s ds)) (sym is) tt
@@ -49,9 +49,9 @@ module _ {S : Type 0} (job_of : S → ℕ) (eq : S → S → Bool) where
   notes_are s ds js [] [] [] h t = tt
   notes_are s ds js [] [] (n ∷ ns) h t = absurd t
   notes_are s ds js [] (m ∷ ms) ns h t = absurd t
-  notes_are s ds js (l ∷ ls) [] ns h t = absurd t
-  notes_are s ds js (l ∷ ls) (m ∷ ms) [] h t = absurd t
-  notes_are s ds [] (l ∷ ls) (m ∷ ms) (n ∷ ns) h t = absurd t
+  notes_are s ds [] (l ∷ ls) ms ns h t = absurd t
+  notes_are s ds (j ∷ js) (l ∷ ls) [] ns h t = absurd t
+  notes_are s ds (j ∷ js) (l ∷ ls) (m ∷ ms) [] h t = absurd t
   notes_are s ds (j ∷ js) (l ∷ ls) (m ∷ ms) (n ∷ ns) h t = (
     record { job = t.0.job ∙ h 0 ∙ add-zero (length ds); runs = t.0.runs; cause = cause_is eq s ds j l n.cause t.0.cause },
     notes_are (after m.effect s) (ds ++ m.effect.changes ∷ []) js ls ms ns (subst (λ (k : ℕ). Numbered k js) (sym (length-append ds (m.effect.changes ∷ []))) (numbered_rest (length ds) j js h)) t.1,
@@ -62,9 +62,9 @@ module _ {S : Type 0} (job_of : S → ℕ) (eq : S → S → Bool) where
   turns_then s ds js [] ks [] os [] ps t u = subst (λ (es : List Changes). AreTurns job_of eq s es js ks os ps) (append-nil ds) u
   turns_then s ds js [] ks [] os (n ∷ ns) ps t u = absurd t
   turns_then s ds js [] ks (m ∷ ms) os ns ps t u = absurd t
-  turns_then s ds js (l ∷ ls) ks [] os ns ps t u = absurd t
-  turns_then s ds js (l ∷ ls) ks (m ∷ ms) os [] ps t u = absurd t
-  turns_then s ds [] (l ∷ ls) ks (m ∷ ms) os (n ∷ ns) ps t u = absurd t
+  turns_then s ds [] (l ∷ ls) ks ms os ns ps t u = absurd t
+  turns_then s ds (j ∷ js) (l ∷ ls) ks [] os ns ps t u = absurd t
+  turns_then s ds (j ∷ js) (l ∷ ls) ks (m ∷ ms) os [] ps t u = absurd t
   turns_then s ds (j ∷ js) (l ∷ ls) ks (m ∷ ms) os (n ∷ ns) ps t u = (
     t.0,
     turns_then (after m.effect s) (ds ++ m.effect.changes ∷ []) js ls ks ms os ns ps t.1

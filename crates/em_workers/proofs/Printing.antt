@@ -39,12 +39,12 @@ cut ts {x = x} {y = y} p = record { told = Tells-weaken x y (λ u v h. inl (reco
 pub with_value : {A B : Type 0} (ts : List (List ℕ)) {a : A} {b : B} {x y : Option Outside} → Printed ts (Ok a) x y → Printed ts (Ok b) x y
 with_value ts p = record { told = p.told }
 
-does_err : {A B : Type 0} (calls : List Call) (e : BuildNo) (x y : Outside) → Does {A = A} calls (Err e) x y → Does {A = B} calls (Err e) x y
-does_err calls Host x y p = p
-does_err calls NoMemory x y p = p
+does_err : (A B : Type 0) (calls : List Call) (e : BuildNo) (x y : Outside) → Does {A = A} calls (Err e) x y → Does {A = B} calls (Err e) x y
+does_err A B calls Host x y p = p
+does_err A B calls NoMemory x y p = p
 
 pub with_err : {A B : Type 0} (ts : List (List ℕ)) {e : BuildNo} {x y : Option Outside} → Printed {A = A} ts (Err e) x y → Printed {A = B} ts (Err e) x y
-with_err {A} {B} ts {e} {x} {y} p = record { told = Tells-weaken x y (λ u v h. does_err {A = A} {B = B} (prints ts) e u v h) p.told }
+with_err {A} {B} ts {e} {x} {y} p = record { told = Tells-weaken x y (λ u v h. does_err A B (prints ts) e u v h) p.told }
 
 -- ---- one text
 
@@ -60,11 +60,11 @@ nothing text {x = x} empty = record { told = Tells-same _ x (λ y. subst (λ (cs
 pub went : {A : Type 0} (text : List ℕ) {u : Unit {0}} {a : A} {x y : Option Outside} → (length text == 0) ≡ false → Tells (Prints text (Ok u)) x y → Printed (text ∷ []) (Ok a) x y
 went text {u} {x = x} {y = y} given p = record { told = Tells-weaken x y (λ v w h. subst (λ (cs : List Call). Makes cs v w) (sym (alone text given)) (print_went text (Ok u) v w h)) p }
 
-broke : {B : Type 0} (text : List ℕ) (e : HostNo) (x y : Outside) → (length text == 0) ≡ false → Prints text (Err e) x y → Does {A = B} (prints (text ∷ [])) (Err (no_of e)) x y
-broke text host.Failed x y given p = subst (λ (cs : List Call). FailsIn true cs x y) (sym (alone text given)) (print_went text (Err host.Failed) x y p)
-broke text host.NoMemory x y given p = inr (subst (λ (cs : List Call). (is_noted : Bool) × FailsIn is_noted cs x y) (sym (alone text given)) (print_went text (Err host.NoMemory) x y p))
+broke : (B : Type 0) (text : List ℕ) (e : HostNo) (x y : Outside) → (length text == 0) ≡ false → Prints text (Err e) x y → Does {A = B} (prints (text ∷ [])) (Err (no_of e)) x y
+broke B text host.Failed x y given p = subst (λ (cs : List Call). FailsIn true cs x y) (sym (alone text given)) (print_went text (Err host.Failed) x y p)
+broke B text host.NoMemory x y given p = inr (subst (λ (cs : List Call). (is_noted : Bool) × FailsIn is_noted cs x y) (sym (alone text given)) (print_went text (Err host.NoMemory) x y p))
 
 pub failed : {B : Type 0} (text : List ℕ) (e : HostNo) {r : Result B BuildNo} {x y : Option Outside} → (length text == 0) ≡ false → IsErrAnd r (λ n. n ≡ no_of e) → Tells (Prints text (Err e)) x y → Printed (text ∷ []) r x y
 failed text e {r = Ok b} given is p = absurd is
 failed {B} text e {r = Err n} {x} {y} given is p = subst (λ (m : BuildNo). Printed {A = B} (text ∷ []) (Err m) x y) (sym is)
-    (record { told = Tells-weaken x y (λ u v h. broke {B = B} text e u v given h) p })
+    (record { told = Tells-weaken x y (λ u v h. broke B text e u v given h) p })

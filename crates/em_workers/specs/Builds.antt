@@ -8,7 +8,7 @@ use Rattle.em_tree.specs.declared.state.State.{State}
 use Rattle.em_view.specs.declared.effect.Effect.{Effect}
 use Rattle.em_engine.specs.declared.note.Note.{Note}
 use Rattle.em_run.specs.Serial.{Made, outputs_of, state_after, Ran, IsSerial}
-use Rattle.em_workers.specs.declared.build.Built.{Built}
+use Rattle.em_workers.specs.declared.builder.Built.{Built}
 use Rattle.em_workers.specs.declared.no.BuildNo.{BuildNo}
 use Rattle.em_workers.specs.Notes.{AreNotes}
 use Rattle.em_workers.specs.Printing.{Printed}

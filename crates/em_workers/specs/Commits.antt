@@ -26,8 +26,9 @@ abbrev pub settled_as : {S : Type 0} → (S → ℕ) → S → Made → Settled
 settled_as job_of j m = record { job = job_of j; delta = m.effect.changes; outcome = m.effect.outcome }
 
 abbrev pub settled_by : {S : Type 0} → (S → ℕ) → List S → List Made → List Settled
+settled_by job_of jobs [] = []
+settled_by job_of [] (m ∷ ms) = []
 settled_by job_of (j ∷ js) (m ∷ ms) = settled_as job_of j m ∷ settled_by job_of js ms
-settled_by job_of _ _ = []
 
 abbrev pub job_settled : ℕ → Changes → Outcome → Settled
 job_settled job d o = record { job = job; delta = d; outcome = o }
@@ -43,12 +44,12 @@ listed (Ok (Some n)) = Ok (n ∷ [])
 listed (Err e) = Err e
 
 -- whole: nothing broke off
-pub record Serves {S : Type 0} (whole : Bool) (lent : List (Option (Taken S))) (settled : List Settled) (a b : Lending S) : Type 0 where
-  pub given : lent ≡ given (length lent) a.lends
+pub record Serves {S : Type 0} (whole : Bool) (lent : List (Option (Taken S))) (jobs : List Settled) (a b : Lending S) : Type 0 where
+  pub first : lent ≡ given (length lent) a.lends
   pub rest : whole ≡ true → b.lends ≡ drop (length lent) a.lends
   pub some : ℕ
-  pub settled : b.settled ≡ a.settled ++ take some settled
-  pub all : whole ≡ true → b.settled ≡ a.settled ++ settled
+  pub settled : b.settled ≡ a.settled ++ take some jobs
+  pub all : whole ≡ true → b.settled ≡ a.settled ++ jobs
   pub stopped : b.stopped ≡ a.stopped
 
 module _ {S : Type 0} (makes : S → State → Effect → ℕ → Type 0) (ends : S → Outcome → Bool) (job_of : S → ℕ) (eq : S → S → Bool) where

@@ -22,7 +22,7 @@ use Rattle.em_engine.specs.declared.note.Verdict.{Verdict}
 use Rattle.em_engine.specs.declared.note.Verdict.TheVariants as found
 use Rattle.em_engine.specs.Fronts.{Standing, last_among}
 use Rattle.em_engine.specs.Verdicts.{IsVerdict}
-use Rattle.em_workers.specs.declared.turn.Committed.{Committed}
+use Rattle.em_workers.specs.declared.next.Committed.{Committed}
 
 abbrev pub effect_of : Committed → Effect
 effect_of c = record { changes = c.delta; output = c.output; outcome = c.outcome }
@@ -32,8 +32,8 @@ abbrev pub behind : {S : Type 0} → Bool → Standing S → Committed → Stand
 behind ended v c = record v { state = after (effect_of c) v.state; ended = ended; fuel = v.fuel ++ c.fuel ∷ []; deltas = v.deltas ++ c.delta ∷ [] }
 
 pub record IsCommitted {S : Type 0} (makes : S → State → Effect → ℕ → Type 0) (ends : S → Outcome → Bool) (v w : Standing S) (next : S) (c : Committed) : Type 0 where
-  pub makes : makes next v.state (effect_of c) c.fuel
-  pub behind : w ≡ behind (ends next c.outcome) v c
+  pub made : makes next v.state (effect_of c) c.fuel
+  pub stands : w ≡ behind (ends next c.outcome) v c
 
 -- ---- the note
 

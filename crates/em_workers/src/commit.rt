@@ -8,9 +8,9 @@ ghost use Rattle.em_workers.specs.Printing.{faults_after};
 
 use crate::gate::Gate;
 use crate::lender::Lender;
+use crate::next::{Committed, rerun, turn};
 use crate::no::BuildNo;
 use crate::print::print;
-use crate::turn::{Committed, rerun, turn};
 use em_base::Seq;
 use em_engine::{Front, Note};
 use em_host::Host;

@@ -1,5 +1,5 @@
 //! Where the committer takes runs from, and where it settles jobs.
-ghost use Rattle.std.specs.Prelude.{◌≡◌, [], All, IfSome};
+ghost use Rattle.std.specs.Prelude.{◌≡◌, [], All, IfSome, false};
 ghost use Rattle.em_shared.specs.Waited.{IsLent};
 ghost use Rattle.em_workers.specs.Lending.{Told, Stops};
 
