@@ -1,11 +1,12 @@
 -- Some jobs more were committed.
 --     commits_none, commits_nothing, commits_one      none, and one
+--     commits_next, commits_rerun, fewer      the next one, by the code's calls
 --     commits_then         some behind others
 --     commits_err, commits_cut   an error at a `?`, and want of memory behind them
-use Rattle.std.proofs.Common.{◌≡◌, ℕ, zero, suc, ◌+◌, Bool, true, false, List, [], ◌∷◌, ◌++◌, length, map, drop, Option, Some, None, Result, Ok, Err, refl, sym, ap, subst, ◌∙◌, append-nil, append_assoc, length-append}
-use Rattle.std.specs.Prelude.{IfOk, IsErrAnd, is_ok, slice_get}
+use Rattle.std.proofs.Common.{◌≡◌, ℕ, zero, suc, ◌+◌, Bool, true, false, List, [], ◌∷◌, ◌++◌, length, map, drop, Option, Some, None, Result, Ok, Err, refl, sym, ap, subst, ◌∙◌, append-nil, append_assoc, length-append, arith}
+use Rattle.std.specs.Prelude.{◌<◌, ◌-◌, IfOk, IfSome, IsErrAnd, is_ok, slice_get}
 use Rattle.std.proofs.lemmas.List.{drop-drop, length-map, map-append}
-use Rattle.std.proofs.lemmas.Option.{same_Some}
+use Rattle.std.proofs.lemmas.Option.{same_Some, slice_get_within}
 use Rattle.em_host.specs.Outside.{Outside}
 use Rattle.em_tree.specs.declared.outcome.Outcome.{Outcome}
 use Rattle.em_tree.specs.declared.state.State.{State}
@@ -20,16 +21,16 @@ use Rattle.em_engine.specs.Fronts.{Standing, next_of, Stands}
 use Rattle.em_engine.proofs.Fronting.{next_is, stands_more}
 use Rattle.em_workers.specs.declared.lender.Settled.{Settled}
 use Rattle.em_workers.specs.declared.no.BuildNo.{BuildNo}
-use Rattle.em_workers.specs.declared.no.BuildNo.TheVariants.{NoMemory}
+use Rattle.em_workers.specs.declared.no.BuildNo.TheVariants.{Host, NoMemory}
 use Rattle.em_workers.specs.declared.next.Committed.{Committed}
-use Rattle.em_workers.specs.Lending.{Lending, Told}
-use Rattle.em_workers.specs.Turns.{effect_of, behind, IsCommitted, IsNote}
+use Rattle.em_workers.specs.Lending.{Lending, Told, Lends}
+use Rattle.em_workers.specs.Turns.{effect_of, behind, IsCommitted, IsNote, runs_for}
 use Rattle.em_workers.specs.Notes.{AreTurns}
-use Rattle.em_workers.specs.Printing.{Printed}
-use Rattle.em_workers.specs.Commits.{jobs_left, settled_as, settled_by, Serves, Commits}
-use Rattle.em_workers.proofs.Lending.{told_then, told_same, told_weaken, serves_none, serves_then, serves_cut}
+use Rattle.em_workers.specs.Printing.{Printed, faults_after}
+use Rattle.em_workers.specs.Commits.{jobs_left, settled_as, settled_by, job_settled, IsSettled, listed, noted, Serves, Commits}
+use Rattle.em_workers.proofs.Lending.{told_then, told_same, told_weaken, serves_none, serves_then, serves_cut, lent_in_vain, lent_alone, lent_settled}
 use Rattle.em_workers.proofs.Noting.{turns_then}
-use Rattle.em_workers.proofs.Printing.{printed_none, printed_then, cut, with_value}
+use Rattle.em_workers.proofs.Printing.{printed_none, printed_then, cut, with_value, with_err}
 
 state_then : (s : State) (ms ns : List Made) → state_after s (ms ++ ns) ≡ state_after (state_after s ms) ns
 state_then s [] ns = refl
@@ -170,3 +171,87 @@ module _ {S : Type 0} (makes : S → State → Effect → ℕ → Type 0) (ends 
     served = told_weaken a b (λ f g h. serves_cut f g h) c.served;
     printed = cut (outputs_of c.made) c.printed;
   }
+
+  -- the next job was committed, its output was printed, and it was settled, or the build broke off
+  pub commits_next : {v w : Standing S} {a b e : Option (Lending S)} {x y : Option Outside} (next : S) (c : Committed) (lent : Option (Taken S)) (n : Note) (job : ℕ) (told : Result (Unit {0}) BuildNo)
+      → next_of v ≡ Some next → job ≡ job_of next → IfSome (next_of v) (λ j. IsCommitted makes ends v w j c) → IfSome (next_of v) (λ j. IsNote job_of eq v.state v.deltas j lent n)
+      → Told (Lends lent) a b → Told (IsSettled (job_settled job c.delta c.outcome) told) b e → Printed (c.output ∷ []) told x y → Commits makes ends job_of eq v w (listed (noted told n)) a e x y
+  commits_next {v} {w} {a} {b} {e} {x} {y} next c lent n job told is number it note lends settled printed =
+      by_end told (subst (λ (k : ℕ). Told (IsSettled (job_settled k c.delta c.outcome) told) b e) number settled) printed
+    where
+      here : IsCommitted makes ends v w next c
+      here = subst (λ (o : Option S). IfSome o (λ j. IsCommitted makes ends v w j c)) is it
+
+      its_note : IsNote job_of eq v.state v.deltas next lent n
+      its_note = subst (λ (o : Option S). IfSome o (λ j. IsNote job_of eq v.state v.deltas j lent n)) is note
+
+      by_end : (told : Result (Unit {0}) BuildNo) → Told (IsSettled (job_settled (job_of next) c.delta c.outcome) told) b e → Printed (c.output ∷ []) told x y → Commits makes ends job_of eq v w (listed (noted told n)) a e x y
+      by_end (Ok u) settled printed = commits_one next c lent n is here its_note refl (told_then a b e (λ f g h p q. lent_settled lent (settled_as job_of next (made_of c)) f g h p q) lends settled) (with_value (c.output ∷ []) printed)
+      by_end (Err m) settled printed = commits_one next c lent n is here its_note tt
+          (told_then a b e (λ f g h p q. subst (λ (k : Lending S). Serves false (lent ∷ []) (settled_as job_of next (made_of c) ∷ []) f k) (sym q) (lent_alone lent (settled_as job_of next (made_of c)) f g p)) lends settled)
+          (with_err (c.output ∷ []) printed)
+
+  -- the same where the committer ran it by itself
+  pub commits_rerun : {v w : Standing S} {x y : Option Outside} (next : S) (c : Committed) (n : Note) (told : Result (Unit {0}) BuildNo) → next_of v ≡ Some next → n.job ≡ job_of next → n.runs ≡ 1 → n.cause ≡ None
+      → IfSome (next_of v) (λ j. IsCommitted makes ends v w j c) → Printed (c.output ∷ []) told x y → Commits makes ends job_of eq v w (listed (noted told n)) None None x y
+  commits_rerun {v} {w} {x} {y} next c n told is number runs cause it printed = by_end told printed
+    where
+      here : IsCommitted makes ends v w next c
+      here = subst (λ (o : Option S). IfSome o (λ j. IsCommitted makes ends v w j c)) is it
+
+      its_note : IsNote job_of eq v.state v.deltas next None n
+      its_note = record { job = number; runs = runs ∙ ap runs_for (sym cause); cause = cause }
+
+      by_end : (told : Result (Unit {0}) BuildNo) → Printed (c.output ∷ []) told x y → Commits makes ends job_of eq v w (listed (noted told n)) None None x y
+      by_end (Ok u) printed = commits_one next c None n is here its_note refl tt (with_value (c.output ∷ []) printed)
+      by_end (Err m) printed = commits_one next c None n is here its_note tt tt (with_err (c.output ∷ []) printed)
+
+  -- fewer jobs are left
+  pub fewer : {v w : Standing S} (next : S) (c : Committed) → next_of v ≡ Some next → IfSome (next_of v) (λ j. IsCommitted makes ends v w j c) → length w.specs - length w.deltas < length v.specs - length v.deltas
+  fewer {v} {w} next c is it =
+      let here : IsCommitted makes ends v w next c = subst (λ (o : Option S). IfSome o (λ j. IsCommitted makes ends v w j c)) is it in
+      let at : length v.deltas < length v.specs = slice_get_within v.specs (length v.deltas) next (next_is v next is).1 in
+      let specs : length w.specs ≡ length v.specs = ap (λ (u : Standing S). length u.specs) here.stands in
+      let deltas : length w.deltas ≡ length v.deltas + 1 = ap (λ (u : Standing S). length u.deltas) here.stands ∙ length-append v.deltas (c.delta ∷ []) in
+      omega (arith, at, specs, deltas)
+
+  -- memory ran out before it was committed
+  pub commits_lost : {v w : Standing S} {a b : Option (Lending S)} {x : Option Outside} (lent : Option (Taken S)) (r : Result (Option Note) BuildNo) → IsErrAnd r (λ m. m ≡ NoMemory) → w ≡ v → Told (Lends lent) a b
+      → Commits makes ends job_of eq v w (listed r) a b x x
+  commits_lost lent (Ok o) is same lends = absurd is
+  commits_lost {v} {w} {a} {b} {x} lent (Err m) is same lends = subst (λ (k : BuildNo). Commits makes ends job_of eq v w (Err k) a b x x) (sym is)
+      (commits_nothing same tt (told_weaken a b (λ f g p. lent_in_vain lent f g p) lends) (cut [] {a = tt} printed_none))
+
+  pub commits_failed : {v w : Standing S} {x : Option Outside} (r : Result (Option Note) BuildNo) → IsErrAnd r (λ m. m ≡ NoMemory) → w ≡ v → Commits makes ends job_of eq v w (listed r) None None x x
+  commits_failed (Ok o) is same = absurd is
+  commits_failed {v} {w} {x} (Err m) is same = subst (λ (k : BuildNo). Commits makes ends job_of eq v w (Err k) None None x x) (sym is) (commits_nothing same tt tt (cut [] {a = tt} printed_none))
+
+-- ---- a job's note, unless the build broke off behind it
+
+pub if_noted : {P : Note → Type 0} (told : Result (Unit {0}) BuildNo) (n : Note) → P n → IfOk (noted told n) (λ o. IfSome o P)
+if_noted (Ok u) n p = p
+if_noted (Err e) n p = tt
+
+pub is_noted : {Q : Type 0} (told : Result (Unit {0}) BuildNo) (n : Note) → IfOk (noted told n) (λ o. o ≡ None → Q)
+is_noted (Ok u) n = λ none. absurd (cc)
+is_noted (Err e) n = tt
+
+pub faults_noted : (told : Result (Unit {0}) BuildNo) (n : Note) (k : ℕ) → faults_after (noted told n) k ≡ faults_after told k
+faults_noted (Ok u) n k = refl
+faults_noted (Err Host) n k = refl
+faults_noted (Err NoMemory) n k = refl
+
+same_faults : (A B : Type 0) (e : BuildNo) (k : ℕ) → faults_after (let r : Result A BuildNo = Err e in r) k ≡ faults_after (let r : Result B BuildNo = Err e in r) k
+same_faults A B Host k = refl
+same_faults A B NoMemory k = refl
+
+-- the count of faults at a `?`
+pub faults_left : (A : Type 0) {B : Type 0} (r : Result B BuildNo) (e : BuildNo) (k m n : ℕ) → IsErrAnd r (λ f. f ≡ e) → k ≡ faults_after (let q : Result A BuildNo = Err e in q) m → m ≡ n → k ≡ faults_after r n
+faults_left A (Ok b) e k m n is counted same = absurd is
+faults_left A {B} (Err f) e k m n is counted same =
+    counted ∙ ap (faults_after (let q : Result A BuildNo = Err e in q)) same ∙ same_faults A B e n ∙ ap (λ (g : BuildNo). faults_after (let q : Result B BuildNo = Err g in q) n) (sym is)
+
+-- and where memory ran out
+pub faults_cut : {B : Type 0} (r : Result B BuildNo) (k n : ℕ) → IsErrAnd r (λ f. f ≡ NoMemory) → k ≡ n → k ≡ faults_after r n
+faults_cut (Ok b) k n is same = absurd is
+faults_cut {B} (Err f) k n is same = same ∙ ap (λ (g : BuildNo). faults_after (let q : Result B BuildNo = Err g in q) n) (sym is)

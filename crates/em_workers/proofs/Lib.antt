@@ -1,4 +1,5 @@
 mod Printing
 mod Lending
+mod Turning
 mod Noting
 mod Committing

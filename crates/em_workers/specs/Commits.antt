@@ -43,6 +43,11 @@ listed (Ok None) = Ok []
 listed (Ok (Some n)) = Ok (n ∷ [])
 listed (Err e) = Err e
 
+-- the note of a job, unless the build broke off behind it
+abbrev pub noted : Result (Unit {0}) BuildNo → Note → Result (Option Note) BuildNo
+noted (Ok u) n = Ok (Some n)
+noted (Err e) n = Err e
+
 -- whole: nothing broke off
 pub record Serves {S : Type 0} (whole : Bool) (lent : List (Option (Taken S))) (jobs : List Settled) (a b : Lending S) : Type 0 where
   pub first : lent ≡ given (length lent) a.lends

@@ -1,10 +1,10 @@
 //! The committer's loop.
-ghost use Rattle.std.specs.Prelude.{◌≡◌, ◌<◌, ◌-◌, None, IfOk, IfSome, length};
+ghost use Rattle.std.specs.Prelude.{◌≡◌, ◌<◌, ◌-◌, [], ◌∷◌, None, IfOk, IfSome, length};
 ghost use Rattle.em_engine.specs.Fronts.{next_of};
 ghost use Rattle.em_workers.specs.Builds.{AreAlone};
-ghost use Rattle.em_workers.specs.Commits.{Commits, CommitsAll, IsSettled, listed, job_settled};
+ghost use Rattle.em_workers.specs.Commits.{Commits, CommitsAll, IsSettled, listed, noted, job_settled};
 ghost use Rattle.em_workers.specs.Lending.{Told};
-ghost use Rattle.em_workers.specs.Printing.{faults_after};
+ghost use Rattle.em_workers.specs.Printing.{Printed, faults_after};
 
 use crate::gate::Gate;
 use crate::lender::Lender;
@@ -35,6 +35,40 @@ fn settle<S: Spec, L: Lender<S>>(
     }
 }
 
+/// Prints what was committed of a job, and settles it.
+fn deliver<S: Spec, L: Lender<S>, H: Host>(
+    lender: &mut L,
+    host: &mut H,
+    job: u32,
+    committed: Committed,
+) -> Result<(), BuildNo>
+    ensures settled { Told (IsSettled (job_settled job committed.delta committed.outcome) result)
+        (L.told lender.old) (L.told lender.new) }
+    ensures printed { Printed (committed.output ∷ []) result (H.told host.old) (H.told host.new) }
+    ensures faults { H.faults host.new ≡ faults_after result (H.faults host.old) }
+{
+    let Committed {
+        output,
+        delta,
+        outcome,
+        fuel: _,
+    } = committed;
+    match print(host, output.bytes()) {
+        Ok(()) => settle(lender, job, delta, outcome),
+        Err(no) => Err(no),
+    }
+}
+
+/// The note, unless the build broke off.
+fn noted(told: Result<(), BuildNo>, note: Note) -> Result<Option<Note>, BuildNo>
+    ensures { result ≡ noted told note }
+{
+    match told {
+        Ok(()) => Ok(Some(note)),
+        Err(no) => Err(no),
+    }
+}
+
 /// Commits the next job, prints its output and settles it. None where there is no next job.
 fn commit_next<S: Spec, L: Lender<S>, W: Work<S>, G: Gate, H: Host>(
     alloc: Global,
@@ -58,15 +92,8 @@ fn commit_next<S: Spec, L: Lender<S>, W: Work<S>, G: Gate, H: Host>(
     let job = next.job();
     let taken = lender.lend(job);
     let (committed, note) = turn(alloc, front, taken, w, gate)?;
-    let Committed {
-        output,
-        delta,
-        outcome,
-        fuel: _,
-    } = committed;
-    print(host, output.bytes())?;
-    settle(lender, job, delta, outcome)?;
-    Ok(Some(note))
+    let told = deliver(lender, host, job, committed);
+    noted(told, note)
 }
 
 /// Commits the jobs that are left, up to the first that ends the run.
@@ -135,12 +162,15 @@ fn rerun_next<S: Spec, W: Work<S>, G: Gate, H: Host>(
     };
     let job = next.job();
     let committed = rerun(alloc, front, w, gate)?;
-    print(host, committed.output.bytes())?;
-    Ok(Some(Note {
-        job,
-        runs: 1,
-        cause: None,
-    }))
+    let told = print(host, committed.output.bytes());
+    noted(
+        told,
+        Note {
+            job,
+            runs: 1,
+            cause: None,
+        },
+    )
 }
 
 /// Runs the jobs that are left, one after another, up to the first that ends the run.
