@@ -1,5 +1,2 @@
-mod Printing
-mod Lending
 mod Turning
 mod Noting
-mod Committing

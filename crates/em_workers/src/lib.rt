@@ -1,19 +1,10 @@
-//! Workers that run jobs ahead, and the committer that commits them in serial order.
+//! What the committer does with one job: it commits a run that a worker made ahead, or runs the job again.
 #![tactic(auto)]
 
-mod builder;
-mod commit;
 mod gate;
-mod lender;
+mod laws;
 mod next;
-mod no;
-mod print;
-mod worker;
 
-pub use builder::{Built, build};
-pub use commit::commit_all;
 pub use gate::{Gate, OpenGate};
-pub use lender::{Lender, ScriptLender, Settled, SharedLender};
+pub use laws::law_notes;
 pub use next::{Committed, rerun, turn};
-pub use no::BuildNo;
-pub use worker::work;

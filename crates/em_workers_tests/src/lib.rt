@@ -1,5 +1,0 @@
-//! Tests of builds with workers.
-#![tactic(auto)]
-
-#[cfg(test)]
-mod small;
