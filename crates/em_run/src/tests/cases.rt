@@ -35,7 +35,7 @@ fn run_at_root(alloc: Global, spec: &Mark) -> Result<Run<Mark>, NoMemory> {
 /// What may be handed from thread to thread.
 fn crosses<T: Send + Sync>(_value: &T) {}
 
-fn run_crosses<S: Spec>(run: &Run<S>) {
+fn run_crosses<S: Spec + Send + Sync>(run: &Run<S>) {
     crosses(run);
     crosses(run.spec());
 }
