@@ -10,7 +10,7 @@ pub invariant_of-self-2 : goal.invariant_of-self-2
 invariant_of-self-2 g c =
     let N : Standing g.row.S.Denot → Type 0 = λ v. IsSomeAnd (next_of v) (λ next. g.S.PartialEq.eq c.args.run.spec next ≡ true) in
     let next = the_next _ (λ n. g.S.PartialEq.eq c.args.run.spec n ≡ true) (subst N (sym c.self.view_is) c.requires.next) in
-    let same = (g.met.S.Spec g.world.𝓛 g.world.𝓜 g.world.𝓡 ((λ s x. x), (λ x. x), (λ x. x), λ x. x)).means_same c.args.run.spec next.0 next.2 in
+    let same = g.met.S.Spec.means_same c.args.run.spec next.0 next.2 in
     let gives = c.in-Ok-lay_run.ensures.gives in
     let parts = c.into_parts-parts.ensures.parts in
     let job : c.len-job.result ≡ length c.self.inside.deltas.items = omega (arith, c.len-job.ensures) in

@@ -10,8 +10,8 @@ use Rattle.em_job.specs.Effects.{no_end}
 use Rattle.em_job.proofs.Ended.{Carried, whole, onward, plain_before, closing, ended_plain, same_lines}
 use Rattle.em_job.proofs.work.JobWorkWorkJobSpec.run.Goals as goal
 
-pub new-requires-2-after_bounds : goal.new-requires-2-after_bounds
-new-requires-2-after_bounds g c κs =
+pub new-requires-2 : goal.new-requires-2
+new-requires-2 g c =
     let j = c.in_ok-spec.spec in
     let reading = c.in_ok-course.ensures in
     let mid = c.prepare-prepared.new.desk in

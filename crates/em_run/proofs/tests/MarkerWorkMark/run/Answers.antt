@@ -3,8 +3,8 @@ use Rattle.em_run.specs.Examples.{end_of}
 use Rattle.em_run.proofs.Running.{valid, told}
 use Rattle.em_run.proofs.tests.MarkerWorkMark.run.Goals as goal
 
-pub new-run-requires-after_bounds : goal.new-run-requires-after_bounds
-new-run-requires-after_bounds g c κs =
+pub new-run-requires : goal.new-run-requires
+new-run-requires g c =
     let begun = rw (c.new-fuel.ensures, c.from.ensures) at c.new-desk.ensures in
     valid end_of begun c.new-output.ensures c.make.ensures
     (λ s tree agrees. (refl, refl))
