@@ -7,7 +7,7 @@ use Rattle.em_engine.proofs.Steps.{front_can, read_at}
 use Rattle.em_engine.proofs.board.Board.claim_front.Goals as goal
 
 pub begin-requires-clause-can : goal.begin-requires-clause-can
-begin-requires-clause-can g c κs within =
+begin-requires-clause-can g c =
     let L : Seen g.row.S.Denot → Type 0 = λ b. c.args.job < length b.phases in
     let N : Seen g.row.S.Denot → Type 0 = λ b. c.args.job ≡ (told b).settled in
     let lt = subst L (sym c.self.view_is) c.requires.job in
