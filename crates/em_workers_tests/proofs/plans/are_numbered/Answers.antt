@@ -1,0 +1,14 @@
+use Rattle.std.proofs.Common.{◌≡◌, arith, sym, subst, slice_get, inl, inr, Option}
+use Rattle.std.specs.Prelude.{IfSome}
+use Rattle.std.proofs.lemmas.Bool.{cases_lt}
+use Rattle.std.proofs.lemmas.Option.{slice_get_past}
+use Rattle.em_workers_tests.specs.declared.links.Link.{Link}
+use Rattle.em_workers_tests.proofs.plans.are_numbered.Goals as goal
+
+pub returns : goal.returns
+returns c = λ _ k.
+    let P : Option Link → Type 0 = λ o. IfSome o (λ m. m.job ≡ k) in
+    elim (cases_lt k c.loop-i.i) as (λ _. P (slice_get c.args.links.now k)) [
+      | inl lt ↦ c.loop-i.invariant k lt
+      | inr ge ↦ subst P (sym (slice_get_past c.args.links.now k (omega (arith, ge, c.loop-i-test.false)))) tt
+    ]

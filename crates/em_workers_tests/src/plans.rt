@@ -1,0 +1,125 @@
+//! Plans: of each job the path that it reads and the one that it makes.
+ghost use Rattle.std.specs.Prelude.{◌↔◌, ◌<◌, ℕ, [], IsTrue, All, slice_index_or};
+ghost use Rattle.em_engine.specs.Fronts.{AreNumbered};
+
+use super::links::{Link, Linker, root, run_on};
+use em_base::{NoMemory, Seq};
+use em_engine::{Board, Front};
+use em_path::Path;
+use em_run::Run;
+use em_shared::Shared;
+use em_tree::State;
+use std::alloc::Global;
+use std::test::Fail;
+
+/// What each job reads, and what it makes.
+pub(super) type Plan<'a> = &'a [(&'static str, &'static str)];
+
+/// Three jobs, each of which reads the file of the one before. The first reads a file that isn't there.
+pub(super) static THREE: [(&str, &str); 3] = [("/z", "/a"), ("/a", "/b"), ("/b", "/c")];
+
+pub(super) fn path_of(alloc: Global, text: &str) -> Result<Path, Fail> {
+    Ok(Path::from_text(alloc, text.as_bytes())?.ok_or("no path")?)
+}
+
+fn link_of(alloc: Global, job: u32, part: &(&str, &str)) -> Result<Link, Fail> {
+    let before = path_of(alloc, part.0)?;
+    let path = path_of(alloc, part.1)?;
+    Ok(Link { job, before, path })
+}
+
+/// The jobs of the plan, with the numbers from 0 on.
+pub(super) fn links_of(alloc: Global, plan: Plan<'_>) -> Result<Seq<Link>, Fail> {
+    let mut links = Seq::new(alloc);
+    for (job, part) in (0..=u32::MAX).zip(plan) {
+        let link = link_of(alloc, job, part)?;
+        links.push(link)?;
+    }
+    Ok(links)
+}
+
+/// Whether job i has the number i.
+pub(super) fn are_numbered(links: &[Link]) -> bool
+    ensures { IsTrue result → AreNumbered (λ l. l.job) links.now }
+{
+    for i in 0..links.len() {
+        if links[i].job as usize != i {
+            return false;
+        }
+    }
+    true
+}
+
+/// What each job waits for: nothing, or where that is declared the one before.
+fn waits_of(alloc: Global, plan: Plan<'_>, is_declared: bool) -> Result<Seq<Seq<u32>>, NoMemory> {
+    let mut waits = Seq::new(alloc);
+    for (job, _part) in (0..=u32::MAX).zip(plan) {
+        let mut wait = Seq::new(alloc);
+        if is_declared && job > 0 {
+            wait.push(job - 1)?;
+        }
+        waits.push(wait)?;
+    }
+    Ok(waits)
+}
+
+fn all_below(jobs: &[u32], job: usize) -> bool
+    ensures { IsTrue result ↔ All (λ k. k < job) jobs.now }
+{
+    jobs.iter().all(|k| (*k as usize) < job)
+}
+
+/// Whether each job waits for jobs below it.
+fn are_lower(waits: &[Seq<u32>]) -> bool
+    ensures { IsTrue result → (j : ℕ) → All (λ k. k < j) (slice_index_or waits.now j []) }
+{
+    for job in 0..waits.len() {
+        if !all_below(waits[job].items(), job) {
+            return false;
+        }
+    }
+    true
+}
+
+/// The run of a job of the plan on a state.
+pub(super) fn run_of(
+    alloc: Global,
+    plan: Plan<'_>,
+    job: u32,
+    state: &State,
+) -> Result<Run<Link>, Fail> {
+    let links = links_of(alloc, plan)?;
+    let link = links.get(job as usize).ok_or("no job")?;
+    Ok(run_on(alloc, link, state)?)
+}
+
+/// Its run over a root alone.
+pub(super) fn run_at_root(alloc: Global, plan: Plan<'_>, job: u32) -> Result<Run<Link>, Fail> {
+    let state = root(alloc)?;
+    run_of(alloc, plan, job, &state)
+}
+
+/// A front of the plan's jobs over a root alone.
+pub(super) fn front_of(alloc: Global, plan: Plan<'_>) -> Result<Front<Link>, Fail> {
+    let links = links_of(alloc, plan)?;
+    if links.len() > 100 || !are_numbered(links.items()) {
+        return Err("numbers".into());
+    }
+    let start = root(alloc)?;
+    Ok(Front::new(alloc, start, links)?)
+}
+
+/// A shared board of the plan's jobs over a root alone.
+pub(super) fn shared_of(
+    alloc: Global,
+    plan: Plan<'_>,
+    is_declared: bool,
+) -> Result<Shared<Link>, Fail> {
+    let waits = waits_of(alloc, plan, is_declared)?;
+    if waits.len() > 100 || !are_lower(waits.items()) {
+        return Err("waits".into());
+    }
+    let start = root(alloc)?;
+    let board = Board::new(alloc, start, waits)?;
+    Ok(Shared::new(board))
+}

@@ -1,0 +1,151 @@
+//! The committer's turns, over what is lent of a job.
+ghost use Rattle.std.specs.Prelude.{IfOk, IfSome};
+ghost use Rattle.em_shared.specs.Waited.{IsLent};
+
+use super::links::{Link, Linker};
+use super::plans::{Plan, front_of, run_at_root, run_of};
+use super::shows::{show_committed, show_note};
+use em_base::{NoMemory, Seq};
+use em_engine::{Front, Note, Taken};
+use em_run::Run;
+use em_tree::{Entry, State};
+use em_workers::{Committed, OpenGate, turn};
+use std::alloc::Global;
+use std::test::Fail;
+
+/// What is lent of a job.
+#[derive(Clone, Copy)]
+enum Lent {
+    Nothing,
+    GivenUp,
+    /// A run over another state, with its own usage.
+    Stale,
+    /// A run over the front's state, with its own usage.
+    Agreeing,
+    /// The same with all but the last entry of its usage.
+    Short,
+}
+
+/// What is lent of the one job, and its note.
+static ROWS: [(Lent, &str); 5] = [
+    (Lent::Nothing, "0 in 1"),
+    (Lent::GivenUp, "0 in 2 memory"),
+    (
+        Lent::Stale,
+        "0 in 2 differ 0: content of /a was /a is no content after none",
+    ),
+    (Lent::Agreeing, "0 in 1"),
+    (
+        Lent::Short,
+        "0 in 2 strange 2: board none, run kind of / is Dir",
+    ),
+];
+
+/// One job, which reads a file that isn't there.
+static ONE: [(&str, &str); 1] = [("/a", "/b")];
+
+/// A job that makes this file.
+static OTHER: [(&str, &str); 1] = [("/z", "/a")];
+
+/// A state in which the other job has made its file.
+fn other_state(alloc: Global) -> Result<State, Fail> {
+    let mut front = front_of(alloc, &OTHER)?;
+    if front.next().is_none() {
+        return Err("no job".into());
+    }
+    let _done = turn(alloc, &mut front, None, &Linker, &OpenGate)?;
+    Ok(front.close().0)
+}
+
+/// The first entries of a usage.
+fn first(alloc: Global, entries: &[Entry], count: usize) -> Result<Seq<Entry>, NoMemory> {
+    let mut asked = Seq::new(alloc);
+    for entry in entries.iter().take(count) {
+        let copy = entry.copy(alloc)?;
+        asked.push(copy)?;
+    }
+    Ok(asked)
+}
+
+/// A run, with so many entries of its usage.
+fn run_lent(alloc: Global, run: Run<Link>, count: usize) -> Result<Option<Taken<Link>>, NoMemory>
+    ensures { IfOk result (λ t. IfSome t IsLent) }
+{
+    let asked = first(alloc, run.usage().items(), count)?;
+    Ok(Some(Taken::Run(run, asked)))
+}
+
+/// The one job's run over a state in which the file that it reads is there.
+fn stale(alloc: Global) -> Result<Option<Taken<Link>>, Fail>
+    ensures { IfOk result (λ t. IfSome t IsLent) }
+{
+    let state = other_state(alloc)?;
+    let run = run_of(alloc, &ONE, 0, &state)?;
+    Ok(run_lent(alloc, run, 3)?)
+}
+
+/// The run of the first job over a root alone, with so many entries of its usage.
+fn agreeing(alloc: Global, plan: Plan<'_>, count: usize) -> Result<Option<Taken<Link>>, Fail>
+    ensures { IfOk result (λ t. IfSome t IsLent) }
+{
+    let run = run_at_root(alloc, plan, 0)?;
+    Ok(run_lent(alloc, run, count)?)
+}
+
+fn taken_of(alloc: Global, row: Lent) -> Result<Option<Taken<Link>>, Fail>
+    ensures { IfOk result (λ t. IfSome t IsLent) }
+{
+    match row {
+        Lent::Nothing => Ok(None),
+        Lent::GivenUp => Ok(Some(Taken::GivenUp)),
+        Lent::Stale => stale(alloc),
+        Lent::Agreeing => agreeing(alloc, &ONE, 3),
+        Lent::Short => agreeing(alloc, &ONE, 2),
+    }
+}
+
+/// What was committed, and its note, as texts.
+fn told(alloc: Global, committed: &Committed, note: &Note) -> Result<(String, String), Fail> {
+    let mut log = String::new(alloc);
+    show_note(&mut log, note)?;
+    let done = show_committed(alloc, committed)?;
+    Ok((done, log))
+}
+
+/// What is committed of the next job, and its note.
+fn turn_of(
+    alloc: Global,
+    front: &mut Front<Link>,
+    taken: Option<Taken<Link>>,
+) -> Result<(Committed, Note), Fail>
+    requires { IfSome taken IsLent }
+{
+    if front.next().is_none() {
+        return Err("no job".into());
+    }
+    match turn(alloc, front, taken, &Linker, &OpenGate) {
+        Ok(done) => Ok(done),
+        Err(no) => Err(no.into()),
+    }
+}
+
+/// What is committed of the one job, and its note, as texts.
+fn turned(alloc: Global, row: Lent) -> Result<(String, String), Fail> {
+    let taken = taken_of(alloc, row)?;
+    let mut front = front_of(alloc, &ONE)?;
+    let (committed, note) = turn_of(alloc, &mut front, taken)?;
+    told(alloc, &committed, &note)
+}
+
+#[test]
+fn a_turn_commits_the_same_whatever_is_lent(rt: HostRuntime) -> Result<(), Fail> {
+    for (row, wanted) in &ROWS {
+        let (committed, note) = turned(rt.alloc(), *row)?;
+        assert_eq!(rt; note.as_str(), *wanted);
+        assert!(rt;
+            committed.as_str() == "/b made 3 / /b",
+            "{wanted}: {committed}"
+        );
+    }
+    Ok(())
+}
