@@ -9,7 +9,7 @@ use Rattle.emake.proofs.Building.{agreed}
 use Rattle.emake.proofs.serial.advance.Goals as goal
 
 pub commit-requires-clause-agrees : goal.commit-requires-clause-agrees
-commit-requires-clause-agrees c κs =
+commit-requires-clause-agrees c =
     agreed _ _ (subst (λ (s : State). AreTrue (λ i q. Some (answer s q)) c.in_ok-run.run'.usage) (c.new-2.ensures ∙ c.state.ensures.state) c.in_ok-run.ensures.told)
 
 pub returns-in-Ok-clause-turn : goal.returns-in-Ok-clause-turn
