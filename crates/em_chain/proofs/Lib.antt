@@ -1,2 +1,5 @@
+pub mod Pairs
+pub mod Lining
+pub mod Marking
 pub mod Posting
 pub mod Naming

@@ -1,7 +1,7 @@
 -- The names right under a path.
 --     listing_of_tree, listing_of_none      those of a tree
 --     listing_put, listing_gone             one path more, one less
---     listing_laid                          the paths that a delta names right under one are all that it changes there
+--     listing_touched                       the paths right under one that posts name are all that they change there
 --     names_listed                          what is answered
 use Rattle.std.proofs.Common.{◌≡◌, ◌<◌, ℕ, Bool, true, false, cond, not, ◌&&◌, ◌||◌, List, [], ◌∷◌, ◌++◌, Option, Some, None, All, map, length, get_or, take, drop, suc, ◌+◌, add-one, take-append-drop, drop-cons, refl, sym, ap, subst, ◌∙◌}
 use Rattle.std.proofs.Math.Seq.{take-suc}
@@ -18,7 +18,7 @@ use Rattle.std.specs.BTreeSet.{BTreeSet, insert_key}
 use Rattle.std.specs.Set.{remove_key}
 use Rattle.std.specs.FinMap.{FinMap, get, insert, remove, keys, contains_key, contains_key-keys, get-insert, get-remove}
 use Rattle.std.proofs.lemmas.List.{get_or_default}
-use Rattle.std.proofs.lemmas.List.Elements.{All-from_recursion, recursion_from_All, All-nil}
+use Rattle.std.proofs.lemmas.List.Elements.{recursion_from_All}
 use Rattle.std.proofs.lemmas.Map.Views.{list_any-from_Contains, All-insert_key, All-remove_key}
 use Rattle.std.proofs.lemmas.Slice.Eq.{bytes_eq-Decides}
 use Rattle.em_path.specs.Paths.{IsPath, IsComponent, child_text, components, parent_text, last_of}
@@ -26,13 +26,13 @@ use Rattle.em_path.proofs.Spelling.{as_child, order_child, child_last}
 use Rattle.em_tree.specs.declared.node.Kind.{Kind}
 use Rattle.em_tree.specs.declared.node.Kind.TheVariants as kind
 use Rattle.em_tree.specs.declared.node.Node.{Node}
-use Rattle.em_tree.specs.Trees.{Table, Changes, IsTree, kind_of, changed, laid_over}
+use Rattle.em_tree.specs.Trees.{Table, IsTree, kind_of}
 use Rattle.em_tree.specs.Index.{is_parent, is_text}
 use Rattle.em_tree.specs.Names.{IsNameList, children_of, in_dir, names_of}
 use Rattle.em_tree.proofs.Maps.{order}
 use Rattle.em_tree.proofs.Tables.{same_key}
 use Rattle.em_tree.proofs.Laying.{over, get-changed}
-use Rattle.em_tree.proofs.Lawful.{get-laid_over, same_children}
+use Rattle.em_tree.proofs.Lawful.{same_children}
 use Rattle.em_tree.proofs.Naming.{any_child, children_are, children_none, parent_said, IsNameList-none, at_place, all_below}
 use Rattle.em_chain.specs.Listing.{IsListing, changed_by, changed_at}
 
@@ -221,36 +221,37 @@ get-changed_by None q t k = by_case (eq_by_cmp order k q)
 get-changed_by (Some c) q t k = get-changed t q c k
 
 -- the paths are changed as the delta says, and no others
-get-changed_at : (d : Changes) (qs : List (List ℕ)) (t : Table) (k : List ℕ) → get (changed_at d qs t) k ≡ cond (has k qs) (over (get d k) (get t k)) (get t k)
-get-changed_at d [] t k = refl
-get-changed_at d (q ∷ qs) t k =
-    get-changed_at d qs (changed_by (get d q) q t) k ∙ ap (λ (o : Option Node). cond (has k qs) (over (get d k) o) o) (get-changed_by (get d q) q t k) ∙ by_case (eq_by_cmp order k q) refl (has k qs)
+get-changed_at : (f : List ℕ → Option (Option Node)) (qs : List (List ℕ)) (t : Table) (k : List ℕ) → get (changed_at f qs t) k ≡ cond (has k qs) (over (f k) (get t k)) (get t k)
+get-changed_at f [] t k = refl
+get-changed_at f (q ∷ qs) t k =
+    get-changed_at f qs (changed_by (f q) q t) k ∙ ap (λ (o : Option Node). cond (has k qs) (over (f k) o) o) (get-changed_by (f q) q t k) ∙ by_case (eq_by_cmp order k q) refl (has k qs)
   where
     twice : (c : Option (Option Node)) (o : Option Node) → over c (over c o) ≡ over c o
     twice None o = refl
     twice (Some c) o = refl
 
     by_case : (b : Bool) → eq_by_cmp order k q ≡ b → (e : Bool)
-        → cond e (over (get d k) (cond b (over (get d q) (get t k)) (get t k))) (cond b (over (get d q) (get t k)) (get t k)) ≡ cond (b || e) (over (get d k) (get t k)) (get t k)
-    by_case true f true = ap (λ (x : List ℕ). over (get d k) (over (get d x) (get t k))) (sym (same_key k q f)) ∙ twice (get d k) (get t k)
-    by_case true f false = ap (λ (x : List ℕ). over (get d x) (get t k)) (sym (same_key k q f))
-    by_case false f e = refl
+        → cond e (over (f k) (cond b (over (f q) (get t k)) (get t k))) (cond b (over (f q) (get t k)) (get t k)) ≡ cond (b || e) (over (f k) (get t k)) (get t k)
+    by_case true g true = ap (λ (x : List ℕ). over (f k) (over (f x) (get t k))) (sym (same_key k q g)) ∙ twice (f k) (get t k)
+    by_case true g false = ap (λ (x : List ℕ). over (f x) (get t k)) (sym (same_key k q g))
+    by_case false g e = refl
 
-laid_children : (d : Changes) (t : Table) (p : List ℕ) → children_of (changed_at d (children_of d p) t) p ≡ children_of (laid_over d t) p
-laid_children d t p = same_children (changed_at d (children_of d p) t) (laid_over d t) p (λ k up. ap is_some (
-    get-changed_at d (children_of d p) t k ∙ ap (λ b. cond b (over (get d k) (get t k)) (get t k)) (any_child d p k ∙ ap (λ b. b && contains_key d k) (named_is p k up))
-    ∙ by_case k (get d k) ∙ sym (get-laid_over d t k)))
-  where
-    by_case : (k : List ℕ) (c : Option (Option Node)) → cond (is_some c) (over c (get t k)) (get t k) ≡ over c (get t k)
-    by_case k None = refl
-    by_case k (Some c) = refl
+-- the children of p whose chains aren't empty become what f says, and f says nothing of the others
+module _ {X : Type 0} (f : List ℕ → Option (Option Node)) (m : FinMap order X) (t u : Table) (p : List ℕ) (at : (k : List ℕ) → get u k ≡ over (f k) (get t k)) (none : (k : List ℕ) → get m k ≡ None → f k ≡ None) where
+  touched_children : children_of (changed_at f (children_of m p) t) p ≡ children_of u p
+  touched_children = same_children (changed_at f (children_of m p) t) u p (λ k up. ap is_some (
+      get-changed_at f (children_of m p) t k ∙ ap (λ b. cond b (over (f k) (get t k)) (get t k)) (any_child m p k ∙ ap (λ b. b && contains_key m k) (named_is p k up))
+      ∙ by_case k (get m k) refl ∙ sym (at k)))
+    where
+      by_case : (k : List ℕ) (o : Option X) → get m k ≡ o → cond (is_some o) (over (f k) (get t k)) (get t k) ≡ over (f k) (get t k)
+      by_case k None e = ap (λ c. over c (get t k)) (sym (none k e))
+      by_case k (Some x) e = refl
 
-pub listing_laid : (d : Changes) (t : Table) (p : List ℕ) (ns : List (List ℕ)) → IsListing p (changed_at d (children_of d p) t) ns → IsListing p (laid_over d t) ns
-listing_laid d t p ns h = record { names = h.names; children = sym (laid_children d t p) ∙ h.children }
+  pub listing_touched : (ns : List (List ℕ)) → IsListing p (changed_at f (children_of m p) t) ns → IsListing p u ns
+  listing_touched ns h = record { names = h.names; children = sym touched_children ∙ h.children }
 
--- no path right under p is named
-pub listing_none : (d : Changes) (t : Table) (p : List ℕ) (ns : List (List ℕ)) → [] ≡ children_of d p → IsListing p t ns → IsListing p (laid_over d t) ns
-listing_none d t p ns e h = listing_laid d t p ns (subst (λ (qs : List (List ℕ)). IsListing p (changed_at d qs t) ns) e h)
+  pub listing_untouched : (ns : List (List ℕ)) → [] ≡ children_of m p → IsListing p t ns → IsListing p u ns
+  listing_untouched ns e h = listing_touched ns (subst (λ (qs : List (List ℕ)). IsListing p (changed_at f qs t) ns) e h)
 
 -- ---- a tree
 
@@ -310,19 +311,16 @@ names_listed t p ns path dir h =
 
 -- ---- on the way through the paths of a delta
 
-pub listing_step : (d : Changes) (p : List ℕ) (its next : List (List ℕ)) (u w : Table) (q : List ℕ) (c : Option (Option Node)) (ms : List (List ℕ))
-    → its ≡ q ∷ next → c ≡ get d q → changed_at d its u ≡ w → AllByRecursion (λ k. parent_text k ≡ Some p) its → (parent_text q ≡ Some p → IsListing p (changed_by c q u) ms)
-    → (x : Table) × (changed_at d next x ≡ w) × AllByRecursion (λ k. parent_text k ≡ Some p) next × IsListing p x ms
-listing_step d p its next u w q c ms e is goes ups more =
+pub listing_step : (f : List ℕ → Option (Option Node)) (p : List ℕ) (its next : List (List ℕ)) (u w : Table) (q : List ℕ) (c : Option (Option Node)) (ms : List (List ℕ))
+    → its ≡ q ∷ next → c ≡ f q → changed_at f its u ≡ w → AllByRecursion (λ k. parent_text k ≡ Some p) its → (parent_text q ≡ Some p → IsListing p (changed_by c q u) ms)
+    → (x : Table) × (changed_at f next x ≡ w) × AllByRecursion (λ k. parent_text k ≡ Some p) next × IsListing p x ms
+listing_step f p its next u w q c ms e is goes ups more =
     let here = subst (AllByRecursion (λ k. parent_text k ≡ Some p)) e ups in (
       changed_by c q u,
-      ap (λ (b : Option (Option Node)). changed_at d next (changed_by b q u)) is ∙ sym (ap (λ (qs : List (List ℕ)). changed_at d qs u) e) ∙ goes,
+      ap (λ (b : Option (Option Node)). changed_at f next (changed_by b q u)) is ∙ sym (ap (λ (qs : List (List ℕ)). changed_at f qs u) e) ∙ goes,
       here.1,
       more here.0,
     )
 
--- all paths under p have been gone through
-pub listing_done : (d : Changes) (t : Table) (p : List ℕ) (qs ns ms : List (List ℕ)) → qs ≡ children_of d p
-    → ((r : List ℕ) (u : Table) → AllByRecursion (λ k. parent_text k ≡ Some r) qs → IsListing r u ns → IsListing r (changed_at d qs u) ms) → IsListing p t ns → IsListing p (laid_over d t) ms
-listing_done d t p qs ns ms e goes h =
-    listing_laid d t p ms (subst (λ (ks : List (List ℕ)). IsListing p (changed_at d ks t) ms) e (goes p t (subst (AllByRecursion (λ k. parent_text k ≡ Some p)) (sym e) (parents_are p (keys d))) h))
+pub parents_of : {X : Type 0} (p : List ℕ) (m : FinMap order X) (qs : List (List ℕ)) → qs ≡ children_of m p → AllByRecursion (λ k. parent_text k ≡ Some p) qs
+parents_of p m qs e = subst (AllByRecursion (λ k. parent_text k ≡ Some p)) (sym e) (parents_are p (keys m))

@@ -4,7 +4,7 @@
 --     table_below v j       the start's table with them; it need not be a tree
 --     outcome_below v j k   how job k ended, by its post
 --     looked v j q          the answer
-use Rattle.std.specs.Prelude.{ℕ, List, [], ◌∷◌, Option, Some, None, option_map, nat_lt, if◌then◌else◌}
+use Rattle.std.specs.Prelude.{ℕ, List, [], ◌∷◌, Option, None, option_map, nat_lt, if◌then◌else◌}
 use Rattle.std.specs.List.{filter}
 use Rattle.std.specs.FinMap.{get, entries}
 use Rattle.em_tree.specs.declared.outcome.Outcome.{Outcome}

@@ -1,17 +1,15 @@
 //! The names of a directory under the changes that were posted.
 ghost use Rattle.std.specs.Prelude.{◌≡◌, ℕ, List, Some, IfOk, OnOk, option_copied};
-ghost use Rattle.std.specs.List.{AllByRecursion};
 ghost use Rattle.em_path.specs.Paths.{parent_text};
 ghost use Rattle.em_tree.specs.Names.{IsNameList};
-ghost use Rattle.em_tree.specs.Trees.{Table, laid_over};
-ghost use Rattle.em_chain.specs.Listing.{IsListing, changed_by, changed_at, names_told};
+ghost use Rattle.em_tree.specs.Trees.{Table};
+ghost use Rattle.em_chain.specs.Listing.{IsListing, changed_by, names_told};
 
 use em_base::{NoMemory, Text};
 use em_path::Path;
-use em_tree::{Answer, Delta, NameList, Node};
+use em_tree::{Answer, NameList, Node};
 use std::alloc::Global;
 use std::collections::BTreeSet;
-use std::collections::btree_set::Iter;
 
 /// The names as a set.
 pub(crate) fn name_set(alloc: Global, names: &[Text]) -> Result<BTreeSet<Text>, NoMemory>
@@ -38,7 +36,7 @@ pub(crate) fn list_of(alloc: Global, set: &BTreeSet<Text>) -> Result<NameList, N
 }
 
 /// Puts or takes out the name of one path, by what becomes of the path.
-fn amend(
+pub(crate) fn amend(
     alloc: Global,
     set: &mut BTreeSet<Text>,
     becomes: Option<&Option<Node>>,
@@ -65,41 +63,6 @@ fn amend(
             set.remove(&name);
         }
     }
-    Ok(())
-}
-
-fn amend_all(
-    alloc: Global,
-    set: &mut BTreeSet<Text>,
-    delta: &Delta,
-    paths: Iter<'_, Path>,
-) -> Result<(), NoMemory>
-    requires named { IsNameList set.old.keys }
-    ensures named { OnOk result (IsNameList set.new.keys) }
-    ensures listing { OnOk result ((p : List ℕ) (t : Table) → AllByRecursion (λ q. parent_text q ≡ Some p) paths.entry
-        → IsListing p t set.old.keys → IsListing p (changed_at delta.now paths.entry t) set.new.keys) }
-{
-    for path in paths {
-        amend(alloc, set, delta.get(path), path)?;
-    }
-    Ok(())
-}
-
-/// Puts in the children that the delta makes under a directory, and takes out those that it removes.
-pub(crate) fn lay_names(
-    alloc: Global,
-    set: &mut BTreeSet<Text>,
-    delta: &Delta,
-    dir: &Path,
-) -> Result<(), NoMemory>
-    requires named { IsNameList set.old.keys }
-    ensures named { OnOk result (IsNameList set.new.keys) }
-    ensures listing { OnOk result ((t : Table) → IsListing dir.now t set.old.keys → IsListing dir.now (laid_over delta.now t) set.new.keys) }
-{
-    let Some(paths) = delta.under(dir) else {
-        return Ok(());
-    };
-    amend_all(alloc, set, delta, paths)?;
     Ok(())
 }
 

@@ -1,38 +1,50 @@
 //! A start, and what jobs have posted over it.
-ghost use Rattle.std.specs.Prelude.{◌≡◌, ◌↔◌, IfOk, OnOk, OnErr, IsTrue, IsSome, option_copied, unwrap_or};
+ghost use Rattle.std.specs.Prelude.{◌≡◌, ◌↔◌, ℕ, ◌+◌, ◌-◌, ◌*◌, ◌^◌, ◌≤◌, List, IfOk, OnOk, OnErr, IsTrue, IsSome, Some, length, option_copied, option_map};
 ghost use Rattle.std.specs.FinMap as map;
 ghost use Rattle.em_tree.specs.declared.node.Kind.TheVariants as kind;
 ghost use Rattle.em_tree.specs.Answers.{holds_memory};
-ghost use Rattle.em_tree.specs.Names.{names_of};
-ghost use Rattle.em_tree.specs.Trees.{kind_of, stamp_of, content_of};
+ghost use Rattle.std.specs.List.{AllByRecursion};
+ghost use Rattle.em_path.specs.Paths.{parent_text};
+ghost use Rattle.em_tree.specs.Names.{IsNameList, names_of};
+ghost use Rattle.em_tree.specs.Trees.{Table, kind_of, stamp_of, content_of};
+ghost use Rattle.em_chain.specs.Chains.{chain_of, change_below, last_below, last_named};
 ghost use Rattle.em_chain.specs.Looking.{looked, table_below, outcome_below};
-ghost use Rattle.em_chain.specs.Listing.{IsListing};
+ghost use Rattle.em_chain.specs.Listing.{IsListing, changed_at};
 
-use crate::names::{lay_names, list_of, listed, name_set};
+use crate::chain::Steps;
+use crate::lines::Lines;
+use crate::marks::{changes_of, commit, delta_of, drop_old, drop_stale, stage};
+use crate::names::{amend, list_of, listed, name_set};
 use crate::post::Post;
 use em_base::{NoMemory, Text};
 use em_path::Path;
 use em_tree::{Answer, Body, Delta, Kind, NameList, Node, Outcome, Question, State};
 use std::alloc::Global;
+use std::collections::btree_set::Iter;
 use std::collections::{BTreeMap, BTreeSet};
 use std::marker::Model;
 
 /// A starting state, and what jobs have posted over it. What a job is answered are the start and the posts of the jobs below it,
-/// laid over one another in order of number; such a table need not be a tree.
+/// laid over one another in order of number; such a table need not be a tree. Beside the posts stands the chain of each path that
+/// they name.
 #[derive(Drop)]
 pub struct Versions {
     alloc: Global,
     start: State,
     posts: BTreeMap<u32, Post>,
+    lines: Lines,
 }
 
 impl Model for Versions {
+    ghost use Rattle.std.specs.Prelude.{◌≡◌, ℕ, List};
     ghost use Rattle.std.specs.Ordering.{nat_cmp};
     ghost use Rattle.std.specs.List.Sorted.{IsStrictlySortedBy};
     ghost use Rattle.std.specs.Map.{keys_of};
     ghost use Rattle.std.specs.FinMap as map;
     ghost use Rattle.em_chain.specs.Posts.{Posted};
     ghost use Rattle.em_chain.specs.Codes.{posted_code};
+    ghost use Rattle.em_chain.specs.Chains.{chain_of};
+    ghost use Rattle.em_chain.specs.Lines.{chain_at};
 
     ghost Value = { Posted };
 
@@ -40,7 +52,8 @@ impl Model for Versions {
 
     ghost view = { λ v. record { start = v.start; posts = map.from_entries v.posts.entries } };
 
-    ghost invariant = { λ v. IsStrictlySortedBy nat_cmp (keys_of v.posts.entries) };
+    ghost invariant = { λ v. IsStrictlySortedBy nat_cmp (keys_of v.posts.entries)
+        × ((p : List ℕ) → chain_at v.lines p ≡ chain_of (map.from_entries v.posts.entries) p) };
 }
 
 impl Versions {
@@ -52,43 +65,92 @@ impl Versions {
             alloc,
             start,
             posts: BTreeMap::new(alloc),
+            lines: Lines::new(alloc),
         })
     }
 
     /// Posts what a job changes and how it ended, in place of what it had posted. Steps for the logarithm of how many jobs have
-    /// posted.
+    /// posted, and for each path that its deltas name a few searches, in the paths and in the path's chain, and the jobs above it there.
     pub fn post(&mut self, job: u32, d: Delta, o: Outcome) -> Result<(), NoMemory>
         ensures ok { OnOk result (self.new ≡ record self.old { posts = map.insert self.old.posts job (record { delta = d; outcome = o }) }) }
         ensures err { OnErr result (self.new ≡ self.old) }
     {
-        self.posts.insert(
-            job,
-            Post {
-                delta: d,
-                outcome: o,
-            },
-        )?;
-        Ok(())
+        let changes = changes_of(self.alloc, &d)?;
+        let old = delta_of(&self.posts, job);
+        stage(&mut self.lines, changes.as_slice(), &d, old, job)?;
+        let post = Post {
+            delta: d,
+            outcome: o,
+        };
+        match self.posts.insert(job, post) {
+            Ok(old) => {
+                let keep = delta_of(&self.posts, job);
+                commit(&mut self.lines, changes, old, keep, job);
+                Ok(())
+            }
+            Err(failed) => {
+                let keep = delta_of(&self.posts, job);
+                drop_stale(&mut self.lines, &failed.value.1.delta, keep, job);
+                drop(failed);
+                Err(NoMemory)
+            }
+        }
     }
 
-    /// Takes back what a job has posted, and takes no memory.
+    /// Takes back what a job has posted, and takes no memory. Steps as for a post of its delta.
     pub fn withdraw(&mut self, job: u32)
         ensures { self.new ≡ record self.old { posts = map.remove self.old.posts job } }
     {
-        self.posts.remove(&job);
+        let old = self.posts.remove(&job);
+        drop_old(&mut self.lines, &old, None, job);
+        drop(old);
     }
 
-    /// What stands at a path under the posts of the jobs below one: a search in each post.
+    /// The greatest job below the given one whose delta names the path; `None` exactly where there is none. It reads at most about as
+    /// many jobs as the logarithm of how many deltas name the path, each of which is one of the steps.
+    pub fn last(&self, job: u32, p: &Path, steps: &mut Steps) -> Option<u32>
+        ensures last { result ≡ last_named self.now job p.now }
+        ensures on { steps.old ≤ steps.new }
+        ensures few { 2 ^ (steps.new - steps.old) ≤ 2 * length (chain_of self.now.posts p.now) + 1 }
+    {
+        match self.found(job, p, steps) {
+            Some((last, _)) => Some(last),
+            None => None,
+        }
+    }
+
+    /// That job, with what it makes the path.
+    fn found(&self, job: u32, p: &Path, steps: &mut Steps) -> Option<(u32, &Option<Node>)>
+        ensures found { option_map (λ e. (e.0, e.1.now)) result
+            ≡ last_below job (chain_of self.now.posts p.now) }
+        ensures on { steps.old ≤ steps.new }
+        ensures few { 2 ^ (steps.new - steps.old) ≤ 2 * length (chain_of self.now.posts p.now) + 1 }
+    {
+        match self.lines.chain(p) {
+            Some(chain) => chain.last(job, steps),
+            None => None,
+        }
+    }
+
+    /// What the posts of the jobs below one make a path; `None` where none names it.
+    fn change(&self, job: u32, p: &Path) -> Option<&Option<Node>>
+        ensures { option_copied result ≡ change_below self.now job p.now }
+    {
+        let mut steps = Steps::new();
+        match self.found(job, p, &mut steps) {
+            Some((_, becomes)) => Some(becomes),
+            None => None,
+        }
+    }
+
+    /// What stands at a path under the posts of the jobs below one.
     fn node(&self, job: u32, p: &Path) -> Option<&Node>
         ensures { option_copied result ≡ map.get (table_below self.now job) p.now }
     {
-        let mut found = self.start.tree.get(p);
-        for (k, post) in self.posts.iter() {
-            if *k < job {
-                found = becomes(&post.delta, p, found);
-            }
+        match self.change(job, p) {
+            Some(becomes) => becomes.as_ref(),
+            None => self.start.tree.get(p),
         }
-        found
     }
 
     /// The kind of what stands there.
@@ -154,16 +216,34 @@ impl Versions {
         }
     }
 
-    /// Puts in and takes out what the posts of the jobs below one do right under a path.
+    /// Puts in and takes out the names of the paths, as the posts of the jobs below one say.
+    fn amend_all(
+        &self,
+        set: &mut BTreeSet<Text>,
+        job: u32,
+        paths: Iter<'_, Path>,
+    ) -> Result<(), NoMemory>
+        requires { IsNameList set.old.keys }
+        ensures { OnOk result ((p : List ℕ) (t : Table)
+            → AllByRecursion (λ q. parent_text q ≡ Some p) paths.entry
+            → IsListing p t set.old.keys
+            → IsListing p (changed_at (change_below self.now job) paths.entry t) set.new.keys) }
+    {
+        for path in paths {
+            amend(self.alloc, set, self.change(job, path), path)?;
+        }
+        Ok(())
+    }
+
+    /// Puts in and takes out what the posts of the jobs below one do right under a path: a search for each name that they touch.
     fn lay_all(&self, set: &mut BTreeSet<Text>, job: u32, p: &Path) -> Result<(), NoMemory>
         requires { IsListing p.now self.now.start.tree set.old.keys }
         ensures { OnOk result (IsListing p.now (table_below self.now job) set.new.keys) }
     {
-        for (k, post) in self.posts.iter() {
-            if *k < job {
-                lay_names(self.alloc, set, &post.delta, p)?;
-            }
-        }
+        let Some(paths) = self.lines.under(p) else {
+            return Ok(());
+        };
+        self.amend_all(set, job, paths)?;
         Ok(())
     }
 
@@ -182,7 +262,7 @@ impl Versions {
     }
 
     /// What a job is answered: by the start with what the jobs below it have posted. An answer that holds no memory always comes.
-    /// Steps for each post: a search, and for names also for each child that the post's changes name.
+    /// Steps for a search in the paths and one in the path's chain, and for names these for each name that posts touch there.
     #[tactic(auto, unfolding(crate::specs::Looking::looked))]
     pub fn look(&self, job: u32, q: &Question) -> Result<Answer, NoMemory>
         ensures ok { IfOk result (λ a. a ≡ looked self.now job q.now) }
@@ -201,15 +281,5 @@ impl Versions {
                 None => None,
             }),
         })
-    }
-}
-
-/// What stands at a path where a delta is laid over what stood there.
-fn becomes<'a>(delta: &'a Delta, p: &Path, found: Option<&'a Node>) -> Option<&'a Node>
-    ensures { option_copied result ≡ unwrap_or (map.get delta.now p.now) (option_copied found.entry) }
-{
-    match delta.get(p) {
-        Some(becomes) => becomes.as_ref(),
-        None => found,
     }
 }

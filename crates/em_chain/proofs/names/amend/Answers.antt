@@ -1,4 +1,3 @@
-use Rattle.std.proofs.Common.{sym}
 use Rattle.em_chain.proofs.Naming.{component_of, named_insert, named_remove, listing_put, listing_gone}
 use Rattle.em_chain.proofs.names.amend.Goals as goal
 

@@ -1,6 +1,5 @@
-use Rattle.std.proofs.Common.{◌≡◌, ◌∙◌, ap, sym, subst, List, ℕ}
+use Rattle.std.proofs.Common.{◌∙◌, ap, sym, subst, List, ℕ}
 use Rattle.em_tree.specs.declared.question.Question.TheVariants as ask
-use Rattle.em_tree.specs.Names.{IsNameList}
 use Rattle.em_tree.specs.Answers.{answer}
 use Rattle.em_chain.specs.Listing.{IsListing, names_told}
 use Rattle.em_chain.proofs.Naming.{listing_of_tree, listing_of_none}

@@ -1,4 +1,4 @@
-use Rattle.std.proofs.Common.{ℕ, ◌∙◌, Some, None}
+use Rattle.std.proofs.Common.{◌∙◌, Some, None}
 use Rattle.std.specs.FinMap.{from_entries}
 use Rattle.em_chain.specs.Posts.{Posted}
 use Rattle.em_chain.proofs.Posting.{outcome_at, post_found}
