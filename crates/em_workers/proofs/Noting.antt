@@ -1,11 +1,10 @@
 -- Notes: that what they say is so, and those of some jobs behind others.
 --     notes_are       the notes of what was lent tell causes that are so
 --     turns_then      jobs behind others
-use Rattle.std.proofs.Common.{◌≡◌, ◌≢◌, ℕ, zero, suc, ◌+◌, Bool, true, false, List, [], ◌∷◌, ◌++◌, length, map, drop, Option, Some, None, refl, sym, ap, subst, ◌∙◌, append-nil, append_assoc, length-append, add-zero, arith}
+use Rattle.std.proofs.Common.{◌≡◌, ℕ, suc, ◌+◌, Bool, List, [], ◌∷◌, ◌++◌, length, map, drop, Option, Some, None, refl, sym, subst, ◌∙◌, append-nil, append_assoc, length-append, add-zero, arith}
 use Rattle.std.specs.Prelude.{IfSome, IsSomeAnd, slice_get, option_map}
 use Rattle.em_tree.specs.declared.question.Entry.{Entry}
 use Rattle.em_tree.specs.declared.state.State.{State}
-use Rattle.em_tree.specs.Answers.{answer}
 use Rattle.em_tree.specs.Trees.{Changes}
 use Rattle.em_view.specs.Serial.{after}
 use Rattle.em_run.specs.declared.run.Parts.{Parts}
@@ -17,8 +16,8 @@ use Rattle.em_engine.specs.declared.note.Note.{Note}
 use Rattle.em_engine.specs.declared.note.Verdict.{Verdict}
 use Rattle.em_engine.specs.declared.note.Verdict.TheVariants as found
 use Rattle.em_engine.specs.Verdicts.{IsVerdict, AgreesAt}
-use Rattle.em_workers.specs.Turns.{differ, cause_of, IsFound, Finds, IsNote}
-use Rattle.em_workers.specs.Notes.{Differs, IsCause, IsNoteOf, AreNotes, AreTurns}
+use Rattle.em_workers.specs.Turns.{differ, cause_of, Finds}
+use Rattle.em_workers.specs.Notes.{IsCause, AreNotes, AreTurns}
 
 differs : (s : State) (ds : List Changes) (i : ℕ) (o : Option Entry) → IsSomeAnd o (λ e. ¬ AgreesAt s e) → IfSome (option_map (differ s ds i) o) (IsCause s ds)
 differs s ds i None wrong = absurd wrong

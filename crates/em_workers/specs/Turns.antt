@@ -4,7 +4,7 @@
 --     cause_of .. found    why a job is run again of which such a run was found
 --     Finds .. lent        why a job is run again of which this was lent; none where it is run once
 --     IsNote .. n          the note of this
-use Rattle.std.specs.Prelude.{◌≡◌, ℕ, Bool, List, [], ◌∷◌, ◌++◌, Option, Some, None, slice_get, option_map, option_and_then}
+use Rattle.std.specs.Prelude.{◌≡◌, ℕ, Bool, List, [], ◌∷◌, ◌++◌, Option, Some, None, slice_get, option_map}
 use Rattle.em_tree.specs.declared.outcome.Outcome.{Outcome}
 use Rattle.em_tree.specs.declared.question.Entry.{Entry}
 use Rattle.em_tree.specs.declared.state.State.{State}

@@ -1,10 +1,24 @@
-//! What the committer does with one job: it commits a run that a worker made ahead, or runs the job again.
+//! A build by threads: workers run jobs ahead, and a committer checks each run in order and commits it, or runs the job
+//! again.
 #![tactic(auto)]
 
+mod builder;
+mod commit;
 mod gate;
 mod laws;
+mod lender;
 mod next;
+mod no;
+mod printing;
+mod settled;
+mod worker;
 
+pub use builder::{Built, build};
+pub use commit::commit_all;
 pub use gate::{Gate, OpenGate};
 pub use laws::law_notes;
+pub use lender::{Lender, ScriptLender, SharedLender};
 pub use next::{Committed, rerun, turn};
+pub use no::BuildNo;
+pub use settled::Settled;
+pub use worker::work;

@@ -154,9 +154,9 @@ fn turn_run<S: Spec, W: Work<S>, G: Gate>(
 }
 
 /// The committer's work on the next job, of which this was taken: nothing, what a worker gave up, or a run with what
-/// the board answered it. The run is committed where its usage is what it was answered and the front's state agrees
-/// with it; else the job is run again on the front's own state. The note tells which, and why. After want of memory
-/// the front is as before. Besides the run it takes steps for each entry of the usage, as an answer of the state
+/// the board answered it. The run is committed where it is one of this job, its usage is what it was answered and the
+/// front's state agrees with it; else the job is run again on the front's own state. The note tells which, and why.
+/// After want of memory the front is as before. Besides the run it takes steps for each entry of the usage, as an answer of the state
 /// takes, and a search for each path that the run changes.
 pub fn turn<S: Spec, W: Work<S>, G: Gate>(
     alloc: Global,
