@@ -1,172 +1,105 @@
--- From the loop over the jobs to the build.
---     agreed            where a usage holds what a plain view told, its state agrees with it
---     none_yet, one_more      the jobs that were committed since the loop began: none, and one more
---     begins            a front stands before its first job
---     builds, breaks    the build of a project whose jobs were run to the end, and one that broke off
-use Rattle.std.proofs.Common.{◌≡◌, ◌+◌, ◌-◌, ◌<◌, ℕ, zero, suc, Bool, true, false, cond, ◌||◌, ◌==◌, List, [], ◌∷◌, ◌++◌, length, map, Option, Some, None, Result, Ok, Err, refl, sym, ap, subst, ◌∙◌, append-nil, append_assoc, length-append, arith}
-use Rattle.std.specs.Prelude.{IfOk, IsErrAnd, slice_get}
-use Rattle.em_host.specs.Outside.{Outside}
-use Rattle.em_tree.specs.declared.question.Entry.{Entry}
-use Rattle.em_tree.specs.declared.question.Question.{Question}
-use Rattle.em_tree.specs.declared.state.State.{State}
-use Rattle.em_tree.specs.Answers.{answer, Agrees}
-use Rattle.em_view.specs.Performs.{AreTrue}
-use Rattle.em_run.specs.declared.run.Parts.{Parts}
-use Rattle.em_run.specs.Runs.{effect_in}
-use Rattle.em_run.specs.Serial.{Made, Ran, IsSerial, outputs_of, state_after}
-use Rattle.em_run.specs.Serial as run
-use Rattle.em_run.proofs.Serials.{state_more, outputs_more, ran_more, is_early_more}
-use Rattle.em_tree.specs.Trees.{Changes}
-use Rattle.em_view.specs.Serial.{after}
+-- From the build of the jobs to the build of the project.
+--     waits_count, waits_lower      what the jobs wait for, as a build asks it
+--     finishes          a build that came to its end, and what follows it
+--     breaks            one that broke off
+--     breaks_early      memory ran out before it
+use Rattle.std.proofs.Common.{◌≡◌, ◌==◌, ◌<◌, ℕ, zero, suc, Bool, true, false, ◌||◌, List, [], ◌∷◌, ◌++◌, length, map, Option, Result, Ok, Err, refl, sym, ap, subst, ◌∙◌, append-nil, append_assoc, arith}
+use Rattle.std.specs.Prelude.{IfSome, IsErrAnd, All, slice_get, slice_index_or}
+use Rattle.std.specs.List.{list_any}
 use Rattle.std.proofs.lemmas.List.{length-map}
+use Rattle.std.proofs.lemmas.List.Elements.{All-nil, All-head, All-tail}
+use Rattle.em_host.specs.Outside.{Outside}
+use Rattle.em_tree.specs.declared.outcome.Outcome.{Outcome}
+use Rattle.em_tree.specs.declared.state.State.{State}
+use Rattle.em_view.specs.Serial.{after}
+use Rattle.em_run.specs.Serial.{Made, Ran, IsSerial, outputs_of, outcomes_of, state_after}
+use Rattle.em_run.specs.Serial as run
+use Rattle.em_plan.specs.declared.planned.PlanJob.{PlanJob}
+use Rattle.em_task.specs.declared.job.Flags.{Flags}
 use Rattle.em_task.specs.declared.job.Job.{Job}
 use Rattle.em_job.specs.Effects.{Makes}
-use Rattle.em_engine.specs.Fronts.{Standing, next_of, committed, Stands}
-use Rattle.em_engine.proofs.Fronting.{next_is, whole_run}
+use Rattle.em_job.specs.Making.{ends_after, flags_of}
+use Rattle.em_workers.specs.declared.builder.Built.{Built}
+use Rattle.em_workers.specs.declared.no.BuildNo.{BuildNo}
+use Rattle.em_workers.specs.Builds.{Builds}
+use Rattle.emake.specs.declared.build.Finished.{Finished}
 use Rattle.emake.specs.declared.project.Project.{Project}
-use Rattle.emake.specs.declared.serial.Turn.{Turn}
 use Rattle.emake.specs.declared.stop.Stop.{Stop}
 use Rattle.emake.specs.declared.stop.Stop.TheVariants.{NoMemory}
 use Rattle.emake.specs.declared.verdict.Verdict.{Verdict}
-use Rattle.emake.specs.Course.{Course, ◌>>=◌, say, say_all, Follows}
-use Rattle.emake.specs.Endings.{finish, is_early, is_whole, after_jobs, building, Builds}
-use Rattle.emake.specs.Serial.{ends, Advances, without_value, Commits}
-use Rattle.emake.proofs.Following.{then, leave, said_none, said_more, cut, out}
+use Rattle.emake.specs.Closing.{has_ended}
+use Rattle.emake.specs.Course.{Follows, stop_of_build}
+use Rattle.emake.specs.Endings.{finish, is_early, is_whole, building, IsWhole, IsBuild}
+use Rattle.emake.specs.Projects.{AreLower, IsReady}
+use Rattle.emake.specs.Serial.{ends}
+use Rattle.emake.proofs.Following.{then, leave, out, said_all, not_said_all}
 
-pub agreed : (s : State) (es : List Entry) → AreTrue (λ i q. Some (answer s q)) es → Agrees s es
-agreed s [] h = tt
-agreed s (e ∷ es) h = (sym h.0, agreed s es h.1)
+-- ---- what the jobs wait for
 
--- ---- the loop
+waits_at : (Q : List ℕ → Type 0) (jobs : List PlanJob) (k : ℕ) → Q [] → IfSome (slice_get jobs k) (λ j. Q j.waits) → Q (slice_index_or (map (λ (j : PlanJob). j.waits) jobs) k [])
+waits_at Q [] k none h = none
+waits_at Q (j ∷ js) zero none h = h
+waits_at Q (j ∷ js) (suc k) none h = waits_at Q js k none h
 
-pub none_yet : {A : Type 0} {v : Standing Job} {a : A} {x : Option Outside} → Commits v v (Ok a) x x
-none_yet {v} = record { more = []; start = refl; specs = refl; stands = λ made s. subst (Stands Makes ends v) (sym (append-nil made)) s; said = said_none }
+pub waits_lower : (jobs : List PlanJob) → AreLower jobs → (k : ℕ) → All (λ i. i < k) (slice_index_or (map (λ (j : PlanJob). j.waits) jobs) k [])
+waits_lower jobs lower k = waits_at (λ (ws : List ℕ). All (λ i. i < k) ws) jobs k (All-nil (λ i. i < k)) (lower k)
 
--- what a run made
-abbrev made_of : Parts Job → Made
-made_of r = record { effect = effect_in r; fuel = r.fuel }
+pub waits_count : (p : Project) → IsReady p → length (map (λ (j : PlanJob). j.waits) p.plan.jobs) ≡ length p.specs
+waits_count p ready = length-map p.plan.jobs (λ (j : PlanJob). j.waits) ∙ ready.count
 
-map-push : {A B : Type 0} (f : A → B) (xs : List A) (x : A) → map f (xs ++ x ∷ []) ≡ map f xs ++ f x ∷ []
-map-push f [] x = refl
-map-push f (y ∷ xs) x = ap (λ (ys : List _). f y ∷ ys) (map-push f xs x)
+-- ---- the outcomes tell whether a job ended the run
 
--- a front with a run of the next job more
-stands_next : (v : Standing Job) (made : List Made) (r : Parts Job) (next : Job) → Stands Makes ends v made → next_of v ≡ Some next
-    → Makes next v.state (effect_in r) r.fuel → ends r.spec r.outcome ≡ ends next r.outcome → Stands Makes ends (committed ends v r) (made ++ made_of r ∷ [])
-stands_next v made r next s is it same =
-    let m : Made = made_of r in
-    let early : run.is_early Makes ends v.specs made ≡ false = sym s.ended_is ∙ (next_is v next is).0 in
-    let count : length v.deltas ≡ length made = ap length s.deltas_are ∙ length-map made _ in
-    let at : slice_get v.specs (length made) ≡ Some next = ap (slice_get v.specs) (sym count) ∙ (next_is v next is).1 in
-    record {
-      ran = ran_more Makes ends v.start v.specs made next m s.ran early at (subst (λ (t : State). Makes next t (effect_in r) r.fuel) s.state_is it);
-      ended_is = same ∙ sym (is_early_more Makes ends v.specs made next m early at);
-      state_is = ap (after (effect_in r)) s.state_is ∙ sym (state_more v.start made m);
-      fuel_is = ap (λ (ns : List ℕ). ns ++ r.fuel ∷ []) s.fuel_is ∙ sym (map-push (λ (m : Made). m.fuel) made m);
-      deltas_are = ap (λ (ds : List Changes). ds ++ r.delta ∷ []) s.deltas_are ∙ sym (map-push (λ (m : Made). m.effect.changes) made m);
-    }
+early_by : (f : Flags) (s : State) (js : List Job) (made : List Made) → All (λ (j : Job). j.flags ≡ f) js → Ran Makes ends s js made → run.is_early Makes ends js made ≡ list_any (ends_after f) (outcomes_of made)
+early_by f s [] [] same ran = refl
+early_by f s (j ∷ js) [] same ran = refl
+early_by f s [] (m ∷ ms) same ran = absurd ran
+early_by f s (j ∷ js) (m ∷ ms) same ran =
+    ap (λ (g : Flags). ends_after g m.effect.outcome || run.is_early Makes ends js ms) (All-head (λ (i : Job). i.flags ≡ f) j js same)
+    ∙ ap (λ (b : Bool). ends_after f m.effect.outcome || b) (early_by f (after m.effect s) js ms (All-tail (λ (i : Job). i.flags ≡ f) j js same) ran.1.1)
 
--- the job's run was committed, and then its output was printed, or was not
-pub one_more : {A B : Type 0} {v w u : Standing Job} {a : A} {r : Result B Stop} {x y z : Option Outside} (turn : Turn)
-    → Commits v w (Ok a) x y → Advances w u turn → Follows (say turn.output) (without_value r) y z → Commits v u r x z
-one_more {v} {w} {u} {a} {r} {x} {y} {z} turn c t printed = record {
-  more = c.more ++ made_of t.run ∷ [];
-  start = ap (λ (s : Standing Job). s.start) t.committed ∙ c.start;
-  specs = ap (λ (s : Standing Job). s.specs) t.committed ∙ c.specs;
-  stands = λ made s.
-      let first = c.stands made s in
-      let more = stands_next w (made ++ c.more) t.run t.next first t.is_next t.makes t.same_ends in
-      subst (λ (ms : List Made). Stands Makes ends u ms) (append_assoc made c.more (made_of t.run ∷ [])) (subst (λ (s : Standing Job). Stands Makes ends s ((made ++ c.more) ++ made_of t.run ∷ [])) (sym t.committed) more);
-  said = subst (λ (os : List (List ℕ)). Follows (say_all os) (without_value r) x z) (sym (outputs_more c.more (made_of t.run)))
-      (said_more (outputs_of c.more) t.run.output c.said (subst (λ (o : List ℕ). Follows (say o) (without_value r) y z) t.output printed));
-}
+outcomes_after : (s : State) (made : List Made) → (state_after s made).outcomes ≡ s.outcomes ++ outcomes_of made
+outcomes_after s [] = sym (append-nil s.outcomes)
+outcomes_after s (m ∷ ms) = outcomes_after (after m.effect s) ms ∙ append_assoc s.outcomes (m.effect.outcome ∷ []) (outcomes_of ms)
 
--- memory ran out before the next job was committed
-pub no_more : {A B : Type 0} {v w : Standing Job} {a : A} {r : Result B Stop} {x y : Option Outside} → IsErrAnd r (λ s. s ≡ NoMemory) → Commits v w (Ok a) x y → Commits v w r x y
-no_more {r = Ok b} is c = absurd is
-no_more {v} {w} {r = Err s} {x} {y} is c = record {
-  more = c.more;
-  start = c.start;
-  specs = c.specs;
-  stands = c.stands;
-  said = subst (λ (t : Stop). Follows (say_all (outputs_of c.more)) (Err t) x y) (sym is) (cut (outputs_of c.more) c.said);
-}
+module _ (p : Project) (ready : IsReady p) where
+  ended_so : (made : List Made) → Ran Makes ends p.start p.specs made → has_ended p.order (state_after p.start made).outcomes ≡ is_early p made
+  ended_so made ran =
+      ap (λ (os : List Outcome). has_ended p.order os) (outcomes_after p.start made ∙ ap (λ (os : List Outcome). os ++ outcomes_of made) ready.bare)
+      ∙ sym (early_by (flags_of p.order) p.start p.specs made ready.flags ran)
 
-within : {A : Type 0} (xs : List A) (i : ℕ) (x : A) → slice_get xs i ≡ Some x → i < length xs
-within [] i x e = absurd (cc)
-within (y ∷ xs) zero x e = omega arith
-within (y ∷ xs) (suc i) x e = let rest = within xs i x e in omega (arith, rest)
+  -- ---- the build
 
--- an error at a `?`
-pub as_err : {B : Type 0} {m : Course (Unit {0})} {x y : Option Outside} (r : Result B Stop) {e : Stop} → IsErrAnd r (λ s. s ≡ e) → Follows m (Err e) x y → Follows m (without_value r) x y
-as_err (Ok b) is p = absurd is
-as_err {m} {x} {y} (Err s) is p = subst (λ (t : Stop). Follows m (Err t) x y) (sym is) p
+  whole_by : (early : Bool) (m n : ℕ) → (early ≡ false → m ≡ n) → (early || m == n) ≡ true
+  whole_by true m n h = refl
+  whole_by false m n h = let e : m ≡ n = h refl in grind (arith, e)
 
--- fewer jobs are left to run
-pub fewer : {v w : Standing Job} {turn : Turn} → Advances v w turn → length w.specs - length w.deltas < length v.specs - length v.deltas
-fewer {v} {w} {turn} t =
-    let at : length v.deltas < length v.specs = within v.specs (length v.deltas) t.next (next_is v t.next t.is_next).1 in
-    let specs : length w.specs ≡ length v.specs = ap (λ (s : Standing Job). length s.specs) t.committed in
-    let deltas : length w.deltas ≡ length v.deltas + 1 = ap (λ (s : Standing Job). length s.deltas) t.committed ∙ length-append v.deltas (t.run.delta ∷ []) in
-    omega (arith, at, specs, deltas)
+  module _ {d : Built} {x y : Option Outside} (b : Builds Makes ends p.start p.specs p.order.workers (Ok d) x y) where
+    pub is_all : IsWhole p b.made d.notes
+    is_all = record { serial = b.built.serial; noted = b.built.notes; alone = b.built.alone }
 
--- ---- the build
+    follows : {early : Bool} {r : Result Verdict Stop} {z : Option Outside} → early ≡ has_ended p.order d.state.outcomes → Follows (finish p.order p.image p.plan early d.state) r y z → Follows (building p b.made) r x z
+    follows {early} {r} {z} by finished =
+        let same : early ≡ is_early p b.made = by ∙ ap (λ (s : State). has_ended p.order s.outcomes) b.built.state ∙ ended_so b.made b.ran in
+        let at_end : is_whole p b.made ≡ true = whole_by (is_early p b.made) (length b.made) (length p.specs) b.built.serial.whole in
+        let told = subst (λ (s : State). Follows (finish p.order p.image p.plan (is_early p b.made) s) r y z) b.built.state
+        (subst (λ (e : Bool). Follows (finish p.order p.image p.plan e d.state) r y z) same finished) in
+        then _ (said_all (outputs_of b.made) b.printed) (rw at_end told)
 
-abbrev pub begun : Project → Standing Job
-begun p = record { start = p.start; state = p.start; specs = p.specs; ended = false; fuel = []; deltas = [] }
+    pub finishes : {early : Bool} {verdict : Verdict} {z : Option Outside} → early ≡ has_ended p.order d.state.outcomes → Follows (finish p.order p.image p.plan early d.state) (Ok verdict) y z
+        → IsBuild p (Ok (record { verdict = verdict; notes = d.notes })) x z
+    finishes by finished = record { made = b.made; ran = b.ran; whole = is_all; follows = follows by finished }
 
-no_early : (js : List Job) → run.is_early Makes ends js [] ≡ false
-no_early [] = refl
-no_early (j ∷ js) = refl
+    -- behind the jobs
+    pub breaks_late : {early : Bool} {e : Stop} {r : Result Finished Stop} {z : Option Outside} → IsErrAnd r (λ s. s ≡ e) → early ≡ has_ended p.order d.state.outcomes → Follows (finish p.order p.image p.plan early d.state) (Err e) y z → IsBuild p r x z
+    breaks_late {r = Ok f} is by finished = absurd is
+    breaks_late {e} {r = Err s} {z} is by finished = record { made = b.made; ran = b.ran; whole = tt; follows = subst (λ (t : Stop). Follows (building p b.made) (Err t) x z) (sym is) (follows by finished) }
 
-begins : (p : Project) → Stands Makes ends (begun p) []
-begins p = record { ran = tt; ended_is = sym (no_early p.specs); state_is = refl; fuel_is = refl; deltas_are = refl }
+-- on the way
+pub breaks : (p : Project) {no : BuildNo} {r : Result Finished Stop} {x y : Option Outside} → IsErrAnd r (λ s. s ≡ stop_of_build no) → Builds Makes ends p.start p.specs p.order.workers (Err no) x y → IsBuild p r x y
+breaks p {r = Ok f} is b = absurd is
+breaks p {no} {r = Err s} {x} {y} is b = record { made = b.made; ran = b.ran; whole = tt; follows = leave _ is (not_said_all (outputs_of b.made) Built no b.printed) }
 
-module _ (p : Project) {A : Type 0} {w : Standing Job} {r : Result A Stop} {x y : Option Outside} (c : Commits (begun p) w r x y) where
-  stands : Stands Makes ends w c.more
-  stands = c.stands [] (begins p)
-
-  has_run : Ran Makes ends p.start p.specs c.more
-  has_run = subst (λ (s : State). Ran Makes ends s p.specs c.more) c.start (subst (λ (js : List Job). Ran Makes ends w.start js c.more) c.specs stands.ran)
-
-  has_run_whole : next_of w ≡ None → IsSerial Makes ends p.start p.specs c.more
-  has_run_whole none = subst (λ (s : State). IsSerial Makes ends s p.specs c.more) c.start
-      (subst (λ (js : List Job). IsSerial Makes ends w.start js c.more) c.specs (whole_run Makes ends w c.more stands none))
-
-  state_is : w.state ≡ state_after p.start c.more
-  state_is = stands.state_is ∙ ap (λ (s : State). state_after s c.more) c.start
-
-  ended_is : w.ended ≡ is_early p c.more
-  ended_is = stands.ended_is ∙ ap (λ (js : List Job). run.is_early Makes ends js c.more) c.specs
-
-whole_by : (early : Bool) (m n : ℕ) → (early ≡ false → m ≡ n) → (early || m == n) ≡ true
-whole_by true m n h = refl
-whole_by false m n h = let e : m ≡ n = h refl in grind (arith, e)
-
-any_ok : {A E P : Type 0} (r : Result A E) → P → IfOk r (λ a. P)
-any_ok (Ok a) p = p
-any_ok (Err e) p = tt
-
-pub builds : (p : Project) {w : Standing Job} {early : Bool} {s : State} {r : Result Verdict Stop} {x y z : Option Outside} → Commits (begun p) w (Ok early) x y → (next_of w ≡ None) × (early ≡ w.ended) → s ≡ w.state
-    → Follows (finish p.order p.image p.plan early s) r y z → Builds p r x z
-builds p {w} {early} {s} {r} {x} {y} {z} c whole is finished =
-    let serial = has_run_whole p c whole.0 in
-    let at_end : is_whole p c.more ≡ true = whole_by (is_early p c.more) (length c.more) (length p.specs) serial.whole in
-    let told = subst (λ (s : State). Follows (finish p.order p.image p.plan (is_early p c.more) s) r y z) (is ∙ state_is p c)
-    (subst (λ (b : Bool). Follows (finish p.order p.image p.plan b s) r y z) (whole.1 ∙ ended_is p c) finished) in
-    record {
-      made = c.more;
-      ran = serial.ran;
-      whole = any_ok r serial;
-      follows = then _ c.said (rw at_end told);
-    }
-
--- a job's run broke off
-pub breaks : (p : Project) {A : Type 0} {w : Standing Job} {e : Stop} {r : Result Verdict Stop} {x y : Option Outside} → IsErrAnd r (λ s. s ≡ e) → Commits {A = A} (begun p) w (Err e) x y → Builds p r x y
-breaks p {r = Ok v} is c = absurd is
-breaks p {r = Err s} is c = record { made = c.more; ran = has_run p c; whole = tt; follows = leave _ is c.said }
-
--- memory ran out before the first job
-pub breaks_early : (p : Project) {r : Result Verdict Stop} {x : Option Outside} → IsErrAnd r (λ s. s ≡ NoMemory) → Builds p r x x
-breaks_early p {r = Ok v} is = absurd is
+-- before the first job
+pub breaks_early : (p : Project) {r : Result Finished Stop} {x : Option Outside} → IsErrAnd r (λ s. s ≡ NoMemory) → IsBuild p r x x
+breaks_early p {r = Ok f} is = absurd is
 breaks_early p {r = Err s} {x} is = record { made = []; ran = tt; whole = tt; follows = subst (λ (t : Stop). Follows (building p []) (Err t) x x) (sym is) out }

@@ -5,15 +5,17 @@
 --     reaches            a run that gave a project and built it
 --     stops              a run that gave none
 --     headline           a run that reached its ending keeps the headline
-use Rattle.std.proofs.Common.{◌≡◌, ◌≢◌, ℕ, ◌<◌, ◌≤◌, ◌^◌, Bool, true, false, cond, ◌||◌, List, [], ◌∷◌, ◌++◌, ◌==◌, length, take, map, Option, Some, None, Result, Ok, Err, nat_lt, refl, sym, ap, subst, ◌∙◌, inl, inr, ◌⊎◌, ⊎_elim, arith}
-use Rattle.std.specs.Prelude.{IfOk, IsErr, IsErrAnd}
+--     exits              and so does who hands on its status
+use Rattle.std.proofs.Common.{◌≡◌, ◌≢◌, ℕ, ◌≤◌, ◌^◌, Bool, true, false, cond, ◌||◌, List, [], ◌∷◌, ◌++◌, ◌==◌, length, map, Option, Some, None, Result, Ok, Err, nat_lt, refl, sym, ap, subst, ◌∙◌, inl, ◌⊎◌, ⊎_elim, arith}
+use Rattle.std.specs.Prelude.{IfOk, OnErr, IsErr, IsErrAnd}
 use Rattle.std.specs.List.{list_any}
 use Rattle.std.specs.FinMap.{entries, get}
 use Rattle.std.proofs.lemmas.Bool.{false≢true}
+use Rattle.std.proofs.lemmas.List.Elements.{All-nil}
 use Rattle.em_host.specs.declared.call.Call.{Call}
 use Rattle.em_host.specs.declared.call.Call.TheVariants.{Take, Replace, Print}
 use Rattle.em_host.specs.Outside.{Files, Outside, Tells}
-use Rattle.em_host.specs.Calls.{files_after, Makes, MakesFront, FailsIn}
+use Rattle.em_host.specs.Calls.{files_after, MakesFront, FailsIn}
 use Rattle.em_host.proofs.Telling.{Tells-then, Tells-weaken, Tells-same, IsQuiet, LastReplaces, front_none, quiet_then, quiet_both, front_printed, fails_printed, front_files, fails_files}
 use Rattle.em_tree.specs.Trees.{Table, greatest, base_of, kind_of, stamp_in}
 use Rattle.em_view.specs.Actions.{snapshot}
@@ -25,7 +27,7 @@ use Rattle.em_tree.specs.declared.state.State.{State}
 use Rattle.em_path.specs.declared.path.PathNo.{PathNo}
 use Rattle.em_path.specs.Paths.{root_text}
 use Rattle.em_path.specs.Reading.{read_fault, resolved_text}
-use Rattle.em_image.specs.Image.{limits, broken, is_too_late, is_too_big, entries_text, writing}
+use Rattle.em_image.specs.Image.{limits, broken, is_too_late, is_too_big, entries_text}
 use Rattle.em_image.specs.Parts.{Fails}
 use Rattle.em_image.specs.declared.no.ImageNo.{ImageNo}
 use Rattle.em_image.specs.declared.no.ImageNo.TheVariants as no
@@ -39,20 +41,23 @@ use Rattle.em_rules.specs.declared.book.Book.{Book}
 use Rattle.em_reading.specs.declared.no.ReadNo.{ReadNo}
 use Rattle.em_plan.specs.declared.no.PlanNo.{PlanNo}
 use Rattle.em_plan.specs.declared.planned.Plan.{Plan}
-use Rattle.em_plan.specs.Plans.{plan_of}
 use Rattle.em_run.specs.Serial.{Made, outputs_of, state_after}
+use Rattle.em_engine.specs.declared.note.Note.{Note}
+use Rattle.em_workers.specs.Builds.{IsOnce}
+use Rattle.em_workers.specs.Printing.{print, prints, RunsOut}
+use Rattle.emake.specs.declared.build.Finished.{Finished}
 use Rattle.emake.specs.declared.project.Project.{Project}
 use Rattle.emake.specs.declared.verdict.Verdict.{Verdict}
 use Rattle.emake.specs.declared.verdict.Verdict.TheVariants.{Done, Outdated, Faulty, Refused, Spent}
 use Rattle.emake.specs.declared.stop.Stop.{Stop}
 use Rattle.emake.specs.declared.stop.Stop.TheVariants.{End, Failed, NoMemory}
 use Rattle.emake.specs.Closing.{code_of, status_of, closing}
-use Rattle.emake.specs.Course.{Trace, Course, go_on, ◌>>=◌, done, quit, print, prints, say, say_all, take as take_file, keep, stop, Ends, RunsOut, Meets, Follows}
-use Rattle.emake.specs.Messages.{bad_words, image_line, dir_line, read_line}
+use Rattle.emake.specs.Course.{Trace, Course, go_on, ◌>>=◌, done, quit, say, say_all, take as take_file, keep, stop, Ends, Meets, Follows}
+use Rattle.emake.specs.Messages.{bad_words, image_line, read_line}
 use Rattle.emake.specs.Words.{is_supported, supported, as_ordered, ordered, image_name}
-use Rattle.emake.specs.Projects.{as_found, image_in, as_read, tree_of, no_dir, as_dir, as_path, entered, start_of, as_book, book_of, as_plan, planned, site, assembled, project}
-use Rattle.emake.specs.Endings.{closed, written, finish, is_early, is_whole, broken_off, after_jobs, building, Builds, ended}
-use Rattle.emake.specs.Headline.{verdict_of, exit_status, IsCut, Comes, Built, HasRun, HasRunWhole, Reaches, Headline}
+use Rattle.emake.specs.Projects.{as_found, image_in, as_read, tree_of, no_dir, as_dir, as_path, entered, as_book, book_of, as_plan, planned, site, project}
+use Rattle.emake.specs.Endings.{closed, written, finish, is_early, is_whole, broken_off, after_jobs, building, verdict_in, notes_in, IsWhole, IsBuild, ended}
+use Rattle.emake.specs.Headline.{verdict_of, exit_status, IsCut, Comes, Built, HasRun, IsAlone, Reaches, Headline, Exits}
 use Rattle.emake.proofs.Following.{then_does, leave_does}
 
 -- an answer other than want of memory is what reading gives
@@ -320,12 +325,16 @@ calm_building p made =
 ok_same : {A E : Type 0} {a b : A} → let x : Result A E = Ok a in let y : Result A E = Ok b in x ≡ y → a ≡ b
 ok_same e = cc
 
-if_ok : {A E : Type 0} {P Q : Type 0} (r : Result A E) → (P → Q) → IfOk r (λ a. P) → IfOk r (λ a. Q)
-if_ok (Ok a) f h = f h
+if_ok : {A E : Type 0} {P Q : A → Type 0} (r : Result A E) → ((a : A) → P a → Q a) → IfOk r P → IfOk r Q
+if_ok (Ok a) f h = f a h
 if_ok (Err e) f h = tt
 
+on_err : {A E P : Type 0} (r : Result A E) → P → OnErr r P
+on_err (Ok a) p = tt
+on_err (Err e) p = p
+
 -- the project was given, and was built
-pub reaches : (words : List (List ℕ)) {p : Project} {r : Result Verdict Stop} {a b c : Option Outside} → Follows (project words) (Ok p) a b → Builds p r b c → Tells (Reaches words r) a c
+pub reaches : (words : List (List ℕ)) {p : Project} {r : Result Finished Stop} {a b c : Option Outside} → Follows (project words) (Ok p) a b → IsBuild p r b c → Tells (Reaches words r) a c
 unfolding ◌>>=◌
 reaches words {p} {r} {a} {b} {c} given built = Tells-then a b c
     (λ x y z h i.
@@ -333,20 +342,22 @@ reaches words {p} {r} {a} {b} {c} given built = Tells-then a b c
     let res : Reaches words r x z = record {
       made = built.made;
       ran = λ q e. subst (HasRun built.made) (it q e) built.ran;
-      whole = if_ok r (λ whole q e. subst (HasRunWhole built.made) (it q e) whole) built.whole;
-      meets = then_does (λ q. building q built.made) (project words x.files) p r x y z h i;
+      whole = if_ok r (λ f whole q e. subst (λ (s : Project). IsWhole s built.made f.notes) (it q e) whole) built.whole;
+      refused = subst (λ (end : Result Project Verdict). OnErr end (notes_in r ≡ [])) (sym h.same) tt;
+      meets = then_does (λ q. building q built.made) (project words x.files) p (verdict_in r) x y z h i;
     } in res)
     given.told built.follows.told
 
 -- no project was given
-pub stops : (words : List (List ℕ)) (r : Result Verdict Stop) {e : Stop} {a b : Option Outside} → IsErrAnd r (λ s. s ≡ e) → Follows (project words) (Err e) a b → Tells (Reaches words r) a b
+pub stops : (words : List (List ℕ)) (r : Result Finished Stop) {e : Stop} {a b : Option Outside} → IsErrAnd r (λ s. s ≡ e) → Follows (project words) (Err e) a b → Tells (Reaches words r) a b
 unfolding ◌>>=◌
-stops words (Ok v) is given = absurd is
+stops words (Ok f) is given = absurd is
 stops words (Err s) {e} {a} {b} is given = Tells-weaken a b
     (λ x y h. let res : Reaches words (Err s) x y = record {
       made = [];
       ran = λ q given. tt;
       whole = tt;
+      refused = on_err (project words x.files).end refl;
       meets = subst (λ (t : Stop). Meets (ended words [] x.files) (Err t) x y) (sym is) (leave_does (λ q. building q []) (project words x.files) e x y h);
     } in res)
     given.told
@@ -414,17 +425,46 @@ no_end words made verdict x y h p e =
     subst (λ (end : Result Project Verdict). (go_on (project words x.files).calls end (λ q. building q made) x.files).end ≡ Err verdict) e h.same in
     calm_building p made (files_after (project words x.files).calls x.files) verdict behind
 
-whole_at : (words : List (List ℕ)) (r : Result Verdict Stop) (x y : Outside) (p : Reaches words r x y) → exit_status r ≢ 3 → exit_status r ≢ 7 → Built words x.files (HasRunWhole p.made)
-whole_at words (Ok verdict) x y p a b = p.whole
+-- at a status other than 3 and 7 the project was built to the end, where there is one
+whole_at : (words : List (List ℕ)) (r : Result Finished Stop) (x y : Outside) (p : Reaches words r x y) → exit_status (verdict_in r) ≢ 3 → exit_status (verdict_in r) ≢ 7
+    → Built words x.files (λ q. IsWhole q p.made (notes_in r))
+whole_at words (Ok f) x y p a b = p.whole
 whole_at words (Err (End verdict)) x y p a b = λ q e. absurd (no_end words p.made verdict x y p.meets q e)
 whole_at words (Err Failed) x y p a b = absurd (a refl)
 whole_at words (Err NoMemory) x y p a b = absurd (b refl)
 
-pub headline : (words : List (List ℕ)) (r : Result Verdict Stop) (a b : Option Outside) → Tells (Reaches words r) a b → Tells (Headline words (exit_status r)) a b
+alone_at : (words : List (List ℕ)) (r : Result Finished Stop) (x y : Outside) → Reaches words r x y → Built words x.files (IsAlone (notes_in r))
+alone_at words (Ok f) x y p = λ q e. (p.whole q e).alone
+alone_at words (Err s) x y p = λ q e one. All-nil IsOnce
+
+pub none_at : (r : Result Finished Stop) → (exit_status (verdict_in r) ≡ 3) ⊎ (exit_status (verdict_in r) ≡ 7) → notes_in r ≡ []
+none_at (Ok f) e = absurd (⊎_elim (not_3 f.verdict) (not_7 f.verdict) e)
+none_at (Err s) e = refl
+
+pub headline : (words : List (List ℕ)) (r : Result Finished Stop) (a b : Option Outside) → Tells (Reaches words r) a b → Tells (Headline words (exit_status (verdict_in r)) (notes_in r)) a b
 headline words r a b p = Tells-weaken a b
-    (λ x y h. let res : Headline words (exit_status r) x y = record { made = h.made; ran = h.ran; whole = whole_at words r x y h; comes = comes words h.made r x y h.meets } in res) p
+    (λ x y h. let res : Headline words (exit_status (verdict_in r)) (notes_in r) x y = record {
+      made = h.made;
+      ran = h.ran;
+      whole = λ c d q e. (whole_at words r x y h c d q e).serial;
+      noted = λ c d q e. (whole_at words r x y h c d q e).noted;
+      alone = alone_at words r x y h;
+      none = none_at r;
+      refused = h.refused;
+      comes = comes words h.made (verdict_in r) x y h.meets;
+    } in res)
+    p
+
+pub exits : (words : List (List ℕ)) (code : ℕ) (notes : List Note) (a b : Option Outside) → Tells (Headline words code notes) a b → Tells (Exits words code) a b
+exits words code notes a b p = Tells-weaken a b (λ x y h. (notes, h)) p
 
 -- want of memory before the first call
-pub headline_none : (words : List (List ℕ)) (a : Option Outside) → Tells (Headline words 7) a a
-headline_none words a = headline words (Err NoMemory) a a (Tells-same (Reaches words (Err NoMemory)) a
-    (λ x. let res : Reaches words (Err NoMemory) x x = record { made = []; ran = λ q given. tt; whole = tt; meets = inl (front_none (ended words [] x.files).calls x) } in res))
+pub exits_none : (words : List (List ℕ)) (a : Option Outside) → Tells (Exits words 7) a a
+exits_none words a = exits words 7 [] a a (headline words (Err NoMemory) a a (Tells-same (Reaches words (Err NoMemory)) a
+    (λ x. let res : Reaches words (Err NoMemory) x x = record {
+      made = [];
+      ran = λ q given. tt;
+      whole = tt;
+      refused = on_err (project words x.files).end refl;
+      meets = inl (front_none (ended words [] x.files).calls x);
+    } in res)))

@@ -4,21 +4,23 @@
 --     finish, quits      no call, and a value or a status
 --     ran_out, out       want of memory before any call, at a `?` and where it is returned
 --     said, said_nothing, not_said ..      the calls, and each that failed
---     said_none, said_more, cut      no text, one text more, and want of memory behind some texts
-use Rattle.std.proofs.Common.{◌≡◌, ℕ, Bool, true, false, cond, ◌==◌, List, [], ◌∷◌, ◌++◌, length, Option, Some, None, Result, Ok, Err, refl, sym, ap, subst, ◌∙◌, inl, inr, ◌⊎◌, ⊎_elim, append-nil, append_assoc}
+--     said_all, not_said_all         what a build says, to the end or broken off
+use Rattle.std.proofs.Common.{◌≡◌, ℕ, Bool, true, false, cond, ◌==◌, List, [], ◌∷◌, ◌++◌, length, Option, Result, Ok, Err, refl, sym, ap, subst, ◌∙◌, inl, inr, ◌⊎◌, ⊎_elim}
 use Rattle.std.specs.Prelude.{IsErrAnd}
-use Rattle.std.specs.List.{flat_map}
 use Rattle.em_host.specs.declared.call.Call.{Call}
 use Rattle.em_host.specs.declared.call.Call.TheVariants.{Take, Replace, Print}
 use Rattle.em_host.specs.declared.no.HostNo.{HostNo}
 use Rattle.em_host.specs.declared.no.HostNo.TheVariants as no
 use Rattle.em_host.specs.Outside.{Files, Outside, Tells, Takes, Replaces, Prints}
-use Rattle.em_host.specs.Calls.{files_after, Makes, MakesFront, FailsIn}
+use Rattle.em_host.specs.Calls.{files_after, Makes, FailsIn}
 use Rattle.em_host.proofs.Telling.{Tells-then, Tells-weaken, Tells-same, Went, makes_none, makes_then, front_none, front_more, front_then, fails_more, fails_then, take_went, replace_went, print_went}
+use Rattle.em_workers.specs.declared.no.BuildNo.{BuildNo}
+use Rattle.em_workers.specs.declared.no.BuildNo.TheVariants as build_no
+use Rattle.em_workers.specs.Printing.{prints, RunsOut, Says}
 use Rattle.emake.specs.declared.verdict.Verdict.{Verdict}
 use Rattle.emake.specs.declared.stop.Stop.{Stop}
 use Rattle.emake.specs.declared.stop.Stop.TheVariants.{End, Failed, NoMemory}
-use Rattle.emake.specs.Course.{Trace, Course, behind, go_on, ◌>>=◌, done, quit, print, prints, say, say_all, take, keep, Ends, RunsOut, Meets, Follows, faults_after, stop_of}
+use Rattle.emake.specs.Course.{Trace, Course, behind, go_on, ◌>>=◌, done, quit, say, say_all, take, keep, Ends, Meets, Follows, faults_after, stop_of, stop_of_build}
 
 -- ---- one part, and then another
 
@@ -142,25 +144,14 @@ module _ (name bytes : List ℕ) {x y : Option Outside} where
   unfolding keep
   not_kept e is p = call_failed (Unit {0}) (Replace name bytes) e (Replaces name bytes (Err e)) (λ u v h. replace_went name bytes (Err e) u v h) (λ f. refl) is p
 
--- ---- several texts
-
-prints-more : (texts : List (List ℕ)) (text : List ℕ) → prints (texts ++ text ∷ []) ≡ prints texts ++ print text
-prints-more [] text = append-nil (print text)
-prints-more (t ∷ ts) text = ap (λ cs. print t ++ cs) (prints-more ts text) ∙ sym (append_assoc (print t) (prints ts) (print text))
-
-pub said_none : {x : Option Outside} → Follows (say_all []) (Ok tt) x x
-unfolding say_all
-said_none {x} = record { told = Tells-same _ x (λ y. record { same = refl; made = makes_none y }) }
+-- ---- what a build says
 
 module _ (texts : List (List ℕ)) {x y : Option Outside} where
-  pub said_more : (text : List ℕ) {r : Result (Unit {0}) Stop} {z : Option Outside} → Follows (say_all texts) (Ok tt) x y → Follows (say text) r y z → Follows (say_all (texts ++ text ∷ [])) r x z
-  unfolding say_all say
-  said_more text {r} {z} p q = record {
-    told = Tells-then x y z
-        (λ u v w h i. subst (λ (cs : List Call). let t : Trace (Unit {0}) = record { calls = cs; end = Ok tt } in Meets t r u w) (sym (prints-more texts text)) (behind_does (prints texts) (say text v.files) r u v w h.made i))
-        p.told q.told;
-  }
-
-  pub cut : Follows (say_all texts) (Ok tt) x y → Follows (say_all texts) (Err NoMemory) x y
+  pub said_all : Tells (Makes (prints texts)) x y → Follows (say_all texts) (Ok tt) x y
   unfolding say_all
-  cut p = record { told = Tells-weaken x y (λ u v h. inl (record { made = prints texts; left = []; all = sym (append-nil (prints texts)); done = h.made })) p.told }
+  said_all p = record { told = Tells-weaken x y (λ u v h. record { same = refl; made = h }) p }
+
+  pub not_said_all : (A : Type 0) (e : BuildNo) → Tells (Says {A = A} (prints texts) (Err e)) x y → Follows (say_all texts) (Err (stop_of_build e)) x y
+  unfolding say_all
+  not_said_all A build_no.Host p = record { told = p }
+  not_said_all A build_no.NoMemory p = record { told = p }

@@ -1,6 +1,8 @@
--- How many jobs a plan has, and its specs: as many as it has jobs, each with its number.
-use Rattle.std.proofs.Common.{◌≡◌, ◌+◌, ◌≤◌, ℕ, zero, suc, List, [], ◌∷◌, length, Result, Ok, refl, sym, ap, subst, ◌∙◌, arith}
-use Rattle.std.specs.Prelude.{IfSome, slice_get}
+-- How many jobs a plan has, what they wait for, and its specs: as many as it has jobs, each with its number and the order's flags.
+use Rattle.std.proofs.Common.{◌≡◌, ◌+◌, ◌≤◌, ◌<◌, ℕ, zero, suc, List, [], ◌∷◌, length, Option, Some, None, Ok, refl, ap, subst, arith}
+use Rattle.std.specs.Prelude.{IfSome, All, slice_get}
+use Rattle.std.specs.List.{Contains}
+use Rattle.std.proofs.lemmas.List.Elements.{All-nil, All-cons, All-weaker, All-contains_itself}
 use Rattle.em_cmdline.specs.declared.order.Order.{Order}
 use Rattle.em_rules.specs.declared.book.Book.{Book}
 use Rattle.em_plan.specs.declared.planned.PlanJob.{PlanJob}
@@ -10,8 +12,12 @@ use Rattle.em_plan.specs.Makings.{making_of}
 use Rattle.em_plan.specs.Plans.{asked, plan_for, plan_of}
 use Rattle.em_tree.specs.Trees.{Table}
 use Rattle.em_task.specs.declared.job.Job.{Job}
-use Rattle.em_job.specs.Making.{jobs_from, jobs_of}
+use Rattle.em_job.specs.Making.{flags_of, job_of, jobs_from, jobs_of}
 use Rattle.em_engine.specs.Fronts.{AreNumbered}
+use Rattle.emake.specs.Projects.{AreLower}
+
+abbrev HasFlags : Order → Job → Type 0
+HasFlags order j = j.flags ≡ flags_of order
 
 module _ (book : Book) (order : Order) (base : ℕ) where
   count_from : (i : ℕ) (plans : List PlanJob) → length (jobs_from book order base i plans) ≡ length plans
@@ -25,6 +31,10 @@ module _ (book : Book) (order : Order) (base : ℕ) where
       let shift : suc i + k ≡ i + suc k = omega arith in
       subst (λ (n : ℕ). IfSome (slice_get (jobs_from book order base (suc i) ps) k) (λ j. j.job ≡ n)) shift (numbers_from (suc i) ps k)
 
+  flags_from : (i : ℕ) (plans : List PlanJob) → All (HasFlags order) (jobs_from book order base i plans)
+  flags_from i [] = All-nil (HasFlags order)
+  flags_from i (p ∷ ps) = All-cons (HasFlags order) (job_of book order base i p) (jobs_from book order base (suc i) ps) refl (flags_from (suc i) ps)
+
   pub spec_count : (plans : List PlanJob) → length (jobs_of book order base plans) ≡ length plans
   unfolding jobs_of
   spec_count plans = count_from 0 plans
@@ -35,7 +45,21 @@ module _ (book : Book) (order : Order) (base : ℕ) where
       let from_0 : 0 + k ≡ k = omega arith in
       subst (λ (n : ℕ). IfSome (slice_get (jobs_from book order base 0 plans) k) (λ j. j.job ≡ n)) from_0 (numbers_from 0 plans k)
 
+  pub flagged : (plans : List PlanJob) → All (λ (j : Job). j.flags ≡ flags_of order) (jobs_of book order base plans)
+  unfolding jobs_of
+  flagged plans = flags_from 0 plans
+
 pub plan_few : ((says : List ℕ → Making) (goals : List (List ℕ)) (p : Plan) → plan_for says goals ≡ Ok p → length p.jobs ≤ 65536)
     → (book : Book) (goals : List (List ℕ)) (t : Table) (cwd : List ℕ) (p : Plan) → plan_of book goals t cwd ≡ Ok p → length p.jobs ≤ 65536
 unfolding plan_of
 plan_few law book goals t cwd p e = law (making_of book.rules book.patterns t cwd) (asked goals book.default_goal) p e
+
+pub plan_lower : ((says : List ℕ → Making) (goals : List (List ℕ)) (p : Plan) → plan_for says goals ≡ Ok p → (k : ℕ) (job : PlanJob) → slice_get p.jobs k ≡ Some job → (i : ℕ) → Contains job.waits i → i < k)
+    → (book : Book) (goals : List (List ℕ)) (t : Table) (cwd : List ℕ) (p : Plan) → plan_of book goals t cwd ≡ Ok p → AreLower p.jobs
+unfolding plan_of
+plan_lower law book goals t cwd p e k = by_job (slice_get p.jobs k) refl
+  where
+    by_job : (o : Option PlanJob) → slice_get p.jobs k ≡ o → IfSome o (λ j. All (λ i. i < k) j.waits)
+    by_job None at = tt
+    by_job (Some j) at =
+        All-weaker (Contains j.waits) (λ i. i < k) (λ i c. law (making_of book.rules book.patterns t cwd) (asked goals book.default_goal) p e k j at i c) j.waits (All-contains_itself j.waits)

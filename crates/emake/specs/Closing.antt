@@ -3,12 +3,15 @@
 --     goal_lines from gs    the same of several goals. The jobs that are first reached through a goal are those with numbers from one behind the
 --                           greatest of the goals before it up to its own; `from` is the first of them
 --     closing, status_of    of the whole build
-use Rattle.std.specs.Prelude.{ℕ, ◌+◌, Bool, true, false, ◌||◌, ◌&&◌, List, [], ◌∷◌, ◌++◌, Option, Some, None, is_none, drop, take, slice_get, max, if◌then◌else◌}
+--     has_ended order os    a job ended the run, of which these are the outcomes
+use Rattle.std.specs.Prelude.{ℕ, ◌+◌, Bool, true, false, ◌||◌, ◌&&◌, List, [], ◌∷◌, ◌++◌, Option, Some, is_none, drop, take, slice_get, max, if◌then◌else◌}
 use Rattle.std.specs.List.{list_any}
 use Rattle.em_tree.specs.declared.outcome.Outcome.{Outcome}
 use Rattle.em_tree.specs.declared.outcome.Outcome.TheVariants as outcome
+use Rattle.em_cmdline.specs.declared.order.Order.{Order}
 use Rattle.em_plan.specs.declared.planned.Plan.{Plan}
 use Rattle.em_plan.specs.declared.planned.PlanJob.{PlanJob}
+use Rattle.em_job.specs.Making.{ends_after, flags_of}
 use Rattle.emake.specs.declared.verdict.Verdict.{Verdict}
 use Rattle.emake.specs.declared.verdict.Verdict.TheVariants.{Done, Outdated, Faulty, Refused, Spent}
 use Rattle.emake.specs.Messages.{nothing_to_do, not_remade, up_to_date}
@@ -30,6 +33,9 @@ is_faulty (outcome.Failed n) = true
 is_faulty outcome.NoRule = true
 is_faulty (outcome.Halted text place) = true
 is_faulty _ = false
+
+abbrev pub has_ended : Order → List Outcome → Bool
+has_ended order outcomes = list_any (ends_after (flags_of order)) outcomes
 
 -- ---- the closing text
 

@@ -6,16 +6,18 @@
 --     say_all texts        several texts, in order
 --     m >>= k              one part, and then another on the files that it leaves
 --     Follows course result ..      a function on a host did what the course says, or broke off on the way
-use Rattle.std.specs.Prelude.{◌≡◌, ℕ, Bool, true, false, ◌==◌, List, [], ◌∷◌, ◌++◌, length, Option, Result, Ok, Err, ◌⊎◌, if◌then◌else◌}
-use Rattle.std.specs.List.{flat_map}
+use Rattle.std.specs.Prelude.{◌≡◌, ℕ, true, List, [], ◌∷◌, ◌++◌, Option, Result, Ok, Err}
 use Rattle.std.specs.FinMap.{get}
 use Rattle.em_host.specs.declared.call.Call.{Call}
-use Rattle.em_host.specs.declared.call.Call.TheVariants.{Take, Replace, Print}
+use Rattle.em_host.specs.declared.call.Call.TheVariants.{Take, Replace}
 use Rattle.em_host.specs.declared.no.HostNo.{HostNo}
 use Rattle.em_host.specs.declared.no.HostNo.TheVariants as no
 use Rattle.em_host.specs.Faults.{next_count}
 use Rattle.em_host.specs.Outside.{Files, Outside, Tells}
-use Rattle.em_host.specs.Calls.{files_after, Makes, MakesFront, FailsIn}
+use Rattle.em_host.specs.Calls.{files_after, Makes, FailsIn}
+use Rattle.em_workers.specs.declared.no.BuildNo.{BuildNo}
+use Rattle.em_workers.specs.declared.no.BuildNo.TheVariants as build_no
+use Rattle.em_workers.specs.Printing.{print, prints, RunsOut}
 use Rattle.emake.specs.declared.verdict.Verdict.{Verdict}
 use Rattle.emake.specs.declared.stop.Stop.{Stop}
 use Rattle.emake.specs.declared.stop.Stop.TheVariants.{End, Failed, NoMemory}
@@ -46,9 +48,6 @@ done a = λ files. record { calls = []; end = Ok a }
 unfoldable pub quit : {A : Type 0} → Verdict → Course A
 quit verdict = λ files. record { calls = []; end = Err verdict }
 
-abbrev pub print : List ℕ → List Call
-print text = if length text == 0 then [] else Print text ∷ []
-
 unfoldable pub say : List ℕ → Course (Unit {0})
 say text = λ files. record { calls = print text; end = Ok tt }
 
@@ -64,9 +63,6 @@ stop text verdict = do
   quit verdict
 
 -- texts are said one by one
-abbrev pub prints : List (List ℕ) → List Call
-prints texts = flat_map print texts
-
 unfoldable pub say_all : List (List ℕ) → Course (Unit {0})
 say_all texts = λ files. record { calls = prints texts; end = Ok tt }
 
@@ -76,10 +72,6 @@ say_all texts = λ files. record { calls = prints texts; end = Ok tt }
 pub record Ends {A : Type 0} (steps : Trace A) (end : Result A Verdict) (before after : Outside) : Type 0 where
   pub same : steps.end ≡ end
   pub made : Makes steps.calls before after
-
--- the first calls were made, and perhaps one more, which answered an error or was lost
-abbrev pub RunsOut : List Call → Outside → Outside → Type 0
-RunsOut calls before after = MakesFront calls before after ⊎ ((is_noted : Bool) × FailsIn is_noted calls before after)
 
 abbrev pub Meets : {A : Type 0} → Trace A → Result A Stop → Outside → Outside → Type 0
 Meets steps (Ok a) before after = Ends steps (Ok a) before after
@@ -101,3 +93,7 @@ faults_after (Err NoMemory) n = n
 abbrev pub stop_of : HostNo → Stop
 stop_of no.Failed = Failed
 stop_of no.NoMemory = NoMemory
+
+abbrev pub stop_of_build : BuildNo → Stop
+stop_of_build build_no.Host = Failed
+stop_of_build build_no.NoMemory = NoMemory

@@ -1,6 +1,7 @@
 -- What a run comes to, from the words, the host's files, and what the jobs made.
 --     ended words made     all that `emake` calls on the host, and the status: it does nothing else
-use Rattle.std.specs.Prelude.{◌≡◌, ℕ, Bool, true, false, ◌||◌, ◌==◌, List, ◌++◌, length, Option, Result, Ok, Err, if◌then◌else◌, IfOk}
+--     IsBuild p result ..      a build of the project answered so
+use Rattle.std.specs.Prelude.{◌≡◌, ℕ, Bool, true, false, ◌||◌, ◌==◌, List, [], ◌++◌, length, Option, Result, Ok, Err, if◌then◌else◌, IfOk, All}
 use Rattle.em_host.specs.Outside.{Outside}
 use Rattle.em_tree.specs.declared.state.State.{State}
 use Rattle.em_image.specs.Image.{limits, writing}
@@ -10,6 +11,10 @@ use Rattle.em_run.specs.Serial.{Made, outputs_of, state_after, Ran, IsSerial}
 use Rattle.em_cmdline.specs.declared.order.Order.{Order}
 use Rattle.em_plan.specs.declared.planned.Plan.{Plan}
 use Rattle.em_job.specs.Effects.{Makes}
+use Rattle.em_engine.specs.declared.note.Note.{Note}
+use Rattle.em_workers.specs.Builds.{IsOnce}
+use Rattle.em_workers.specs.Notes.{AreNotes}
+use Rattle.emake.specs.declared.build.Finished.{Finished}
 use Rattle.emake.specs.declared.project.Project.{Project}
 use Rattle.emake.specs.declared.stop.Stop.{Stop}
 use Rattle.emake.specs.declared.verdict.Verdict.{Verdict}
@@ -60,12 +65,28 @@ module _ (p : Project) (made : List Made) where
     u ← say_all (outputs_of made)
     after_jobs
 
+abbrev pub verdict_in : Result Finished Stop → Result Verdict Stop
+verdict_in (Ok f) = Ok f.verdict
+verdict_in (Err e) = Err e
+
+-- none of a run that broke off
+abbrev pub notes_in : Result Finished Stop → List Note
+notes_in (Ok f) = f.notes
+notes_in (Err e) = []
+
+-- these jobs are all of the serial run, with a note for each
+pub record IsWhole (p : Project) (made : List Made) (notes : List Note) : Type 0 where
+  pub serial : IsSerial Makes ends p.start p.specs made
+  pub noted : AreNotes p.start [] made notes
+  -- one worker runs each job once
+  pub alone : p.order.workers ≡ 1 → All IsOnce notes
+
 -- the jobs that were run have run so in the serial run; unless the run broke off, they are all of it
-pub record Builds (p : Project) (result : Result Verdict Stop) (before after : Option Outside) : Type 0 where
+pub record IsBuild (p : Project) (result : Result Finished Stop) (before after : Option Outside) : Type 0 where
   pub made : List Made
   pub ran : Ran Makes ends p.start p.specs made
-  pub whole : IfOk result (λ verdict. IsSerial Makes ends p.start p.specs made)
-  pub follows : Follows (building p made) result before after
+  pub whole : IfOk result (λ f. IsWhole p made f.notes)
+  pub follows : Follows (building p made) (verdict_in result) before after
 
 abbrev pub ended : List (List ℕ) → List Made → Course Verdict
 ended words made = do

@@ -2,7 +2,8 @@
 -- run with its refusal: nothing is replaced then.
 --     site words         up to the working directory
 --     project words      all of them, in order
-use Rattle.std.specs.Prelude.{ℕ, Bool, List, [], ◌∷◌, Option, Some, None, Result, Ok, Err, codes}
+--     IsReady p          what a build asks of a project
+use Rattle.std.specs.Prelude.{◌≡◌, ◌<◌, ◌≤◌, ℕ, Bool, List, [], Option, Some, None, Result, Ok, Err, IfSome, All, length, slice_get}
 use Rattle.std.specs.FinMap.{get}
 use Rattle.em_path.specs.Paths.{root_text}
 use Rattle.em_path.specs.Reading.{read_fault, resolved_text}
@@ -16,13 +17,17 @@ use Rattle.em_image.specs.Image.{limits}
 use Rattle.em_image.specs.Reading as image
 use Rattle.em_image.specs.declared.no.ImageNo.{ImageNo}
 use Rattle.em_cmdline.specs.declared.order.Order.{Order}
+use Rattle.em_cmdline.specs.Words.{HasRanges}
 use Rattle.em_rules.specs.declared.book.Book.{Book}
 use Rattle.em_reading.specs.declared.no.ReadNo.{ReadNo}
 use Rattle.em_reader.specs.Makefiles as makefiles
 use Rattle.em_plan.specs.declared.no.PlanNo.{PlanNo}
 use Rattle.em_plan.specs.declared.planned.Plan.{Plan}
+use Rattle.em_plan.specs.declared.planned.PlanJob.{PlanJob}
 use Rattle.em_plan.specs.Plans.{plan_of}
-use Rattle.em_job.specs.Making.{jobs_of}
+use Rattle.em_task.specs.declared.job.Job.{Job}
+use Rattle.em_job.specs.Making.{flags_of, jobs_of}
+use Rattle.em_engine.specs.Fronts.{AreNumbered}
 use Rattle.emake.specs.declared.project.Project.{Project}
 use Rattle.emake.specs.declared.project.Site.{Site}
 use Rattle.emake.specs.declared.verdict.Verdict.TheVariants.{Faulty}
@@ -120,3 +125,18 @@ project words = do
   book ← book_of s.order s.start
   plan ← planned book s.order s.start.tree s.cwd
   done (assembled s book plan)
+
+-- ---- what a build asks of it
+
+-- each job waits for jobs below it
+abbrev pub AreLower : List PlanJob → Type 0
+AreLower jobs = (k : ℕ) → IfSome (slice_get jobs k) (λ j. All (λ i. i < k) j.waits)
+
+pub record IsReady (p : Project) : Type 0 where
+  pub bare : p.start.outcomes ≡ []
+  pub few : length p.specs ≤ 65536
+  pub numbered : AreNumbered (λ (j : Job). j.job) p.specs
+  pub count : length p.plan.jobs ≡ length p.specs
+  pub lower : AreLower p.plan.jobs
+  pub flags : All (λ (j : Job). j.flags ≡ flags_of p.order) p.specs
+  pub ranges : HasRanges p.order

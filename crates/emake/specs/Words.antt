@@ -2,7 +2,7 @@
 --     words_of args      the words behind the program's name
 --     is_supported o     no part of the order waits for a later release
 --     ordered words      what they order, or their refusal
-use Rattle.std.specs.Prelude.{ℕ, ◌==◌, ◌&&◌, Bool, true, false, List, [], ◌∷◌, drop, map, Option, Some, None, is_none, Result, Ok, Err, codes, if◌then◌else◌, string_bytes}
+use Rattle.std.specs.Prelude.{ℕ, ◌&&◌, Bool, true, false, List, [], ◌∷◌, drop, map, Option, Some, None, is_none, Result, Ok, Err, if◌then◌else◌, string_bytes}
 use Rattle.std.specs.declared.string.String.{String}
 use Rattle.std.specs.Global.{Global}
 use Rattle.std.specs.Vec.Iter.{into_iter_items}
@@ -30,9 +30,9 @@ abbrev pub is_merge : HistoryMode → Bool
 is_merge mode.Merge = true
 is_merge _ = false
 
--- one worker, no history, no report, no generated project
+-- no history, no report, no generated project
 abbrev pub is_supported : Order → Bool
-is_supported o = o.workers == 1 && is_none o.history && is_merge o.mode && is_none o.report && is_none o.generate
+is_supported o = is_none o.history && is_merge o.mode && is_none o.report && is_none o.generate
 
 abbrev pub supported : Order → Course Order
 supported o = if is_supported o then done o else stop bad_words Faulty

@@ -1,27 +1,38 @@
 //! The build of a project, and its end.
-ghost use Rattle.std.specs.Prelude.{◌≡◌, ◌≤◌, ◌++◌, [], IfOk, length};
-ghost use Rattle.em_task.specs.declared.job.Job.{Job};
-ghost use Rattle.em_engine.specs.Fronts.{AreNumbered};
+ghost use Rattle.std.specs.Prelude.{◌≡◌, ◌++◌, IfOk, map};
 ghost use Rattle.emake.specs.Closing.{closing};
 ghost use Rattle.emake.specs.Course.{Follows, faults_after};
 ghost use Rattle.emake.specs.Endings as endings;
 ghost use Rattle.emake.specs.Messages as messages;
+ghost use Rattle.emake.specs.Projects.{IsReady};
 
-use crate::closing::{closing_text, status_of};
+use crate::closing::{closing_text, has_ended, status_of};
 use crate::messages::image_line;
 use crate::project::Project;
 use crate::say::{keep, say};
-use crate::serial::run_jobs;
 use crate::stop::Stop;
 use crate::verdict::Verdict;
-use em_base::{NoMemory, Text};
+use em_base::{NoMemory, Seq, Text};
 use em_cmdline::Order;
-use em_engine::Front;
+use em_engine::Note;
 use em_host::Host;
 use em_image::{ImageNo, write_image};
+use em_job::JobSpec;
 use em_plan::Plan;
+use em_run::Work;
 use em_tree::State;
+use em_workers::{Built, Gate, build};
 use std::alloc::Global;
+use std::sync::Wait;
+use std::thread::Threads;
+
+/// What a build comes to, unless it breaks off.
+#[derive(Drop)]
+pub struct Finished {
+    pub verdict: Verdict,
+    /// One for each job of the serial run, in order.
+    pub notes: Seq<Note>,
+}
 
 /// The closing text with the line of the image's refusal.
 fn refused_closing(alloc: Global, text: Text, no: ImageNo) -> Result<Text, NoMemory>
@@ -84,12 +95,29 @@ fn finish<H: Host>(
     close(alloc, image, text, state, host)
 }
 
-/// Builds the project: runs its jobs, says the closing text and replaces the image.
-pub fn built<H: Host>(alloc: Global, project: Project, host: &mut H) -> Result<Verdict, Stop>
-    requires bare { project.start.outcomes ≡ [] }
-    requires few { length project.specs ≤ 65536 }
-    requires numbered { AreNumbered (λ (j : Job). j.job) project.specs }
-    ensures builds { endings.Builds project result (H.told host.old) (H.told host.new) }
+/// Of each job the jobs that it waits for.
+fn waits_of(alloc: Global, plan: &Plan) -> Result<Seq<Seq<u32>>, NoMemory>
+    ensures { IfOk result (λ waits. waits ≡ map (λ j. j.waits) plan.now.jobs) }
+{
+    let mut waits = Seq::new(alloc);
+    for job in plan.jobs.items() {
+        let copy = Vec::from_slice(alloc, job.waits.items())?;
+        waits.push(Seq::from_vec(copy))?;
+    }
+    Ok(waits)
+}
+
+/// Builds the project: runs its jobs with the workers of its order, says the closing text and replaces the image.
+pub fn built<R: Threads + Wait + Sync, W: Work<JobSpec> + Sync, G: Gate + Sync, H: Host>(
+    rt: &R,
+    alloc: Global,
+    project: Project,
+    w: &W,
+    gate: &G,
+    host: &mut H,
+) -> Result<Finished, Stop>
+    requires { IsReady project }
+    ensures builds { endings.IsBuild project result (H.told host.old) (H.told host.new) }
     ensures faults { H.faults host.new ≡ faults_after result (H.faults host.old) }
 {
     let Project {
@@ -99,8 +127,14 @@ pub fn built<H: Host>(alloc: Global, project: Project, host: &mut H) -> Result<V
         plan,
         specs,
     } = project;
-    let mut front = Front::new(alloc, start, specs)?;
-    let early = run_jobs(alloc, &mut front, host)?;
-    let (state, _fuel) = front.close();
-    finish(alloc, &order, image.bytes(), &plan, early, &state, host)
+    let waits = waits_of(alloc, &plan)?;
+    let done = build(rt, alloc, start, specs, waits, order.workers, w, gate, host)?;
+    let Built {
+        state,
+        notes,
+        fuel: _,
+    } = done;
+    let early = has_ended(&order, state.outcomes.items());
+    let verdict = finish(alloc, &order, image.bytes(), &plan, early, &state, host)?;
+    Ok(Finished { verdict, notes })
 }

@@ -1,11 +1,13 @@
 //! How a build ends.
 ghost use Rattle.std.specs.Prelude.{◌≡◌, ◌++◌, ◌<◌, ◌^◌, Some, IfOk, OnOk, slice_get, take, drop};
 ghost use Rattle.std.specs.List.{list_any};
+ghost use Rattle.em_job.specs.Making.{ends_after, flags_of};
 ghost use Rattle.emake.specs.Closing as closing;
 
 use crate::messages::{put_not_remade, put_nothing_to_do, put_up_to_date};
 use crate::verdict::Verdict;
 use em_base::{NoMemory, Text};
+use em_cmdline::Order;
 use em_plan::{Plan, PlanJob};
 use em_tree::Outcome;
 use std::alloc::Global;
@@ -45,6 +47,25 @@ fn has_faulty(outcomes: &[Outcome]) -> bool
             Outcome::Failed(_) | Outcome::NoRule | Outcome::Halted { .. }
         )
     })
+}
+
+/// Whether the run ends after a job with this outcome.
+fn ends(order: &Order, outcome: &Outcome) -> bool
+    ensures { result ≡ ends_after (flags_of order.now) outcome.now }
+{
+    match outcome {
+        Outcome::Halted { .. } | Outcome::Refused { .. } | Outcome::Spent => true,
+        Outcome::Failed(_) | Outcome::NoRule => !order.keep_going,
+        Outcome::Made => order.question,
+        Outcome::Upto | Outcome::Counted | Outcome::Skipped => false,
+    }
+}
+
+/// Whether a job ended the run, of which these are the outcomes.
+pub fn has_ended(order: &Order, outcomes: &[Outcome]) -> bool
+    ensures { result ≡ closing.has_ended order.now outcomes.now }
+{
+    outcomes.iter().any(|o| ends(order, o))
 }
 
 // ---- the closing text

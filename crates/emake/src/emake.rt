@@ -1,5 +1,5 @@
 //! The top call: what the program does.
-ghost use Rattle.std.specs.Prelude.{◌≡◌, ◌≢◌, ◌⊎◌, List, length, take};
+ghost use Rattle.std.specs.Prelude.{◌≡◌, ◌≢◌, ◌⊎◌, List, [], length, take};
 ghost use Rattle.em_host.specs.Outside.{Tells};
 ghost use Rattle.em_host.specs.Faults.{next_count};
 ghost use Rattle.em_tree.specs.declared.state.State.{State};
@@ -7,49 +7,72 @@ ghost use Rattle.em_run.specs.Serial.{Made, Ran, IsSerial};
 ghost use Rattle.em_task.specs.declared.job.Job.{Job};
 ghost use Rattle.em_job.specs.Effects.{Makes};
 ghost use Rattle.emake.specs.Course.{faults_after};
-ghost use Rattle.emake.specs.Headline.{Headline, Reaches, exit_status};
+ghost use Rattle.emake.specs.Endings.{verdict_in, notes_in};
+ghost use Rattle.emake.specs.Headline.{Headline, Exits, Reaches, exit_status};
 ghost use Rattle.emake.specs.Serial.{ends};
 ghost use Rattle.emake.specs.Words.{words_of};
 
-use crate::build::built;
+use crate::build::{Finished, built};
 use crate::project::project_of;
 use crate::stop::Stop;
-use crate::verdict::Verdict;
 use crate::words::{behind_first, given_words};
-use em_base::{NoMemory, Text};
+use em_base::{NoMemory, Seq, Text};
+use em_engine::Note;
 use em_host::Host;
-use em_job::JobSpec;
 use em_job::laws::law_one_effect;
+use em_job::{JobSpec, JobWork};
 use em_run::law_one_run;
+use em_workers::OpenGate;
 use std::alloc::Global;
 use std::env::Args;
 use std::io;
+use std::sync::Wait;
+use std::thread::Threads;
 
 /// How a run ended.
-#[derive(Clone, Copy, Debug, PartialEq, Eq)]
+#[derive(Debug, Drop, PartialEq, Eq)]
 pub struct Ended {
     /// 0: nothing went wrong. 1: `-q` was given, and something is to be made. 2: a fault. 3: the host failed.
     /// 4: a construct was refused. 5: fuel was spent. 7: memory ran out.
     pub status: u8,
+    /// One for each job of the serial run, in order: in how many runs it came to be committed, and why in two.
+    /// None where there is no build, and at 3 and 7.
+    pub notes: Seq<Note>,
 }
 
 /// The run, from the words to its end.
-fn run<H: Host>(alloc: Global, words: &[Text], host: &mut H) -> Result<Verdict, Stop>
+fn run<R: Threads + Wait + Sync, H: Host>(
+    rt: &R,
+    alloc: Global,
+    words: &[Text],
+    host: &mut H,
+) -> Result<Finished, Stop>
     ensures told { Tells (Reaches words.now result) (H.told host.old) (H.told host.new) }
     ensures faults { H.faults host.new ≡ faults_after result (H.faults host.old) }
 {
     let project = project_of(alloc, words, host)?;
-    built(alloc, project, host)
+    let work = JobWork::new();
+    built(rt, alloc, project, &work, &OpenGate, host)
 }
 
-fn exit_status(answer: Result<Verdict, Stop>) -> u8
-    ensures { result ≡ exit_status answer }
+fn exit_status(answer: &Result<Finished, Stop>) -> u8
+    ensures { result ≡ exit_status (verdict_in answer.now) }
 {
     match answer {
-        Ok(verdict) => verdict.code(),
+        Ok(finished) => finished.verdict.code(),
         Err(Stop::End(verdict)) => verdict.code(),
         Err(Stop::Failed) => 3,
         Err(Stop::NoMemory) => 7,
+    }
+}
+
+/// The notes, none where the run broke off.
+fn notes_in(alloc: Global, answer: Result<Finished, Stop>) -> Seq<Note>
+    ensures { result ≡ notes_in answer }
+{
+    match answer {
+        Ok(finished) => finished.notes,
+        Err(_) => Seq::new(alloc),
     }
 }
 
@@ -57,22 +80,34 @@ fn exit_status(answer: Result<Verdict, Stop>) -> u8
 /// jobs, says the closing text and replaces the image.
 ///
 /// Over a host that tells its files and what was printed, and with a status other than 3 and 7, the printed
-/// bytes grew by exactly what the serial run says, the image is the serial run's, and so is the status. At 3
-/// and 7 a front of this was done, and the image is the old one or the new one. No other file is touched.
-/// Status 3 comes only where a call on the host failed, and where one failed the status is 3 or 7 and nothing
-/// more is called.
+/// bytes grew by exactly what the serial run says, the image is the serial run's, and so is the status, for every
+/// number of workers that the words order. At 3 and 7 a front of this was done, and the image is the old one or
+/// the new one. No other file is touched. Status 3 comes only where a call on the host failed, and where one
+/// failed the status is 3 or 7 and nothing more is called.
+///
+/// Over such a host a job's note has one run, or two and why: its first run was answered otherwise than the serial
+/// run is, isn't what the board was asked, is another job's, or was given up for want of memory. With one worker each
+/// note has one run. With more the call may wait.
 ///
 /// Besides the jobs themselves it takes time linear in the image, in what is read of makefiles and in the plan,
-/// with searches by name or path for each name and each change.
-pub fn emake<H: Host>(alloc: Global, words: &[Text], host: &mut H) -> Ended
-    ensures headline { Tells (Headline words.now result.status) (H.told host.old) (H.told host.new) }
+/// with searches by name or path for each name and each change; with more than one worker also what a board takes
+/// of them.
+pub fn emake<R: Threads + Wait + Sync, H: Host>(
+    rt: &R,
+    alloc: Global,
+    words: &[Text],
+    host: &mut H,
+) -> Ended
+    ensures headline { Tells (Headline words.now result.status result.notes)
+        (H.told host.old) (H.told host.new) }
     ensures cause { result.status ≡ 3 → H.faults host.new ≡ next_count (H.faults host.old) }
     ensures effect { H.faults host.new ≢ H.faults host.old → (result.status ≡ 3) ⊎ (result.status ≡ 7) }
+    ensures none { (result.status ≡ 3) ⊎ (result.status ≡ 7) → result.notes ≡ [] }
 {
-    let answer = run(alloc, words, host);
-    Ended {
-        status: exit_status(answer),
-    }
+    let answer = run(rt, alloc, words, host);
+    let status = exit_status(&answer);
+    let notes = notes_in(alloc, answer);
+    Ended { status, notes }
 }
 
 /// Jobs have one serial run at most, and jobs that have run so are a front of it.
@@ -87,13 +122,18 @@ pub fn law_one_build()
 }
 
 /// The program, from the words that the system gives to the exit status.
-pub fn program<H: Host>(alloc: Global, args: io::Result<Args>, host: &mut H) -> u8
-    ensures headline { Tells (Headline (words_of args) result) (H.told host.old) (H.told host.new) }
+pub fn program<R: Threads + Wait + Sync, H: Host>(
+    rt: &R,
+    alloc: Global,
+    args: io::Result<Args>,
+    host: &mut H,
+) -> u8
+    ensures headline { Tells (Exits (words_of args) result) (H.told host.old) (H.told host.new) }
     ensures cause { result ≡ 3 → H.faults host.new ≡ next_count (H.faults host.old) }
     ensures effect { H.faults host.new ≢ H.faults host.old → (result ≡ 3) ⊎ (result ≡ 7) }
 {
     match given_words(alloc, args) {
-        Ok(words) => emake(alloc, behind_first(words.items()), host).status,
+        Ok(words) => emake(rt, alloc, behind_first(words.items()), host).status,
         Err(NoMemory) => 7,
     }
 }

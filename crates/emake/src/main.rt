@@ -7,7 +7,6 @@ mod emake;
 mod messages;
 mod project;
 mod say;
-mod serial;
 mod stop;
 mod verdict;
 mod words;
@@ -23,5 +22,5 @@ mod tests;
 fn main(rt: HostRuntime) -> ExitCode {
     let args = env::args(&rt);
     let alloc = rt.alloc();
-    ExitCode::from(program(alloc, args, &mut RealHost::new(rt)))
+    ExitCode::from(program(&rt, alloc, args, &mut RealHost::new(rt)))
 }

@@ -1,12 +1,12 @@
 //! What there is to build: from the words and the image to the jobs.
 ghost use Rattle.std.specs.Prelude.{◌≡◌, ◌≤◌, [], None, IfOk, IsErr, length};
+ghost use Rattle.em_cmdline.specs.Words.{HasRanges};
 ghost use Rattle.em_image.specs.Image.{limits, broken};
 ghost use Rattle.em_path.specs.Paths.{root_text};
 ghost use Rattle.em_path.specs.Reading.{read_fault, resolved_text};
-ghost use Rattle.em_task.specs.declared.job.Job.{Job};
-ghost use Rattle.em_engine.specs.Fronts.{AreNumbered};
 ghost use Rattle.emake.specs.Course.{Follows, faults_after};
 ghost use Rattle.emake.specs.Projects as projects;
+ghost use Rattle.emake.specs.Projects.{AreLower, IsReady};
 
 use crate::messages::{NO_IMAGE, dir_line, fault_line, image_line, plan_line};
 use crate::say::{say, stop, take};
@@ -19,7 +19,7 @@ use em_host::Host;
 use em_image::{ImageNo, read_text};
 use em_job::{JobSpec, specs};
 use em_path::{Path, PathNo};
-use em_plan::laws::law_limit;
+use em_plan::laws::{law_limit, law_waits};
 use em_plan::{Plan, PlanNo, plan};
 use em_reader::{ReadNo, read_makefiles};
 use em_rules::Book;
@@ -134,8 +134,10 @@ fn planned<H: Host>(
         (H.told host.old) (H.told host.new) }
     ensures faults { H.faults host.new ≡ faults_after result (H.faults host.old) }
     ensures few { IfOk result (λ p. length p.jobs ≤ 65536) }
+    ensures lower { IfOk result (λ p. AreLower p.jobs) }
 {
     law_limit();
+    law_waits();
     match plan(alloc, book, order.goals.items(), tree, cwd) {
         Ok(plan) => {
             say(host, plan.notes.bytes())?;
@@ -166,7 +168,7 @@ fn site_of<H: Host>(alloc: Global, words: &[Text], host: &mut H) -> Result<Site,
     ensures faults { H.faults host.new ≡ faults_after result (H.faults host.old) }
     ensures bare { IfOk result (λ s. s.start.outcomes ≡ []) }
     ensures limits { IfOk result (λ s. broken limits s.start.tree ≡ None) }
-    ensures fuel { IfOk result (λ s. s.order.fuel ≤ 1000000) }
+    ensures ranges { IfOk result (λ s. HasRanges s.order) }
     ensures dir { IfOk result (λ s. read_fault root_text s.order.dir ≡ None) }
 {
     let order = ordered(alloc, words, host)?;
@@ -185,13 +187,14 @@ fn site_of<H: Host>(alloc: Global, words: &[Text], host: &mut H) -> Result<Site,
 
 /// All of it put together.
 fn assembled(alloc: Global, site: Site, book: &Book, plan: Plan) -> Result<Project, NoMemory>
+    requires bare { site.start.outcomes ≡ [] }
     requires limits { broken limits site.start.tree ≡ None }
-    requires fuel { site.order.fuel ≤ 1000000 }
+    requires ranges { HasRanges site.order }
     requires dir { read_fault root_text site.order.dir ≡ None }
     requires few { length plan.jobs ≤ 65536 }
+    requires lower { AreLower plan.jobs }
     ensures project { IfOk result (λ p. p ≡ projects.assembled site book.now plan) }
-    ensures few { IfOk result (λ p. length p.specs ≤ 65536) }
-    ensures numbered { IfOk result (λ p. AreNumbered (λ (j : Job). j.job) p.specs) }
+    ensures ready { IfOk result IsReady }
 {
     let Site {
         order,
@@ -214,9 +217,7 @@ fn assembled(alloc: Global, site: Site, book: &Book, plan: Plan) -> Result<Proje
 pub fn project_of<H: Host>(alloc: Global, words: &[Text], host: &mut H) -> Result<Project, Stop>
     ensures told { Follows (projects.project words.now) result (H.told host.old) (H.told host.new) }
     ensures faults { H.faults host.new ≡ faults_after result (H.faults host.old) }
-    ensures bare { IfOk result (λ p. p.start.outcomes ≡ []) }
-    ensures few { IfOk result (λ p. length p.specs ≤ 65536) }
-    ensures numbered { IfOk result (λ p. AreNumbered (λ (j : Job). j.job) p.specs) }
+    ensures ready { IfOk result IsReady }
 {
     let site = site_of(alloc, words, host)?;
     let book = book_of(alloc, &site.order, &site.start, host)?;

@@ -5,6 +5,7 @@ ghost use Rattle.emake.specs.declared.stop.Stop.TheVariants as stop;
 use crate::verdict::Verdict;
 use em_base::NoMemory;
 use em_host::HostNo;
+use em_workers::BuildNo;
 
 /// Why a part of a run gives no value.
 #[derive(Clone, Copy, Debug, PartialEq, Eq)]
@@ -33,6 +34,19 @@ impl From<HostNo> for Stop {
         match no {
             HostNo::Failed => Stop::Failed,
             HostNo::NoMemory => Stop::NoMemory,
+        }
+    }
+}
+
+impl From<BuildNo> for Stop {
+    ghost use Rattle.emake.specs.Course.{stop_of_build};
+
+    ghost from_gives = { λ no e. e ≡ stop_of_build no };
+
+    fn from(no: BuildNo) -> Stop {
+        match no {
+            BuildNo::Host => Stop::Failed,
+            BuildNo::NoMemory => Stop::NoMemory,
         }
     }
 }

@@ -4,11 +4,14 @@ use em_base::{Seq, Text};
 use em_host::MemHost;
 use std::alloc::Global;
 use std::process::Abort;
+use std::sync::Wait;
 use std::test::Fail;
+use std::thread::Threads;
 
 mod big;
 mod builds;
 mod usage;
+mod workers;
 
 use builds::{After, BUILDS, Build};
 
@@ -22,10 +25,15 @@ fn words_of(alloc: Global, words: &str) -> Result<Seq<Text>, Fail> {
 }
 
 /// `emake` with these words: what it prints more, and its status.
-fn run(alloc: Global, words: &str, host: &mut MemHost) -> Result<(Text, u8), Fail> {
+fn run<R: Threads + Wait + Sync>(
+    rt: &R,
+    alloc: Global,
+    words: &str,
+    host: &mut MemHost,
+) -> Result<(Text, u8), Fail> {
     let printed = host.printed().len();
     let texts = words_of(alloc, words)?;
-    let status = emake(alloc, texts.items(), host).status;
+    let status = emake(rt, alloc, texts.items(), host).status;
     let more = host.printed().get(printed..).unwrap_or(&[]);
     Ok((Text::from_slice(alloc, more)?, status))
 }
@@ -43,9 +51,16 @@ fn is_left(after: &After, before: &[u8], left: &[u8]) -> bool {
     }
 }
 
-fn try_build(
-    rt: &impl Abort,
+/// The build's words, with that many workers unless they say how many.
+fn with_workers(alloc: Global, workers: &str, words: &str) -> Result<String, Fail> {
+    let said = if words.contains("-j") { "" } else { workers };
+    Ok(format!(in alloc; "{said} {words}")?)
+}
+
+fn try_build<R: Abort + Threads + Wait + Sync>(
+    rt: &R,
     alloc: Global,
+    workers: &str,
     number: usize,
     build: &Build,
     host: &mut MemHost,
@@ -54,21 +69,37 @@ fn try_build(
         host.put(alloc, b"i", image)?;
     }
     let before = image(alloc, host)?;
-    let (printed, status) = run(alloc, build.words, host)?;
+    let words = with_workers(alloc, workers, build.words)?;
+    let (printed, status) = run(rt, alloc, words.as_str(), host)?;
     let left = image(alloc, host)?;
     let said = printed.bytes() == build.printed;
     let is_right = said && status == build.status;
     let is_left = is_left(&build.after, before.bytes(), left.bytes());
-    assert!(rt; is_right, "what build {number} prints, or its status");
-    assert!(rt; is_left, "the image after build {number}");
+    assert!(rt;
+        is_right,
+        "what build {number} prints, or its status, with {words}"
+    );
+    assert!(rt; is_left, "the image after build {number}, with {words}");
+    Ok(())
+}
+
+/// All builds one after another, with that many workers.
+fn try_builds<R: Abort + Threads + Wait + Sync>(
+    rt: &R,
+    alloc: Global,
+    workers: &str,
+) -> Result<(), Fail> {
+    let mut host = MemHost::new(alloc);
+    for (number, build) in BUILDS.iter().enumerate() {
+        try_build(rt, alloc, workers, number, build, &mut host)?;
+    }
     Ok(())
 }
 
 #[test]
 fn builds_come_out_as_told(rt: HostRuntime) -> Result<(), Fail> {
-    let mut host = MemHost::new(rt.alloc());
-    for (number, build) in BUILDS.iter().enumerate() {
-        try_build(&rt, rt.alloc(), number, build, &mut host)?;
+    for workers in ["", "-j 8"] {
+        try_builds(&rt, rt.alloc(), workers)?;
     }
     Ok(())
 }
@@ -91,7 +122,7 @@ fn behind_a_failed_call_nothing_is_called(rt: HostRuntime) -> Result<(), Fail> {
         let mut host = MemHost::new(alloc);
         host.put(alloc, b"i", TWO.1)?;
         host.fail_at(failing)?;
-        let (said, status) = run(alloc, TWO.0, &mut host)?;
+        let (said, status) = run(&rt, alloc, TWO.0, &mut host)?;
         let left = image(alloc, &host)?;
         let is_left = said.bytes() == printed.as_bytes() && left.bytes() == TWO.1;
         assert!(rt; is_left, "where call {failing} fails");
@@ -104,7 +135,7 @@ fn behind_a_failed_call_nothing_is_called(rt: HostRuntime) -> Result<(), Fail> {
 #[test]
 fn an_absent_image_is_refused(rt: HostRuntime) -> Result<(), Fail> {
     let mut host = MemHost::new(rt.alloc());
-    let (said, status) = run(rt.alloc(), "-I i all", &mut host)?;
+    let (said, status) = run(&rt, rt.alloc(), "-I i all", &mut host)?;
     assert_eq!(rt;
         said.bytes(),
         b"emake: *** image: absent.  Stop.\n".as_slice()

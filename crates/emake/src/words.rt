@@ -1,7 +1,8 @@
 //! The words of a command line.
-ghost use Rattle.std.specs.Prelude.{◌≡◌, ◌≤◌, IfOk, IfErr, IsErr, map, drop, string_bytes};
+ghost use Rattle.std.specs.Prelude.{◌≡◌, IfOk, IfErr, IsErr, map, drop, string_bytes};
 ghost use Rattle.std.specs.IoError.{error_kind};
 ghost use Rattle.std.specs.Vec.Iter.{into_iter_items};
+ghost use Rattle.em_cmdline.specs.Words.{HasRanges};
 ghost use Rattle.emake.specs.Course.{Follows, faults_after};
 ghost use Rattle.emake.specs.Words.{words_of, unread, is_merge, is_supported, supported, ordered, image_name};
 
@@ -71,8 +72,7 @@ fn is_merge(mode: HistoryMode) -> bool
 fn is_supported(order: &Order) -> bool
     ensures { result ≡ is_supported order.now }
 {
-    order.workers == 1
-        && order.history.is_none()
+    order.history.is_none()
         && is_merge(order.mode)
         && order.report.is_none()
         && order.generate.is_none()
@@ -95,7 +95,7 @@ fn supported<H: Host>(order: Order, host: &mut H) -> Result<Order, Stop>
 pub fn ordered<H: Host>(alloc: Global, words: &[Text], host: &mut H) -> Result<Order, Stop>
     ensures told { Follows (ordered words.now) result (H.told host.old) (H.told host.new) }
     ensures faults { H.faults host.new ≡ faults_after result (H.faults host.old) }
-    ensures fuel { IfOk result (λ o. o.fuel ≤ 1000000) }
+    ensures ranges { IfOk result HasRanges }
 {
     match read_words(alloc, words) {
         Ok(order) => supported(order, host),

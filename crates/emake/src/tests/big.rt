@@ -27,8 +27,8 @@ fn fan(alloc: Global, count: u32) -> Result<String, Fail> {
     Ok(format!(in alloc; "all:{names}\n{names}:\n")?)
 }
 
-fn check(
-    rt: &impl Abort,
+fn check<R: Abort + Threads + Wait + Sync>(
+    rt: &R,
     alloc: Global,
     words: &str,
     image: &[u8],
@@ -37,7 +37,7 @@ fn check(
 ) -> Result<(), Fail> {
     let mut host = MemHost::new(alloc);
     host.put(alloc, b"i", image)?;
-    let (said, ended) = run(alloc, words, &mut host)?;
+    let (said, ended) = run(rt, alloc, words, &mut host)?;
     let is_said = said.bytes() == printed.as_bytes();
     assert!(rt; is_said, "not said: {printed}");
     assert_eq!(rt; ended, status);

@@ -273,8 +273,8 @@ pub static BUILDS: [Build; 48] = [
     Build {
         words: "-j 2 -I i",
         before: Some(b"EMTREE 1\nd 5 /\nf 5 3 /Makefile\na:\n\n.\n"),
-        printed: b"emake: *** bad words.  Stop.\n",
-        status: 2,
+        printed: b"emake: Nothing to be done for 'a'.\n",
+        status: 0,
         after: After::Same,
     },
     Build {

@@ -1,19 +1,24 @@
-use Rattle.std.proofs.Common.{refl}
-use Rattle.emake.proofs.Following.{faults_left}
-use Rattle.emake.proofs.Building.{builds, breaks, breaks_early}
+use Rattle.emake.proofs.Building.{finishes, breaks, breaks_early, breaks_late, waits_count, waits_lower}
 use Rattle.emake.proofs.build.built.Goals as goal
 
-pub returns-in_err-front-clause-builds : goal.returns-in_err-front-clause-builds
-returns-in_err-front-clause-builds g c = breaks_early c.args.project c.from_residual.ensures.1
+pub build-requires-clause-waits : goal.build-requires-clause-waits
+build-requires-clause-waits g c = λ κs lives. rw c.in_ok-waits.ensures (waits_count c.args.project c.requires)
 
-pub returns-in_err-early-clause-builds : goal.returns-in_err-early-clause-builds
-returns-in_err-early-clause-builds g c = breaks c.args.project c.from_residual-in_err-early.ensures.1 (rw c.in_ok-front.ensures at c.in_err-early.ensures.jobs)
+pub build-requires-clause-lower : goal.build-requires-clause-lower
+build-requires-clause-lower g c = λ κs lives. rw c.in_ok-waits.ensures (waits_lower c.args.project.plan.jobs c.requires.lower)
+
+pub returns-in_err-waits-clause-builds : goal.returns-in_err-waits-clause-builds
+returns-in_err-waits-clause-builds g c = breaks_early c.args.project c.from_residual.ensures.1
+
+pub returns-in_err-done-clause-builds : goal.returns-in_err-done-clause-builds
+returns-in_err-done-clause-builds g c = breaks c.args.project c.from_residual-in_err-done.ensures.1 c.in_err-done.ensures.builds
+
+pub returns-in_err-verdict-clause-builds : goal.returns-in_err-verdict-clause-builds
+returns-in_err-verdict-clause-builds g c =
+    breaks_late c.args.project c.requires c.in_ok-done.ensures.builds c.from_residual-in_err-verdict.ensures.1 (rw c.items.ensures at c.has_ended-early.ensures)
+    (rw c.bytes.ensures at c.in_err-verdict.ensures.told)
 
 pub returns-clause-builds : goal.returns-clause-builds
 returns-clause-builds g c =
-    builds c.args.project (rw c.in_ok-front.ensures at c.in_ok-early.ensures.jobs) c.in_ok-early.ensures.whole c.close-state.ensures.state
-    (rw c.bytes.ensures at c.finish.ensures.told)
-
-pub returns-in_err-early-clause-faults : goal.returns-in_err-early-clause-faults
-returns-in_err-early-clause-faults g c =
-    faults_left c.from_residual-in_err-early.result c.in_err-early.field-0.0 _ _ _ c.from_residual-in_err-early.ensures.1 c.in_err-early.ensures.faults refl
+    finishes c.args.project c.requires c.in_ok-done.ensures.builds (rw c.items.ensures at c.has_ended-early.ensures)
+    (rw c.bytes.ensures at c.in_ok-verdict.ensures.told)

@@ -1,6 +1,10 @@
-use Rattle.emake.proofs.Ends.{headline_none}
+use Rattle.emake.proofs.Ends.{exits, exits_none}
 use Rattle.emake.specs.Words.{words_of}
 use Rattle.emake.proofs.emake.program.Goals as goal
 
+pub returns-in-Ok-clause-headline : goal.returns-in-Ok-clause-headline
+returns-in-Ok-clause-headline g c =
+    exits (words_of c.args.args) c.emake.result.status c.emake.result.notes _ _ (rw (c.behind_first.ensures, c.items.ensures, c.in-Ok.ensures.words) at c.emake.ensures.headline)
+
 pub returns-in-Err-clause-headline : goal.returns-in-Err-clause-headline
-returns-in-Err-clause-headline g c = headline_none (words_of c.args.args) _
+returns-in-Err-clause-headline g c = exits_none (words_of c.args.args) _

@@ -1,5 +1,5 @@
-use Rattle.emake.proofs.Following.{but, then, leave, finish}
-use Rattle.emake.proofs.Numbers.{plan_few}
+use Rattle.emake.proofs.Following.{then, leave, finish}
+use Rattle.emake.proofs.Numbers.{plan_few, plan_lower}
 use Rattle.emake.proofs.project.planned.Goals as goal
 
 pub returns-in_err-say-in-Ok-clause-told : goal.returns-in_err-say-in-Ok-clause-told
@@ -15,3 +15,7 @@ returns-in_ok-say-in-Ok-clause-told g c =
 pub returns-in_ok-say-in-Ok-clause-few : goal.returns-in_ok-say-in-Ok-clause-few
 returns-in_ok-say-in-Ok-clause-few g c =
     plan_few c.law_limit.ensures.few c.args.book.now c.items.result.now c.args.tree.now c.args.cwd.now c.in-Ok.plan c.in-Ok.ensures.ok
+
+pub returns-in_ok-say-in-Ok-clause-lower : goal.returns-in_ok-say-in-Ok-clause-lower
+returns-in_ok-say-in-Ok-clause-lower g c =
+    plan_lower c.law_waits.ensures.below c.args.book.now c.items.result.now c.args.tree.now c.args.cwd.now c.in-Ok.plan c.in-Ok.ensures.ok
