@@ -1,6 +1,18 @@
-//! The tests of a shared board, and of what the committer does with one job.
+//! The tests of a shared board, of the committer and the workers over it, and of builds.
 #![tactic(auto)]
 
+#[cfg(test)]
+mod ahead;
+#[cfg(test)]
+mod builds;
+#[cfg(test)]
+mod commits;
+#[cfg(test)]
+mod counting;
+#[cfg(test)]
+mod gates;
+#[cfg(test)]
+mod hosts;
 #[cfg(test)]
 mod links;
 #[cfg(test)]
@@ -11,3 +23,5 @@ mod shared;
 mod shows;
 #[cfg(test)]
 mod turns;
+#[cfg(test)]
+mod waking;

@@ -18,6 +18,20 @@ pub(super) type Plan<'a> = &'a [(&'static str, &'static str)];
 /// Three jobs, each of which reads the file of the one before. The first reads a file that isn't there.
 pub(super) static THREE: [(&str, &str); 3] = [("/z", "/a"), ("/a", "/b"), ("/b", "/c")];
 
+/// Ten jobs, each of which reads the file of the one before. The first reads a file that isn't there.
+pub(super) static TEN: [(&str, &str); 10] = [
+    ("/z", "/a"),
+    ("/a", "/b"),
+    ("/b", "/c"),
+    ("/c", "/d"),
+    ("/d", "/e"),
+    ("/e", "/f"),
+    ("/f", "/g"),
+    ("/g", "/h"),
+    ("/h", "/i"),
+    ("/i", "/j"),
+];
+
 pub(super) fn path_of(alloc: Global, text: &str) -> Result<Path, Fail> {
     Ok(Path::from_text(alloc, text.as_bytes())?.ok_or("no path")?)
 }
@@ -51,7 +65,11 @@ pub(super) fn are_numbered(links: &[Link]) -> bool
 }
 
 /// What each job waits for: nothing, or where that is declared the one before.
-fn waits_of(alloc: Global, plan: Plan<'_>, is_declared: bool) -> Result<Seq<Seq<u32>>, NoMemory> {
+pub(super) fn waits_of(
+    alloc: Global,
+    plan: Plan<'_>,
+    is_declared: bool,
+) -> Result<Seq<Seq<u32>>, NoMemory> {
     let mut waits = Seq::new(alloc);
     for (job, _part) in (0..=u32::MAX).zip(plan) {
         let mut wait = Seq::new(alloc);
@@ -70,7 +88,7 @@ fn all_below(jobs: &[u32], job: usize) -> bool
 }
 
 /// Whether each job waits for jobs below it.
-fn are_lower(waits: &[Seq<u32>]) -> bool
+pub(super) fn are_lower(waits: &[Seq<u32>]) -> bool
     ensures { IsTrue result → (j : ℕ) → All (λ k. k < j) (slice_index_or waits.now j []) }
 {
     for job in 0..waits.len() {

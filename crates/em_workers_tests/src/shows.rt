@@ -1,8 +1,8 @@
 //! What the tests compare, as texts.
 use em_engine::{Cause, Note};
 use em_path::Path;
-use em_tree::{Answer, Delta, Entry, Outcome, Question};
-use em_workers::Committed;
+use em_tree::{Answer, Delta, Entry, Node, Outcome, Question, State};
+use em_workers::{Built, Committed, Settled};
 use std::alloc::{AllocError, Global};
 
 pub(super) fn show_bytes(log: &mut String, bytes: &[u8]) -> Result<(), AllocError> {
@@ -127,4 +127,80 @@ pub(super) fn show_committed(alloc: Global, done: &Committed) -> Result<String, 
     write!(log, " {fuel}")?;
     show_paths(&mut log, &done.delta)?;
     Ok(log)
+}
+
+/// The notes, each with what follows it.
+pub(super) fn show_notes(log: &mut String, notes: &[Note]) -> Result<(), AllocError> {
+    for note in notes {
+        show_note(log, note)?;
+        log.push_str("; ")?;
+    }
+    Ok(())
+}
+
+/// The job, how it ended and the paths that it changed.
+fn show_done(log: &mut String, settled: &Settled) -> Result<(), AllocError> {
+    let job = settled.job;
+    write!(log, "{job} ")?;
+    show_outcome(log, &settled.outcome)?;
+    show_paths(log, &settled.delta)
+}
+
+/// What was settled.
+pub(super) fn show_settled(log: &mut String, all: &[Settled]) -> Result<(), AllocError> {
+    for settled in all {
+        show_done(log, settled)?;
+        log.push_str("; ")?;
+    }
+    Ok(())
+}
+
+/// A file, and what it holds.
+fn show_file(log: &mut String, path: &Path, node: &Node) -> Result<(), AllocError> {
+    match node {
+        Node::File { body, stamp: _ } => {
+            show_path(log, "", path)?;
+            log.push_str("=")?;
+            show_bytes(log, body.bytes())?;
+            log.push_str(" ")
+        }
+        Node::Dir { stamp: _ } => Ok(()),
+    }
+}
+
+/// The files of a state.
+fn show_files(log: &mut String, state: &State) -> Result<(), AllocError> {
+    for (path, node) in state.tree.nodes() {
+        show_file(log, path, node)?;
+    }
+    Ok(())
+}
+
+/// How the jobs of a state ended.
+fn show_outcomes(log: &mut String, state: &State) -> Result<(), AllocError> {
+    for outcome in state.outcomes.items() {
+        show_outcome(log, outcome)?;
+        log.push_str(" ")?;
+    }
+    Ok(())
+}
+
+fn show_fuel(log: &mut String, fuel: &[u64]) -> Result<(), AllocError> {
+    for used in fuel {
+        write!(log, "{used} ")?;
+    }
+    Ok(())
+}
+
+/// What was printed, and then the files, how the jobs ended, and the fuel of each.
+pub(super) fn show_built(
+    log: &mut String,
+    printed: &[u8],
+    built: &Built,
+) -> Result<(), AllocError> {
+    show_bytes(log, printed)?;
+    log.push_str(" ")?;
+    show_files(log, &built.state)?;
+    show_outcomes(log, &built.state)?;
+    show_fuel(log, built.fuel.items())
 }

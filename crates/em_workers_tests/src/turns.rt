@@ -68,7 +68,11 @@ fn first(alloc: Global, entries: &[Entry], count: usize) -> Result<Seq<Entry>, N
 }
 
 /// A run, with so many entries of its usage.
-fn run_lent(alloc: Global, run: Run<Link>, count: usize) -> Result<Option<Taken<Link>>, NoMemory>
+pub(super) fn run_lent(
+    alloc: Global,
+    run: Run<Link>,
+    count: usize,
+) -> Result<Option<Taken<Link>>, NoMemory>
     ensures { IfOk result (λ t. IfSome t IsLent) }
 {
     let asked = first(alloc, run.usage().items(), count)?;

@@ -1,0 +1,137 @@
+//! The committer over a lender that lends what it is given.
+ghost use Rattle.std.specs.Prelude.{All, IfOk, IfSome};
+ghost use Rattle.em_shared.specs.Waited.{IsLent};
+
+use super::gates::rerun_one;
+use super::links::{Link, Linker};
+use super::plans::{Plan, THREE, front_of, run_at_root, run_of};
+use super::shows::{show_bytes, show_notes, show_settled};
+use super::turns::run_lent;
+use em_engine::{Front, Taken};
+use em_host::MemHost;
+use em_workers::{BuildNo, OpenGate, ScriptLender, commit_all};
+use std::alloc::{AllocError, Global};
+use std::test::Fail;
+
+/// Five jobs, each of which reads the file of the one before. The first reads a file that isn't there.
+static FIVE: [(&str, &str); 5] = [
+    ("/z", "/a"),
+    ("/a", "/b"),
+    ("/b", "/c"),
+    ("/c", "/d"),
+    ("/d", "/e"),
+];
+
+/// A front that has committed so many jobs of the plan.
+fn front_behind(alloc: Global, plan: Plan<'_>, jobs: u32) -> Result<Front<Link>, Fail> {
+    let mut front = front_of(alloc, plan)?;
+    for _ in 0..jobs {
+        rerun_one(alloc, &mut front, &OpenGate)?;
+    }
+    Ok(front)
+}
+
+/// A run of job 2 over a root alone, where the file that it reads isn't there.
+fn stale(alloc: Global) -> Result<Option<Taken<Link>>, Fail>
+    ensures { IfOk result (λ t. IfSome t IsLent) }
+{
+    let run = run_at_root(alloc, &FIVE, 2)?;
+    Ok(run_lent(alloc, run, 3)?)
+}
+
+/// A run of job 3 over what the jobs before it leave.
+fn agreeing(alloc: Global) -> Result<Option<Taken<Link>>, Fail>
+    ensures { IfOk result (λ t. IfSome t IsLent) }
+{
+    let front = front_behind(alloc, &FIVE, 3)?;
+    let run = run_of(alloc, &FIVE, 3, front.state())?;
+    Ok(run_lent(alloc, run, 3)?)
+}
+
+/// Nothing of job 0, what was given up of job 1, and these of the next two.
+fn lends_of(
+    alloc: Global,
+    third: Option<Taken<Link>>,
+    fourth: Option<Taken<Link>>,
+) -> Result<Vec<Option<Taken<Link>>>, AllocError>
+    requires third { IfSome third IsLent }
+    requires fourth { IfSome fourth IsLent }
+    ensures { IfOk result (λ v. All (λ o. IfSome o IsLent) v.items) }
+{
+    Ok(vec![in alloc; None, Some(Taken::GivenUp), third, fourth]?)
+}
+
+/// Lends nothing of job 0, what was given up of job 1, a stale run of job 2 and an agreeing one of job 3.
+fn script(alloc: Global) -> Result<ScriptLender<Link>, Fail> {
+    let third = stale(alloc)?;
+    let fourth = agreeing(alloc)?;
+    let lends = lends_of(alloc, third, fourth)?;
+    Ok(ScriptLender::new(alloc, lends))
+}
+
+/// Commits the plan's jobs, and shows the notes, or that the host failed.
+fn commit_plan(
+    alloc: Global,
+    plan: Plan<'_>,
+    lender: &mut ScriptLender<Link>,
+    host: &mut MemHost,
+    log: &mut String,
+) -> Result<(), Fail> {
+    let mut front = front_of(alloc, plan)?;
+    match commit_all(alloc, lender, &mut front, &Linker, &OpenGate, host) {
+        Ok(notes) => show_notes(log, notes.items())?,
+        Err(BuildNo::Host) => log.push_str("host ")?,
+        Err(BuildNo::NoMemory) => log.push_str("memory ")?,
+    }
+    Ok(())
+}
+
+/// What was settled, whether the lender was stopped, and what was printed.
+fn show_told(
+    log: &mut String,
+    lender: &ScriptLender<Link>,
+    printed: &[u8],
+) -> Result<(), AllocError> {
+    log.push_str("| ")?;
+    show_settled(log, lender.settled())?;
+    log.push_str(if lender.stopped() { "stopped " } else { "on " })?;
+    show_bytes(log, printed)
+}
+
+/// What comes of the plan's jobs, by this lender on this host.
+fn committed(
+    alloc: Global,
+    plan: Plan<'_>,
+    lender: &mut ScriptLender<Link>,
+    host: &mut MemHost,
+) -> Result<String, Fail> {
+    let mut log = String::new(alloc);
+    commit_plan(alloc, plan, lender, host, &mut log)?;
+    show_told(&mut log, lender, host.printed())?;
+    Ok(log)
+}
+
+#[test]
+fn all_that_is_lent_is_committed_in_order(rt: HostRuntime) -> Result<(), Fail> {
+    let mut lender = script(rt.alloc())?;
+    let mut host = MemHost::new(rt.alloc());
+    let log = committed(rt.alloc(), &FIVE, &mut lender, &mut host)?;
+    assert_eq!(rt;
+        log.as_str(),
+        "0 in 1; 1 in 2 memory; 2 in 2 differ 0: content of /b was no content is /a/b after 1; \
+         3 in 1; 4 in 1; \
+         | 0 made / /a; 1 made / /b; 2 made / /c; 3 made / /d; 4 made / /e; \
+         stopped /a/a/b/a/b/c/a/b/c/d/a/b/c/d/e"
+    );
+    Ok(())
+}
+
+#[test]
+fn a_host_that_fails_ends_the_commits(rt: HostRuntime) -> Result<(), Fail> {
+    let mut lender = ScriptLender::new(rt.alloc(), Vec::new(rt.alloc()));
+    let mut host = MemHost::new(rt.alloc());
+    host.fail_at(1)?;
+    let log = committed(rt.alloc(), &THREE, &mut lender, &mut host)?;
+    assert_eq!(rt; log.as_str(), "host | 0 made / /a; stopped /a");
+    Ok(())
+}

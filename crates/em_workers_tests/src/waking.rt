@@ -1,0 +1,128 @@
+//! Who waits on a shared board is woken.
+use super::gates::is_raised;
+use super::links::Link;
+use super::plans::{THREE, run_at_root, shared_of};
+use em_engine::{Claim, Taken};
+use em_run::{Parts, Run};
+use em_shared::Shared;
+use em_tree::{Delta, Outcome};
+use std::alloc::Global;
+use std::sync::Wait;
+use std::sync::atomic::{AtomicBool, Ordering};
+use std::test::Fail;
+use std::thread::{Threads, join, yield_now};
+
+/// How far the thread that waits is.
+#[derive(Drop)]
+struct Stages {
+    /// It is about to claim a job.
+    begun: AtomicBool,
+    /// It has claimed one, and is about to claim another one.
+    claimed: AtomicBool,
+}
+
+/// Gives a thread that is about to wait time to do so.
+fn linger() {
+    for _ in 0..1000 {
+        yield_now();
+    }
+}
+
+/// What a worker is told that claims twice.
+fn claim_twice<R: Wait>(rt: &R, shared: &Shared<Link>, stages: &Stages) -> (Claim, Claim) {
+    stages.begun.store(true, Ordering::SeqCst);
+    let first = shared.claim_wait(rt);
+    stages.claimed.store(true, Ordering::SeqCst);
+    let second = shared.claim_wait(rt);
+    (first, second)
+}
+
+/// Settles job 0 once the worker waits, and stops the board once it waits again. Whether all of that could be done.
+fn settle_and_stop<R: Wait>(
+    rt: &R,
+    shared: &Shared<Link>,
+    stages: &Stages,
+    delta: Delta,
+    outcome: Outcome,
+) -> bool {
+    let begun = is_raised(&stages.begun);
+    linger();
+    let settled = shared.settle(rt, 0, delta, outcome).is_ok();
+    let claimed = is_raised(&stages.claimed);
+    linger();
+    shared.stop(rt);
+    begun && settled && claimed
+}
+
+#[test]
+fn a_worker_that_waits_is_woken(rt: HostRuntime) -> Result<(), Fail> {
+    let shared = shared_of(rt.alloc(), &THREE, true)?;
+    assert!(rt; shared.claim_front(&rt, 0));
+    let Parts { delta, outcome, .. } = run_at_root(rt.alloc(), &THREE, 0)?.into_parts();
+    let stages = Stages {
+        begun: AtomicBool::new(false),
+        claimed: AtomicBool::new(false),
+    };
+    let (claims, done) = join(
+        &rt,
+        || claim_twice(&rt, &shared, &stages),
+        || settle_and_stop(&rt, &shared, &stages, delta, outcome),
+    );
+    assert!(rt; done);
+    assert!(rt; claims == (Claim::Job(1), Claim::Done));
+    Ok(())
+}
+
+/// Takes what is left of job 0, and says what that is.
+fn take_first<R: Wait>(rt: &R, shared: &Shared<Link>, begun: &AtomicBool) -> &'static str {
+    begun.store(true, Ordering::SeqCst);
+    match shared.take_wait(rt, 0) {
+        Some(Taken::Run(_, _)) => "run",
+        Some(_) => "given up",
+        None => "none",
+    }
+}
+
+/// Publishes the run, or gives its job up, once the committer waits. Whether that could be done.
+fn leave_first<R: Wait>(
+    rt: &R,
+    shared: &Shared<Link>,
+    begun: &AtomicBool,
+    run: Run<Link>,
+    gives_up: bool,
+) -> bool {
+    let begun = is_raised(begun);
+    linger();
+    if gives_up {
+        shared.give_up(rt, 0);
+        return begun;
+    }
+    begun && shared.publish(rt, run).is_ok()
+}
+
+/// What a committer takes of job 0 that waits for it.
+fn taken_of<R: Threads + Wait + Sync>(
+    rt: &R,
+    alloc: Global,
+    gives_up: bool,
+) -> Result<&'static str, Fail> {
+    let shared = shared_of(alloc, &THREE, true)?;
+    if shared.claim(rt) != Claim::Job(0) {
+        return Err("no job".into());
+    }
+    let run = run_at_root(alloc, &THREE, 0)?;
+    let begun = AtomicBool::new(false);
+    let (taken, left) = join(
+        rt,
+        || take_first(rt, &shared, &begun),
+        || leave_first(rt, &shared, &begun, run, gives_up),
+    );
+    Ok(if left { taken } else { "nothing left" })
+}
+
+#[test]
+fn a_committer_that_waits_is_woken(rt: HostRuntime) -> Result<(), Fail> {
+    assert_eq!(rt; taken_of(&rt, rt.alloc(), false)?, "run");
+    assert_eq!(rt; taken_of(&rt, rt.alloc(), true)?, "given up");
+    Ok(())
+}
