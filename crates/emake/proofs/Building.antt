@@ -1,8 +1,7 @@
 -- From the build of the jobs to the build of the project.
 --     waits_count, waits_lower      what the jobs wait for, as a build asks it
---     finishes          a build that came to its end, and what follows it
---     breaks            one that broke off
---     breaks_early      memory ran out before it
+--     finishes                      a build that came to its end, and what follows it
+--     breaks, breaks_early, breaks_late      the run broke off on the way, before the first job, and behind the jobs
 use Rattle.std.proofs.Common.{◌≡◌, ◌==◌, ◌<◌, ℕ, zero, suc, Bool, true, false, ◌||◌, List, [], ◌∷◌, ◌++◌, length, map, Option, Result, Ok, Err, refl, sym, ap, subst, ◌∙◌, append-nil, append_assoc, arith}
 use Rattle.std.specs.Prelude.{IfSome, IsErrAnd, All, slice_get, slice_index_or}
 use Rattle.std.specs.List.{list_any}

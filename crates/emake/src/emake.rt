@@ -101,7 +101,8 @@ pub fn emake<R: Threads + Wait + Sync, H: Host>(
     ensures headline { Tells (Headline words.now result.status result.notes)
         (H.told host.old) (H.told host.new) }
     ensures cause { result.status ≡ 3 → H.faults host.new ≡ next_count (H.faults host.old) }
-    ensures effect { H.faults host.new ≢ H.faults host.old → (result.status ≡ 3) ⊎ (result.status ≡ 7) }
+    ensures effect { H.faults host.new ≢ H.faults host.old
+        → (result.status ≡ 3) ⊎ (result.status ≡ 7) }
     ensures none { (result.status ≡ 3) ⊎ (result.status ≡ 7) → result.notes ≡ [] }
 {
     let answer = run(rt, alloc, words, host);
