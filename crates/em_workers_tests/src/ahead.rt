@@ -1,13 +1,13 @@
 //! Jobs that were run ahead, and what the committer makes of that.
-use super::counting::Counter;
 use super::gates::Publisher;
-use super::links::{Link, Linker};
-use super::plans::{THREE, front_of, links_of, run_at_root, shared_of};
-use super::shows::{show_bytes, show_notes};
 use em_engine::Claim;
 use em_host::MemHost;
 use em_run::{Run, Work};
 use em_shared::Shared;
+use em_testing::{
+    Counter, Link, Linker, THREE, front_of, links_of, run_at_root, shared_of, show_bytes,
+    show_notes,
+};
 use em_workers::{Gate, OpenGate, SharedLender, commit_all, work};
 use std::alloc::Global;
 use std::sync::Wait;
@@ -92,7 +92,7 @@ fn a_run_that_asked_the_board_nothing_is_strange(rt: HostRuntime) -> Result<(), 
 }
 
 /// What comes of the three jobs where a worker has run them all, each behind those that it waits for.
-fn kept<R: Wait>(rt: &R, alloc: Global, counter: &Counter) -> Result<String, Fail> {
+fn kept<R: Wait>(rt: &R, alloc: Global, counter: &Counter<Linker>) -> Result<String, Fail> {
     let shared = shared_of(alloc, &THREE, true)?;
     work_ahead(rt, alloc, &shared, counter, &OpenGate)?;
     committed(rt, alloc, &shared, counter)
@@ -100,7 +100,7 @@ fn kept<R: Wait>(rt: &R, alloc: Global, counter: &Counter) -> Result<String, Fai
 
 #[test]
 fn a_run_that_was_answered_right_is_kept(rt: HostRuntime) -> Result<(), Fail> {
-    let counter = Counter::new(rt.alloc(), 3)?;
+    let counter = Counter::new(rt.alloc(), Linker, 3)?;
     let log = kept(&rt, rt.alloc(), &counter)?;
     assert_eq!(rt; log.as_str(), "0 in 1; 1 in 1; 2 in 1; /a/a/b/a/b/c");
     for job in 0..3 {

@@ -3,12 +3,13 @@ ghost use Rattle.std.specs.Prelude.{All, IfOk, IfSome};
 ghost use Rattle.em_shared.specs.Waited.{IsLent};
 
 use super::gates::rerun_one;
-use super::links::{Link, Linker};
-use super::plans::{Plan, THREE, front_of, run_at_root, run_of};
-use super::shows::{show_bytes, show_notes, show_settled};
+use super::shows::show_settled;
 use super::turns::run_lent;
 use em_engine::{Front, Taken};
 use em_host::MemHost;
+use em_testing::{
+    Link, Linker, Plan, THREE, front_of, run_at_root, run_of, show_bytes, show_notes,
+};
 use em_workers::{BuildNo, OpenGate, ScriptLender, commit_all};
 use std::alloc::{AllocError, Global};
 use std::test::Fail;

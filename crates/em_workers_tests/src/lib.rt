@@ -1,27 +1,15 @@
-//! The tests of a shared board, of the committer and the workers over it, and of builds.
+//! The tests of a shared board, and on one thread of the committer and of workers over it.
 #![tactic(auto)]
 
 #[cfg(test)]
 mod ahead;
 #[cfg(test)]
-mod builds;
-#[cfg(test)]
 mod commits;
 #[cfg(test)]
-mod counting;
-#[cfg(test)]
 mod gates;
-#[cfg(test)]
-mod hosts;
-#[cfg(test)]
-mod links;
-#[cfg(test)]
-mod plans;
 #[cfg(test)]
 mod shared;
 #[cfg(test)]
 mod shows;
 #[cfg(test)]
 mod turns;
-#[cfg(test)]
-mod waking;

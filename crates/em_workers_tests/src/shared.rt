@@ -1,11 +1,9 @@
 //! A shared board, call after call, on one thread.
-use super::links::Link;
-use super::plans::{THREE, path_of, run_at_root, shared_of};
-use super::shows::show_answer;
 use em_engine::{Claim, Taken};
 use em_path::Path;
 use em_run::Parts;
 use em_shared::{Held, SettleNo, Shared};
+use em_testing::{Link, THREE, path_of, run_at_root, shared_of, show_answer};
 use em_tree::Question;
 use std::alloc::{AllocError, Global};
 use std::sync::Wait;

@@ -2,12 +2,11 @@
 ghost use Rattle.std.specs.Prelude.{IfOk, IfSome};
 ghost use Rattle.em_shared.specs.Waited.{IsLent};
 
-use super::links::{Link, Linker};
-use super::plans::{Plan, front_of, run_at_root, run_of};
-use super::shows::{show_committed, show_note};
+use super::shows::show_committed;
 use em_base::{NoMemory, Seq};
 use em_engine::{Front, Note, Taken};
 use em_run::Run;
+use em_testing::{Link, Linker, Plan, front_of, run_at_root, run_of, show_note};
 use em_tree::{Entry, State};
 use em_workers::{Committed, OpenGate, turn};
 use std::alloc::Global;

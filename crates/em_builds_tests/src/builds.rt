@@ -1,14 +1,15 @@
 //! Builds with one worker and with more.
-use super::counting::Counter;
 use super::gates::{Late, Meeting, Roll};
 use super::hosts::Bell;
-use super::links::{Link, Linker, root};
-use super::plans::{Plan, TEN, THREE, are_lower, are_numbered, links_of, waits_of};
-use super::shows::{show_built, show_notes};
+use super::shows::show_built;
 use em_base::Seq;
 use em_engine::{Cause, Note};
 use em_host::{Host, MemHost};
 use em_run::Work;
+use em_testing::{
+    Counter, Link, Linker, Plan, THREE, are_lower, are_numbered, links_of, root, show_notes,
+    waits_of,
+};
 use em_workers::{BuildNo, Built, Gate, OpenGate, build};
 use std::alloc::Global;
 use std::sync::Wait;
@@ -34,6 +35,20 @@ static WAYS: [Way; 14] = [
     (8, false),
     (16, false),
     (64, false),
+];
+
+/// Ten jobs, each of which reads the file of the one before. The first reads a file that isn't there.
+static TEN: [(&str, &str); 10] = [
+    ("/z", "/a"),
+    ("/a", "/b"),
+    ("/b", "/c"),
+    ("/c", "/d"),
+    ("/d", "/e"),
+    ("/e", "/f"),
+    ("/f", "/g"),
+    ("/g", "/h"),
+    ("/h", "/i"),
+    ("/i", "/j"),
 ];
 
 /// What the ten jobs come to.
@@ -122,7 +137,7 @@ fn is_due(note: &Note) -> bool {
 }
 
 /// Whether these are the notes of the jobs from 0 on, each with as many runs as were counted.
-fn are_counted(notes: &[Note], counter: &Counter) -> bool {
+fn are_counted(notes: &[Note], counter: &Counter<Linker>) -> bool {
     (0..=u32::MAX).zip(notes).all(|(job, note)| {
         note.job == job && u32::from(note.runs) == counter.runs(job) && is_due(note)
     })
@@ -133,7 +148,7 @@ fn are_single(notes: &[Note]) -> bool {
 }
 
 /// What is wrong with a build of the ten jobs, if anything is.
-fn fault_in(workers: u32, notes: &[Note], text: &str, counter: &Counter) -> &'static str {
+fn fault_in(workers: u32, notes: &[Note], text: &str, counter: &Counter<Linker>) -> &'static str {
     if text != TEN_BUILT {
         return "built";
     }
@@ -151,7 +166,7 @@ fn fault_of<R: Threads + Wait + Sync>(
     alloc: Global,
     way: Way,
 ) -> Result<&'static str, Fail> {
-    let counter = Counter::new(alloc, 10)?;
+    let counter = Counter::new(alloc, Linker, 10)?;
     let (notes, text) = built(rt, alloc, &TEN, way, &counter, &OpenGate)?;
     Ok(fault_in(way.0, notes.items(), text.as_str(), &counter))
 }

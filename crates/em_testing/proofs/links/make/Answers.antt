@@ -1,8 +1,8 @@
 use Rattle.std.proofs.Common.{refl}
-use Rattle.em_view.proofs.Doing.{then_s, leave_s, out_s, finish_s, owned_s, below_ok, below_err}
+use Rattle.em_view.proofs.Doing.{then_s, leave_s, finish_s, owned_s, below_ok, below_err}
 use Rattle.em_run.specs.Examples.{said, itself}
-use Rattle.em_workers_tests.specs.Links.{link}
-use Rattle.em_workers_tests.proofs.links.make.Goals as goal
+use Rattle.em_testing.specs.Links.{link}
+use Rattle.em_testing.proofs.links.make.Goals as goal
 
 pub returns-in_err-body : goal.returns-in_err-body
 unfolding link

@@ -6,7 +6,7 @@ ghost use Rattle.em_view.specs.Rows.{is_memory};
 ghost use Rattle.em_view.specs.Steps.{Does, Works};
 ghost use Rattle.em_run.specs.Examples.{said, end_of, is_failed};
 ghost use Rattle.em_run.specs.Meanings.{fresh, end_in, effect_by, used_by};
-ghost use Rattle.em_workers_tests.specs.Links.{grown, link, same_links};
+ghost use Rattle.em_testing.specs.Links.{grown, link, same_links};
 
 use em_base::{Fuel, NoMemory, Seq, Text};
 use em_path::Path;
@@ -17,10 +17,10 @@ use std::alloc::Global;
 
 /// Reads the file of the job before, says what it holds and then its own path, and makes a file of that at its path.
 #[derive(Drop, PartialEq, Eq)]
-pub(super) struct Link {
-    pub(super) job: u32,
-    pub(super) before: Path,
-    pub(super) path: Path,
+pub struct Link {
+    pub job: u32,
+    pub before: Path,
+    pub path: Path,
 }
 
 impl Spec for Link {
@@ -108,7 +108,7 @@ fn ended(end: Result<Outcome, DeskNo>) -> Result<Outcome, NoMemory>
 }
 
 #[derive(Drop)]
-pub(super) struct Linker;
+pub struct Linker;
 
 impl Work<Link> for Linker {
     fn run<V: View>(&self, alloc: Global, spec: &Link, view: V) -> Result<Run<Link>, NoMemory> {
@@ -125,7 +125,7 @@ impl Work<Link> for Linker {
 }
 
 /// A root with stamp 1, and no outcomes.
-pub(super) fn root(alloc: Global) -> Result<State, NoMemory>
+pub fn root(alloc: Global) -> Result<State, NoMemory>
     ensures { IfOk result (λ s. s.outcomes ≡ []) }
 {
     Ok(State {
@@ -135,6 +135,6 @@ pub(super) fn root(alloc: Global) -> Result<State, NoMemory>
 }
 
 /// The run of a job on a state.
-pub(super) fn run_on(alloc: Global, spec: &Link, state: &State) -> Result<Run<Link>, NoMemory> {
+pub fn run_on(alloc: Global, spec: &Link, state: &State) -> Result<Run<Link>, NoMemory> {
     Linker.run(alloc, spec, PlainView::new(state))
 }

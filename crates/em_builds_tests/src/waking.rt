@@ -1,10 +1,9 @@
 //! Who waits on a shared board is woken.
 use super::gates::is_raised;
-use super::links::Link;
-use super::plans::{THREE, run_at_root, shared_of};
 use em_engine::{Claim, Taken};
 use em_run::{Parts, Run};
 use em_shared::Shared;
+use em_testing::{Link, THREE, run_at_root, shared_of};
 use em_tree::{Delta, Outcome};
 use std::alloc::Global;
 use std::sync::Wait;

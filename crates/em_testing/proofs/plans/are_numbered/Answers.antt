@@ -1,0 +1,13 @@
+use Rattle.std.proofs.Common.{◌≡◌, arith, sym, subst, slice_get, inl, inr, Option}
+use Rattle.std.specs.Prelude.{IfSome}
+use Rattle.std.proofs.lemmas.Bool.{cases_lt}
+use Rattle.std.proofs.lemmas.Option.{slice_get_past}
+use Rattle.em_testing.proofs.plans.are_numbered.Goals as goal
+
+pub returns : goal.returns
+returns g c = λ _ k.
+    let P : Option g.row.S.Denot → Type 0 = λ o. IfSome o (λ s. g.S.Spec.job_of s ≡ k) in
+    elim (cases_lt k c.loop-i.i) as (λ _. P (slice_get c.args.specs.now k)) [
+      | inl lt ↦ c.loop-i.invariant k lt
+      | inr ge ↦ subst P (sym (slice_get_past c.args.specs.now k (omega (arith, ge, c.loop-i-test.false)))) tt
+    ]

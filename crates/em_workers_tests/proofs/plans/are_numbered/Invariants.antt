@@ -1,6 +1,0 @@
-use Rattle.std.proofs.Common.{◌≡◌, ◌<◌, ℕ, slice_get}
-use Rattle.std.specs.Prelude.{IfSome}
-use Rattle.em_workers_tests.proofs.plans.are_numbered.Given as goal
-
-abbrev pub invariant-loop-i : goal.invariant-loop-i
-invariant-loop-i l = (k : ℕ) → k < l.i → IfSome (slice_get l.links k) (λ m. m.job ≡ k)
