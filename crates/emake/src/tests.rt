@@ -10,7 +10,6 @@ use std::thread::Threads;
 
 mod big;
 mod builds;
-mod usage;
 mod workers;
 
 use builds::{After, BUILDS, Build};

@@ -1,18 +1,16 @@
 //! What a job asks of a view whose answers change, and what a front finds of its run.
-ghost use Rattle.std.specs.Prelude.{◌≡◌, ◌≤◌, [], length, IfOk};
-ghost use Rattle.em_task.specs.declared.job.Job.{Job};
-ghost use Rattle.em_engine.specs.Fronts.{AreNumbered};
-
-use super::*;
-use crate::project::project_of;
-use em_engine::{Front, Verdict};
-use em_image::read_image;
+use super::makefiles::{read_jobs, state_of};
+use em_base::{Seq, Text};
+use em_engine::Verdict;
 use em_job::{JobSpec, JobWork};
 use em_run::{Run, Work};
-use em_tree::{Answer, Entry, Kind, Outcome, Outcomes, Question, State};
+use em_testing::front_from;
+use em_tree::{Answer, Entry, Kind, Outcome, Question, State};
 use em_view::ScriptView;
+use std::alloc::Global;
+use std::test::Fail;
 
-const MAKEFILE: &[u8] = b"EMTREE 1\nd 5 /\nf 5 27 /Makefile\nall:\n\t@ls d; cat d/x; ls d\n\n.\n";
+const MAKEFILE: &str = "EMTREE 1\nd 5 /\nf 5 27 /Makefile\nall:\n\t@ls d; cat d/x; ls d\n\n.\n";
 
 const LISTED: &str = "EMTREE 1\nd 5 /\nd 5 /d\nf 5 0 /d/x\n\n.\n";
 
@@ -21,14 +19,6 @@ const EMPTY: &str = "EMTREE 1\nd 5 /\nd 5 /d\n.\n";
 const FILE: &str = "EMTREE 1\nd 5 /\nf 5 0 /d\n\n.\n";
 
 const BARE: &str = "EMTREE 1\nd 5 /\n.\n";
-
-fn state_of(alloc: Global, image: &str) -> Result<State, Fail>
-    ensures { IfOk result (λ s. s.outcomes ≡ []) }
-{
-    let tree = read_image(alloc, image.as_bytes())?;
-    let outcomes = Outcomes::new(alloc);
-    Ok(State { tree, outcomes })
-}
 
 fn keep(states: &mut Vec<State>, state: State) -> Result<(), Fail> {
     states.push(state)?;
@@ -44,15 +34,10 @@ fn script(alloc: Global) -> Result<Vec<State>, Fail> {
     Ok(states)
 }
 
-/// The makefile's jobs.
-fn jobs(alloc: Global) -> Result<Seq<JobSpec>, Fail>
-    ensures few { IfOk result (λ specs. length specs ≤ 65536) }
-    ensures numbered { IfOk result (λ specs. AreNumbered (λ (j : Job). j.job) specs) }
-{
-    let mut host = MemHost::new(alloc);
-    host.put(alloc, b"i", MAKEFILE)?;
-    let words = words_of(alloc, "-I i")?;
-    Ok(project_of(alloc, words.items(), &mut host)?.specs)
+/// The makefile's job.
+fn jobs(alloc: Global) -> Result<Seq<JobSpec>, Fail> {
+    let (_state, jobs) = read_jobs(alloc, MAKEFILE)?;
+    Ok(jobs.specs)
 }
 
 /// The run of the job over these states, if there is a job and a state.
@@ -140,7 +125,7 @@ fn found(
 ) -> Result<Option<Verdict>, Fail> {
     let state = state_of(alloc, image)?;
     let jobs = jobs(alloc)?;
-    let front = Front::new(alloc, state, jobs)?;
+    let front = front_from(alloc, state, jobs)?;
     let asked = run.usage().items().get(..count).unwrap_or(&[]);
     Ok(match front.next() {
         Some(_) => Some(front.check(run, asked)),

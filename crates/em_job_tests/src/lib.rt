@@ -1,0 +1,11 @@
+//! The tests of the jobs of a makefile: over a view whose answers change, run ahead by one worker, and built by several.
+#![tactic(auto)]
+
+#[cfg(test)]
+mod ahead;
+#[cfg(test)]
+mod counts;
+#[cfg(test)]
+mod makefiles;
+#[cfg(test)]
+mod usage;
