@@ -1,0 +1,3 @@
+mod Placing
+mod Lines
+mod Reading
