@@ -1,0 +1,10 @@
+//! A project to measure builds with.
+#![tactic(auto)]
+
+mod makefile;
+mod tree;
+
+pub use tree::project;
+
+#[cfg(test)]
+mod tests;
