@@ -1,0 +1,4 @@
+pub mod Waits
+pub mod Links
+pub mod Learnt
+pub mod Telling
