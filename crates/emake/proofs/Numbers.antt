@@ -1,8 +1,10 @@
 -- How many jobs a plan has, what they wait for, and its specs: as many as it has jobs, each with its number and the order's flags.
 use Rattle.std.proofs.Common.{◌≡◌, ◌+◌, ◌≤◌, ◌<◌, ℕ, zero, suc, List, [], ◌∷◌, length, Option, Some, None, Ok, refl, ap, subst, arith}
-use Rattle.std.specs.Prelude.{IfSome, All, slice_get}
+use Rattle.std.specs.Prelude.{IfSome, All, slice_get, slice_index_or}
+use Rattle.std.specs.List.Sorted.{IsStrictlySortedBy}
+use Rattle.std.specs.Ordering.{nat_cmp}
 use Rattle.std.specs.List.{Contains}
-use Rattle.std.proofs.lemmas.List.Elements.{All-nil, All-cons, All-weaker, All-contains_itself}
+use Rattle.std.proofs.lemmas.List.Elements.{All-nil, All-cons, All-append, All-filter, All-weaker, All-contains_itself}
 use Rattle.em_cmdline.specs.declared.order.Order.{Order}
 use Rattle.em_rules.specs.declared.book.Book.{Book}
 use Rattle.em_plan.specs.declared.planned.PlanJob.{PlanJob}
@@ -14,7 +16,8 @@ use Rattle.em_tree.specs.Trees.{Table}
 use Rattle.em_task.specs.declared.job.Job.{Job}
 use Rattle.em_job.specs.Making.{flags_of, job_of, jobs_from, jobs_of}
 use Rattle.em_engine.specs.Fronts.{AreNumbered}
-use Rattle.emake.specs.Projects.{AreLower}
+use Rattle.em_history.specs.Histories.{Pair}
+use Rattle.em_learning.specs.Waits.{below, is_needed, waits_from, waits_with, IsPlanned, ArePlanned}
 
 abbrev HasFlags : Order → Job → Type 0
 HasFlags order j = j.flags ≡ flags_of order
@@ -54,12 +57,50 @@ pub plan_few : ((says : List ℕ → Making) (goals : List (List ℕ)) (p : Plan
 unfolding plan_of
 plan_few law book goals t cwd p e = law (making_of book.rules book.patterns t cwd) (asked goals book.default_goal) p e
 
-pub plan_lower : ((says : List ℕ → Making) (goals : List (List ℕ)) (p : Plan) → plan_for says goals ≡ Ok p → (k : ℕ) (job : PlanJob) → slice_get p.jobs k ≡ Some job → (i : ℕ) → Contains job.waits i → i < k)
-    → (book : Book) (goals : List (List ℕ)) (t : Table) (cwd : List ℕ) (p : Plan) → plan_of book goals t cwd ≡ Ok p → AreLower p.jobs
-unfolding plan_of
-plan_lower law book goals t cwd p e k = by_job (slice_get p.jobs k) refl
-  where
-    by_job : (o : Option PlanJob) → slice_get p.jobs k ≡ o → IfSome o (λ j. All (λ i. i < k) j.waits)
-    by_job None at = tt
-    by_job (Some j) at =
-        All-weaker (Contains j.waits) (λ i. i < k) (λ i c. law (making_of book.rules book.patterns t cwd) (asked goals book.default_goal) p e k j at i c) j.waits (All-contains_itself j.waits)
+module _ (book : Book) (goals : List (List ℕ)) (t : Table) (cwd : List ℕ) (p : Plan) where
+  pub planned_so : ((says : List ℕ → Making) (goals : List (List ℕ)) (p : Plan) → plan_for says goals ≡ Ok p → length p.jobs ≤ 65536)
+      → ((says : List ℕ → Making) (goals : List (List ℕ)) (p : Plan) → plan_for says goals ≡ Ok p → (k : ℕ) (job : PlanJob) → slice_get p.jobs k ≡ Some job → IsStrictlySortedBy nat_cmp job.waits)
+      → ((says : List ℕ → Making) (goals : List (List ℕ)) (p : Plan) → plan_for says goals ≡ Ok p → (k : ℕ) (job : PlanJob) → slice_get p.jobs k ≡ Some job → (i : ℕ) → Contains job.waits i → i < k)
+      → ((says : List ℕ → Making) (goals : List (List ℕ)) (p : Plan) → plan_for says goals ≡ Ok p → (i k : ℕ) (a b : PlanJob) → slice_get p.jobs i ≡ Some a → slice_get p.jobs k ≡ Some b → i < k → a.target ≡ b.target → ⊥)
+      → plan_of book goals t cwd ≡ Ok p → ArePlanned p.jobs
+  unfolding plan_of
+  planned_so limit rise below once e =
+      let says = making_of book.rules book.patterns t cwd in
+      let asks = asked goals book.default_goal in
+      let few : length p.jobs ≤ 65536 = limit says asks p e in
+      record { few = omega arith; waits = λ k. by_job k (slice_get p.jobs k) refl; once = once says asks p e }
+    where
+      by_job : (k : ℕ) (o : Option PlanJob) → slice_get p.jobs k ≡ o → IfSome o (IsPlanned k)
+      by_job k None at = tt
+      by_job k (Some j) at =
+          let says = making_of book.rules book.patterns t cwd in
+          let asks = asked goals book.default_goal in
+          (rise says asks p e k j at, All-weaker (Contains j.waits) (λ i. i < k) (λ i c. below says asks p e k j at i c) j.waits (All-contains_itself j.waits))
+
+-- ---- what jobs wait for
+
+below_lower : (n m : ℕ) → n ≤ m → All (λ i. i < m) (below n)
+below_lower zero m low = All-nil (λ i. i < m)
+below_lower (suc n) m low = All-append (λ i. i < m) (below n) (n ∷ []) (below_lower n m (omega arith)) (All-cons (λ i. i < m) n [] (omega arith) (All-nil (λ i. i < m)))
+
+module _ (old : List Pair) (jobs : List PlanJob) where
+  waits_count_from : (n : ℕ) (later : List PlanJob) → length (waits_from old jobs n later) ≡ length later
+  waits_count_from n [] = refl
+  waits_count_from n (job ∷ later) = ap suc (waits_count_from (suc n) later)
+
+  waits_lower_from : (n : ℕ) (later : List PlanJob) (k : ℕ) → All (λ i. i < n + k) (slice_index_or (waits_from old jobs n later) k [])
+  waits_lower_from n [] k = All-nil (λ i. i < n + k)
+  waits_lower_from n (job ∷ later) zero = All-filter (is_needed old jobs job) (λ i. i < n + 0) (below n) (below_lower n (n + 0) (omega arith))
+  waits_lower_from n (job ∷ later) (suc k) =
+      let shift : suc n + k ≡ n + suc k = omega arith in
+      subst (λ (m : ℕ). All (λ i. i < m) (slice_index_or (waits_from old jobs (suc n) later) k [])) shift (waits_lower_from (suc n) later k)
+
+  pub waits_count : length (waits_with old jobs) ≡ length jobs
+  unfolding waits_with
+  waits_count = waits_count_from 0 jobs
+
+  pub waits_lower : (k : ℕ) → All (λ i. i < k) (slice_index_or (waits_with old jobs) k [])
+  unfolding waits_with
+  waits_lower k =
+      let from_0 : 0 + k ≡ k = omega arith in
+      subst (λ (m : ℕ). All (λ i. i < m) (slice_index_or (waits_from old jobs 0 jobs) k [])) from_0 (waits_lower_from 0 jobs k)

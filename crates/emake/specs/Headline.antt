@@ -1,17 +1,14 @@
 -- What `emake` promises over a host that tells its files, what was printed, and its calls.
---     Headline words status notes before after      there are effects of the jobs in the serial run, such that the run made the ending's calls for
---                                                   them, and the notes are of them; at the statuses 3 and 7 effects of a front of the jobs,
---                                                   a front of the calls, and no notes
+--     Headline words status notes before after      there are effects of the jobs in the serial run, and notes of them, such that the run made the
+--                                                   ending's calls for both; at the statuses 3 and 7 effects of a front of the jobs, and a
+--                                                   front of the calls
 --     Exits words status before after               the same of who hands on the status alone
-use Rattle.std.specs.Prelude.{◌≡◌, ◌≢◌, ℕ, true, List, [], ◌++◌, take, Result, Ok, Err, IfOk, OnErr, All, ◌⊎◌}
+use Rattle.std.specs.Prelude.{◌≡◌, ◌≢◌, ℕ, true, List, [], ◌++◌, take, Result, Ok, Err, IfOk, OnErr, ◌⊎◌}
 use Rattle.em_host.specs.declared.call.Call.{Call}
 use Rattle.em_host.specs.Outside.{Outside, Files}
 use Rattle.em_host.specs.Calls.{printed_by, files_after, Makes, FailsIn}
-use Rattle.em_run.specs.Serial.{Made, Ran, IsSerial}
-use Rattle.em_job.specs.Effects as job
+use Rattle.em_run.specs.Serial.{Made}
 use Rattle.em_engine.specs.declared.note.Note.{Note}
-use Rattle.em_workers.specs.Builds.{IsOnce}
-use Rattle.em_workers.specs.Notes.{AreNotes}
 use Rattle.em_workers.specs.Printing.{RunsOut}
 use Rattle.emake.specs.declared.build.Finished.{Finished}
 use Rattle.emake.specs.declared.project.Project.{Project}
@@ -20,9 +17,8 @@ use Rattle.emake.specs.declared.stop.Stop.{Stop}
 use Rattle.emake.specs.declared.stop.Stop.TheVariants.{End, Failed, NoMemory}
 use Rattle.emake.specs.Closing.{code_of}
 use Rattle.emake.specs.Course.{Trace, Meets}
-use Rattle.emake.specs.Endings.{ended, verdict_in, notes_in, IsWhole}
-use Rattle.emake.specs.Projects.{project}
-use Rattle.emake.specs.Serial.{ends}
+use Rattle.emake.specs.Endings.{ended, verdict_in, notes_in, IsWhole, HasRun, HasRunWhole, HasNotes, IsAlone}
+use Rattle.emake.specs.Projects.{project_in}
 
 abbrev pub verdict_of : Result Verdict Verdict → Verdict
 verdict_of (Ok verdict) = verdict
@@ -35,10 +31,10 @@ exit_status (Err (End verdict)) = code_of verdict
 exit_status (Err Failed) = 3
 exit_status (Err NoMemory) = 7
 
--- a front of the ending: the image is the old one or the new one, and no other file is touched
+-- a front of the ending
 pub record IsCut (calls : List Call) (before after : Outside) : Type 0 where
   pub printed : (n : ℕ) × (after.printed ≡ before.printed ++ take n (printed_by calls))
-  pub files : (after.files ≡ before.files) ⊎ (after.files ≡ files_after calls before.files)
+  pub files : (n : ℕ) × (after.files ≡ files_after (take n calls) before.files)
 
 -- the ending's calls are made, in order, and no other
 pub record Comes (ending : Trace Verdict) (code : ℕ) (before after : Outside) : Type 0 where
@@ -53,41 +49,33 @@ pub record Comes (ending : Trace Verdict) (code : ℕ) (before after : Outside) 
 
 -- a fact of what there is to build, where nothing is refused before the build
 abbrev pub Built : List (List ℕ) → Files → (Project → Type 0) → Type 0
-Built words files P = (p : Project) → (project words files).end ≡ Ok p → P p
-
-abbrev pub HasRun : List Made → Project → Type 0
-HasRun made p = Ran job.Makes ends p.start p.specs made
-
-abbrev pub HasRunWhole : List Made → Project → Type 0
-HasRunWhole made p = IsSerial job.Makes ends p.start p.specs made
-
--- each job was run once, or twice and for a cause that is so on the state that the jobs before it left
-abbrev pub HasNotes : List Made → List Note → Project → Type 0
-HasNotes made notes p = AreNotes p.start [] made notes
-
--- one worker has run each job once
-abbrev pub IsAlone : List Note → Project → Type 0
-IsAlone notes p = p.order.workers ≡ 1 → All IsOnce notes
+Built words files P = (p : Project) → project_in words files ≡ Ok p → P p
 
 -- the same of what a run answered
 pub record Reaches (words : List (List ℕ)) (result : Result Finished Stop) (before after : Outside) : Type 0 where
   pub made : List Made
+  pub told : List Note
   pub ran : Built words before.files (HasRun made)
-  pub whole : IfOk result (λ f. Built words before.files (λ p. IsWhole p made f.notes))
-  pub refused : OnErr (project words before.files).end (notes_in result ≡ [])
-  pub meets : Meets (ended words made before.files) (verdict_in result) before after
+  pub noted : Built words before.files (HasNotes made told)
+  pub alone : Built words before.files (IsAlone told)
+  pub whole : IfOk result (λ f. Built words before.files (λ p. IsWhole p made told f))
+  pub refused : OnErr (project_in words before.files) (notes_in result ≡ [])
+  pub early : (verdict : Verdict) → result ≡ Err (End verdict) → Built words before.files (λ p. ⊥)
+  pub meets : Meets (ended words made told before.files) (verdict_in result) before after
 
 pub record Headline (words : List (List ℕ)) (code : ℕ) (notes : List Note) (before after : Outside) : Type 0 where
   -- of each job its effect on the state that the jobs before it left
   pub made : List Made
+  -- one for each of them, in order: what the history and the report tell
+  pub told : List Note
   pub ran : Built words before.files (HasRun made)
   pub whole : code ≢ 3 → code ≢ 7 → Built words before.files (HasRunWhole made)
-  -- one for each of them, in order
-  pub noted : code ≢ 3 → code ≢ 7 → Built words before.files (HasNotes made notes)
-  pub alone : Built words before.files (IsAlone notes)
+  pub noted : Built words before.files (HasNotes made told)
+  pub alone : Built words before.files (IsAlone told)
+  pub notes_are : code ≢ 3 → code ≢ 7 → Built words before.files (λ p. notes ≡ told)
   pub none : (code ≡ 3) ⊎ (code ≡ 7) → notes ≡ []
-  pub refused : OnErr (project words before.files).end (notes ≡ [])
-  pub comes : Comes (ended words made before.files) code before after
+  pub refused : OnErr (project_in words before.files) (notes ≡ [])
+  pub comes : Comes (ended words made told before.files) code before after
 
 abbrev pub Exits : List (List ℕ) → ℕ → Outside → Outside → Type 0
 Exits words code before after = (notes : List Note) × Headline words code notes before after

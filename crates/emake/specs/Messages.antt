@@ -1,6 +1,7 @@
 -- What `emake` says besides its jobs.
 --     word_line e, image_line e, dir_line name, read_line e, plan_line found e     why there is no build
 --     not_remade, nothing_to_do, up_to_date                                        the closing text's lines
+--     summary jobs printed nodes status                                            what a generated project's build comes to
 use Rattle.std.specs.Prelude.{ℕ, Bool, true, false, List, [], ◌++◌, codes, decimal}
 use Rattle.em_base.specs.declared.place.Place.{Place}
 use Rattle.em_cmdline.specs.declared.order.WordNo.{WordNo}
@@ -120,3 +121,8 @@ nothing_to_do goal = codes "emake: Nothing to be done for " ++ quoted goal ++ co
 
 abbrev pub up_to_date : List ℕ → List ℕ
 up_to_date goal = codes "emake: " ++ quoted goal ++ codes " is up to date.\n"
+
+abbrev pub summary : ℕ → ℕ → ℕ → ℕ → List ℕ
+summary jobs printed nodes status =
+    codes "jobs " ++ decimal jobs ++ codes "\nprinted " ++ decimal printed ++ codes "\nnodes " ++ decimal nodes
+    ++ codes "\nstatus " ++ decimal status ++ codes "\n"

@@ -1,10 +1,12 @@
 -- What there is to build: from the words and the image to the jobs, with what is said on the way. Each part gives what the next one needs, or ends the
 -- run with its refusal: nothing is replaced then.
---     site words         up to the working directory
---     project words      all of them, in order
---     IsReady p          what a build asks of a project
-use Rattle.std.specs.Prelude.{◌≡◌, ◌<◌, ◌≤◌, ℕ, Bool, List, [], Option, Some, None, Result, Ok, Err, IfSome, All, length, slice_get}
+--     site words         the order, the tree from which the build starts, and the history
+--     project s          what is built there, in order
+--     project_in words files      both
+--     IsSite s, IsReady p         what a project is made of, and what a build asks of it
+use Rattle.std.specs.Prelude.{◌≡◌, ◌<◌, ◌≤◌, ◌^◌, ℕ, Bool, List, [], Option, Some, None, Result, Ok, Err, All, length, slice_index_or}
 use Rattle.std.specs.FinMap.{get}
+use Rattle.em_host.specs.Outside.{Files}
 use Rattle.em_path.specs.Paths.{root_text}
 use Rattle.em_path.specs.Reading.{read_fault, resolved_text}
 use Rattle.em_path.specs.declared.path.PathNo.{PathNo}
@@ -16,6 +18,11 @@ use Rattle.em_view.specs.Actions.{snapshot}
 use Rattle.em_image.specs.Image.{limits}
 use Rattle.em_image.specs.Reading as image
 use Rattle.em_image.specs.declared.no.ImageNo.{ImageNo}
+use Rattle.em_gen.specs.Generated as generated
+use Rattle.em_history.specs.Histories as history
+use Rattle.em_history.specs.Histories.{Pair}
+use Rattle.em_cmdline.specs.declared.order.HistoryMode.{HistoryMode}
+use Rattle.em_cmdline.specs.declared.order.HistoryMode.TheVariants as mode
 use Rattle.em_cmdline.specs.declared.order.Order.{Order}
 use Rattle.em_cmdline.specs.Words.{HasRanges}
 use Rattle.em_rules.specs.declared.book.Book.{Book}
@@ -23,17 +30,19 @@ use Rattle.em_reading.specs.declared.no.ReadNo.{ReadNo}
 use Rattle.em_reader.specs.Makefiles as makefiles
 use Rattle.em_plan.specs.declared.no.PlanNo.{PlanNo}
 use Rattle.em_plan.specs.declared.planned.Plan.{Plan}
-use Rattle.em_plan.specs.declared.planned.PlanJob.{PlanJob}
 use Rattle.em_plan.specs.Plans.{plan_of}
+use Rattle.em_learning.specs.Waits.{waits_with}
 use Rattle.em_task.specs.declared.job.Job.{Job}
 use Rattle.em_job.specs.Making.{flags_of, jobs_of}
 use Rattle.em_engine.specs.Fronts.{AreNumbered}
 use Rattle.emake.specs.declared.project.Project.{Project}
-use Rattle.emake.specs.declared.project.Site.{Site}
+use Rattle.emake.specs.declared.project.Terms.{Terms}
+use Rattle.emake.specs.declared.site.Site.{Site}
+use Rattle.emake.specs.declared.verdict.Verdict.{Verdict}
 use Rattle.emake.specs.declared.verdict.Verdict.TheVariants.{Faulty}
 use Rattle.emake.specs.Course.{Course, ◌>>=◌, done, say, take, stop}
-use Rattle.emake.specs.Messages.{no_image, image_line, dir_line, read_line, plan_line}
-use Rattle.emake.specs.Words.{ordered, image_name}
+use Rattle.emake.specs.Messages.{bad_words, no_image, image_line, dir_line, read_line, plan_line}
+use Rattle.emake.specs.Words.{ordered}
 
 -- ---- the image
 
@@ -52,6 +61,31 @@ as_read (Err e) = stop (image_line e) Faulty
 -- the tree that they tell
 abbrev pub tree_of : List ℕ → Course Table
 tree_of bytes = as_read (image.reading limits bytes)
+
+-- the tree from which the build starts: a generated project's, or the image's
+abbrev pub tree_in : Option ℕ → Option (List ℕ) → Course Table
+tree_in (Some n) image = done (generated.project n)
+tree_in None (Some name) = image_in name >>= tree_of
+tree_in None None = stop bad_words Faulty
+
+-- ---- the history
+
+-- no file is the empty history
+abbrev pub pairs_of : Option (List ℕ) → List Pair
+pairs_of None = []
+pairs_of (Some bytes) = history.reading bytes
+
+abbrev pub recalled_from : Option (List ℕ) → Course (List Pair)
+recalled_from None = done []
+recalled_from (Some name) = do
+  found ← take name
+  done (pairs_of found)
+
+-- mode `create` doesn't look at the file
+abbrev pub recalled : HistoryMode → Option (List ℕ) → Course (List Pair)
+recalled mode.Create name = done []
+recalled mode.Merge name = recalled_from name
+recalled mode.Read name = recalled_from name
 
 -- ---- the working directory: `-C` names a directory of the tree
 
@@ -104,39 +138,45 @@ planned book order t cwd = as_plan book.found (plan_of book order.goals t cwd)
 abbrev pub site : List (List ℕ) → Course Site
 site words = do
   order ← ordered words
-  image ← image_name order.image
-  bytes ← image_in image
-  tree ← tree_of bytes
-  cwd ← entered tree order.dir
-  done (record { order = order; image = image; start = start_of tree; cwd = cwd })
+  tree ← tree_in order.generate order.image
+  old ← recalled order.mode order.history
+  done (record { order = order; start = start_of tree; old = old })
+
+abbrev pub terms_of : Site → Plan → Terms
+terms_of s plan = record { order = s.order; old = s.old; plan = plan; waits = waits_with s.old plan.jobs }
 
 abbrev pub assembled : Site → Book → Plan → Project
 assembled s book plan = record {
-  order = s.order;
-  image = s.image;
+  terms = terms_of s plan;
   start = s.start;
-  plan = plan;
   specs = jobs_of book s.order (base_of s.start.tree) plan.jobs;
 }
 
-abbrev pub project : List (List ℕ) → Course Project
-project words = do
-  s ← site words
+-- the history tells only what jobs wait for
+abbrev pub project : Site → Course Project
+project s = do
+  cwd ← entered s.start.tree s.order.dir
   book ← book_of s.order s.start
-  plan ← planned book s.order s.start.tree s.cwd
+  plan ← planned book s.order s.start.tree cwd
   done (assembled s book plan)
 
--- ---- what a build asks of it
+-- what there is to build, where nothing is refused before the build
+abbrev pub project_in : List (List ℕ) → Files → Result Project Verdict
+project_in words files = ((site words >>= project) files).end
 
--- each job waits for jobs below it
-abbrev pub AreLower : List PlanJob → Type 0
-AreLower jobs = (k : ℕ) → IfSome (slice_get jobs k) (λ j. All (λ i. i < k) j.waits)
+-- ---- what a project is made of, and what a build asks of it
+
+pub record IsSite (s : Site) : Type 0 where
+  pub bare : s.start.outcomes ≡ []
+  pub base : base_of s.start.tree ≤ 2 ^ 62
+  pub ranges : HasRanges s.order
 
 pub record IsReady (p : Project) : Type 0 where
   pub bare : p.start.outcomes ≡ []
   pub few : length p.specs ≤ 65536
   pub numbered : AreNumbered (λ (j : Job). j.job) p.specs
-  pub count : length p.plan.jobs ≡ length p.specs
-  pub lower : AreLower p.plan.jobs
-  pub flags : All (λ (j : Job). j.flags ≡ flags_of p.order) p.specs
-  pub ranges : HasRanges p.order
+  pub count : length p.terms.waits ≡ length p.specs
+  -- each job waits for jobs below it
+  pub lower : (k : ℕ) → All (λ i. i < k) (slice_index_or p.terms.waits k [])
+  pub flags : All (λ (j : Job). j.flags ≡ flags_of p.terms.order) p.specs
+  pub ranges : HasRanges p.terms.order

@@ -1,8 +1,14 @@
 //! The top call: what the program does.
-ghost use Rattle.std.specs.Prelude.{◌≡◌, ◌≢◌, ◌⊎◌, List, [], length, take};
+ghost use Rattle.std.specs.Prelude.{◌≡◌, ◌≢◌, ◌⊎◌, All, List, [], length, take};
 ghost use Rattle.em_host.specs.Outside.{Tells};
 ghost use Rattle.em_host.specs.Faults.{next_count};
 ghost use Rattle.em_tree.specs.declared.state.State.{State};
+ghost use Rattle.em_history.specs.Histories.{Pair, IsHistory, united};
+ghost use Rattle.em_learning.specs.Learnt as shown;
+ghost use Rattle.em_plan.specs.declared.planned.PlanJob.{PlanJob};
+ghost use Rattle.em_engine.specs.declared.note.Note.{Note};
+ghost use Rattle.em_workers.specs.Builds.{IsOnce};
+ghost use Rattle.em_workers.specs.Notes.{AreNotes};
 ghost use Rattle.em_run.specs.Serial.{Made, Ran, IsSerial};
 ghost use Rattle.em_task.specs.declared.job.Job.{Job};
 ghost use Rattle.em_job.specs.Effects.{Makes};
@@ -12,17 +18,18 @@ ghost use Rattle.emake.specs.Headline.{Headline, Exits, Reaches, exit_status};
 ghost use Rattle.emake.specs.Serial.{ends};
 ghost use Rattle.emake.specs.Words.{words_of};
 
-use crate::build::{Finished, built};
-use crate::project::project_of;
+use crate::build::Finished;
+use crate::count::{count, work};
+use crate::site::site_of;
 use crate::stop::Stop;
 use crate::words::{behind_first, given_words};
 use em_base::{NoMemory, Seq, Text};
 use em_engine::Note;
+use em_history::laws::{law_one_history, law_united};
 use em_host::Host;
+use em_job::JobSpec;
 use em_job::laws::law_one_effect;
-use em_job::{JobSpec, JobWork};
 use em_run::law_one_run;
-use em_workers::OpenGate;
 use std::alloc::Global;
 use std::env::Args;
 use std::io;
@@ -50,9 +57,11 @@ fn run<R: Threads + Wait + Sync, H: Host>(
     ensures told { Tells (Reaches words.now result) (H.told host.old) (H.told host.new) }
     ensures faults { H.faults host.new ≡ faults_after result (H.faults host.old) }
 {
-    let project = project_of(alloc, words, host)?;
-    let work = JobWork::new();
-    built(rt, alloc, project, &work, &OpenGate, host)
+    let site = site_of(alloc, words, host)?;
+    match site.order.generate {
+        None => work(rt, alloc, site, host),
+        Some(_) => count(rt, alloc, site, host),
+    }
 }
 
 fn exit_status(answer: &Result<Finished, Stop>) -> u8
@@ -76,22 +85,23 @@ fn notes_in(alloc: Global, answer: Result<Finished, Stop>) -> Seq<Note>
     }
 }
 
-/// Does all that the program does, in this order: reads the words, the image and the makefiles, plans, runs the
-/// jobs, says the closing text and replaces the image.
+/// Does all that the program does, in this order: reads the words, the image, the history and the makefiles, plans, runs the
+/// jobs, says the closing text and replaces the image, the history and the report. A generated project is built
+/// beside the host: only a summary is said, and nothing is replaced.
 ///
 /// Over a host that tells its files and what was printed, and with a status other than 3 and 7, the printed
 /// bytes grew by exactly what the serial run says, the image is the serial run's, and so is the status, for every
-/// number of workers that the words order. At 3 and 7 a front of this was done, and the image is the old one or
-/// the new one. No other file is touched. Status 3 comes only where a call on the host failed, and where one
-/// failed the status is 3 or 7 and nothing more is called.
+/// number of workers that the words order, and whatever the history tells. The history and the report tell the
+/// notes. At 3 and 7 a front of this was done. No other file is touched. Status 3 comes only where a call on the host
+/// failed, and where one failed the status is 3 or 7 and nothing more is called.
 ///
 /// Over such a host a job's note has one run, or two and why: its first run was answered otherwise than the serial
 /// run is, isn't what the board was asked, is another job's, or was given up for want of memory. With one worker each
 /// note has one run. With more the call may wait.
 ///
-/// Besides the jobs themselves it takes time linear in the image, in what is read of makefiles and in the plan,
-/// with searches by name or path for each name and each change; with more than one worker also what a board takes
-/// of them.
+/// Besides the jobs themselves it takes time linear in the image, in the history, in what is read of makefiles and in the
+/// plan, with searches by name or path for each name and each change, and a sort of the pairs that were learnt; with
+/// more than one worker also what a board takes of them.
 pub fn emake<R: Threads + Wait + Sync, H: Host>(
     rt: &R,
     alloc: Global,
@@ -120,6 +130,16 @@ pub fn law_one_build()
 {
     law_one_effect();
     law_one_run::<JobSpec>();
+}
+
+/// Where each job was run once, as with one worker, nothing is learnt, and a history that is merged with what was learnt is as it was.
+pub fn law_alone()
+    ensures none { (jobs : List PlanJob) (s : State) (made : List Made) (notes : List Note)
+        → AreNotes s [] made notes → All IsOnce notes → shown.learnt jobs notes ≡ [] }
+    ensures still { (ps : List Pair) → IsHistory ps → united ps [] ≡ ps }
+{
+    law_united();
+    law_one_history();
 }
 
 /// The program, from the words that the system gives to the exit status.

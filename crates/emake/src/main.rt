@@ -3,10 +3,13 @@
 
 mod build;
 mod closing;
+mod count;
 mod emake;
+mod ending;
 mod messages;
 mod project;
 mod say;
+mod site;
 mod stop;
 mod verdict;
 mod words;

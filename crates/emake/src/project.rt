@@ -1,71 +1,50 @@
-//! What there is to build: from the words and the image to the jobs.
-ghost use Rattle.std.specs.Prelude.{◌≡◌, ◌≤◌, [], None, IfOk, IsErr, length};
-ghost use Rattle.em_cmdline.specs.Words.{HasRanges};
-ghost use Rattle.em_image.specs.Image.{limits, broken};
+//! What there is to build: from the site and the makefiles to the jobs.
+ghost use Rattle.std.specs.Prelude.{◌≡◌, ◌≤◌, None, IfOk, IsErr, length};
+ghost use Rattle.em_learning.specs.Waits.{ArePlanned};
 ghost use Rattle.em_path.specs.Paths.{root_text};
 ghost use Rattle.em_path.specs.Reading.{read_fault, resolved_text};
 ghost use Rattle.emake.specs.Course.{Follows, faults_after};
 ghost use Rattle.emake.specs.Projects as projects;
-ghost use Rattle.emake.specs.Projects.{AreLower, IsReady};
+ghost use Rattle.emake.specs.Projects.{IsReady, IsSite};
 
-use crate::messages::{NO_IMAGE, dir_line, fault_line, image_line, plan_line};
-use crate::say::{say, stop, take};
+use crate::messages::{dir_line, fault_line, plan_line};
+use crate::say::{say, stop};
+use crate::site::Site;
 use crate::stop::Stop;
 use crate::verdict::Verdict;
-use crate::words::{image_name, ordered};
 use em_base::{NoMemory, Seq, Text};
 use em_cmdline::Order;
+use em_history::History;
 use em_host::Host;
-use em_image::{ImageNo, read_text};
 use em_job::{JobSpec, specs};
+use em_learning::waits_with;
 use em_path::{Path, PathNo};
-use em_plan::laws::{law_limit, law_waits};
+use em_plan::laws::{law_limit, law_once, law_waits};
 use em_plan::{Plan, PlanNo, plan};
 use em_reader::{ReadNo, read_makefiles};
 use em_rules::Book;
-use em_tree::{Kind, Outcomes, State, Tree};
+use em_tree::{Kind, State, Tree};
 use std::alloc::Global;
+
+/// What the words, the history and the makefiles say of a build.
+#[derive(Drop)]
+pub struct Terms {
+    pub order: Order,
+    /// What the history's file told.
+    pub old: History,
+    pub plan: Plan,
+    /// Of each job of the plan the jobs that it waits for.
+    pub waits: Seq<Seq<u32>>,
+}
 
 /// What there is to build, and from what state.
 #[derive(Drop)]
 pub struct Project {
-    pub order: Order,
-    /// The host's file that holds the image.
-    pub image: Text,
-    /// The image's tree, with no outcomes.
+    pub terms: Terms,
+    /// The tree from which it starts, with no outcomes.
     pub start: State,
-    pub plan: Plan,
     /// One for each job of the plan, in its order.
     pub specs: Seq<JobSpec>,
-}
-
-/// The image's bytes.
-fn image_in<H: Host>(alloc: Global, name: &[u8], host: &mut H) -> Result<Text, Stop>
-    ensures told { Follows (projects.image_in name.now) result (H.told host.old) (H.told host.new) }
-    ensures faults { H.faults host.new ≡ faults_after result (H.faults host.old) }
-{
-    match take(alloc, host, name)? {
-        Some(bytes) => Ok(bytes),
-        None => stop(host, NO_IMAGE, Verdict::Faulty),
-    }
-}
-
-/// The tree that the image holds. No byte is copied.
-fn tree_of<H: Host>(alloc: Global, bytes: Text, host: &mut H) -> Result<Tree, Stop>
-    ensures told { Follows (projects.tree_of bytes) result (H.told host.old) (H.told host.new) }
-    ensures faults { H.faults host.new ≡ faults_after result (H.faults host.old) }
-    ensures limits { IfOk result (λ tree. broken limits tree ≡ None) }
-{
-    match read_text(alloc, bytes) {
-        Ok(tree) => Ok(tree),
-        Err(no) => match no {
-            ImageNo::NoMemory => Err(Stop::NoMemory),
-            _ => {
-                let line = image_line(alloc, no)?;
-                stop(host, line.bytes(), Verdict::Faulty)
-            }
-        },
-    }
 }
 
 /// The refusal of `-C`.
@@ -134,10 +113,11 @@ fn planned<H: Host>(
         (H.told host.old) (H.told host.new) }
     ensures faults { H.faults host.new ≡ faults_after result (H.faults host.old) }
     ensures few { IfOk result (λ p. length p.jobs ≤ 65536) }
-    ensures lower { IfOk result (λ p. AreLower p.jobs) }
+    ensures planned { IfOk result (λ p. ArePlanned p.jobs) }
 {
     law_limit();
     law_waits();
+    law_once();
     match plan(alloc, book, order.goals.items(), tree, cwd) {
         Ok(plan) => {
             say(host, plan.notes.bytes())?;
@@ -153,74 +133,40 @@ fn planned<H: Host>(
     }
 }
 
-/// Where a build takes place.
-#[derive(Drop)]
-struct Site {
-    order: Order,
-    image: Text,
-    start: State,
-    cwd: Path,
-}
-
-/// Where the words order to build.
-fn site_of<H: Host>(alloc: Global, words: &[Text], host: &mut H) -> Result<Site, Stop>
-    ensures told { Follows (projects.site words.now) result (H.told host.old) (H.told host.new) }
-    ensures faults { H.faults host.new ≡ faults_after result (H.faults host.old) }
-    ensures bare { IfOk result (λ s. s.start.outcomes ≡ []) }
-    ensures limits { IfOk result (λ s. broken limits s.start.tree ≡ None) }
-    ensures ranges { IfOk result (λ s. HasRanges s.order) }
-    ensures dir { IfOk result (λ s. read_fault root_text s.order.dir ≡ None) }
-{
-    let order = ordered(alloc, words, host)?;
-    let image = image_name(alloc, &order.image, host)?;
-    let bytes = image_in(alloc, image.bytes(), host)?;
-    let tree = tree_of(alloc, bytes, host)?;
-    let cwd = entered(alloc, &tree, order.dir.bytes(), host)?;
-    let outcomes = Outcomes::new(alloc);
-    Ok(Site {
-        order,
-        image,
-        start: State { tree, outcomes },
-        cwd,
-    })
-}
-
 /// All of it put together.
 fn assembled(alloc: Global, site: Site, book: &Book, plan: Plan) -> Result<Project, NoMemory>
-    requires bare { site.start.outcomes ≡ [] }
-    requires limits { broken limits site.start.tree ≡ None }
-    requires ranges { HasRanges site.order }
+    requires site { IsSite site }
     requires dir { read_fault root_text site.order.dir ≡ None }
     requires few { length plan.jobs ≤ 65536 }
-    requires lower { AreLower plan.jobs }
+    requires planned { ArePlanned plan.jobs }
     ensures project { IfOk result (λ p. p ≡ projects.assembled site book.now plan) }
     ensures ready { IfOk result IsReady }
 {
-    let Site {
-        order,
-        image,
-        start,
-        cwd: _,
-    } = site;
+    let Site { order, start, old } = site;
     let specs = specs(alloc, &plan, book, &order, start.tree.base())?;
+    let waits = waits_with(alloc, &old, plan.jobs.items())?;
     Ok(Project {
-        order,
-        image,
+        terms: Terms {
+            order,
+            old,
+            plan,
+            waits,
+        },
         start,
-        plan,
         specs: Seq::from_vec(specs),
     })
 }
 
-/// What the words order to build. Linear in the image and in what is read of makefiles, but for what
-/// `read_makefiles`, `plan` and `specs` take.
-pub fn project_of<H: Host>(alloc: Global, words: &[Text], host: &mut H) -> Result<Project, Stop>
-    ensures told { Follows (projects.project words.now) result (H.told host.old) (H.told host.new) }
+/// What there is to build at the site. Linear in what is read of makefiles, but for what `read_makefiles`, `plan`, `specs` and
+/// `waits_with` take.
+pub fn project_of<H: Host>(alloc: Global, site: Site, host: &mut H) -> Result<Project, Stop>
+    requires { IsSite site }
+    ensures told { Follows (projects.project site) result (H.told host.old) (H.told host.new) }
     ensures faults { H.faults host.new ≡ faults_after result (H.faults host.old) }
     ensures ready { IfOk result IsReady }
 {
-    let site = site_of(alloc, words, host)?;
+    let cwd = entered(alloc, &site.start.tree, site.order.dir.bytes(), host)?;
     let book = book_of(alloc, &site.order, &site.start, host)?;
-    let plan = planned(alloc, &book, &site.order, &site.start.tree, &site.cwd, host)?;
+    let plan = planned(alloc, &book, &site.order, &site.start.tree, &cwd, host)?;
     Ok(assembled(alloc, site, &book, plan)?)
 }

@@ -10,6 +10,7 @@ use std::thread::Threads;
 
 mod big;
 mod builds;
+mod files;
 mod workers;
 
 use builds::{After, BUILDS, Build};

@@ -4,14 +4,15 @@ ghost use Rattle.std.specs.IoError.{error_kind};
 ghost use Rattle.std.specs.Vec.Iter.{into_iter_items};
 ghost use Rattle.em_cmdline.specs.Words.{HasRanges};
 ghost use Rattle.emake.specs.Course.{Follows, faults_after};
-ghost use Rattle.emake.specs.Words.{words_of, unread, is_merge, is_supported, supported, ordered, image_name};
+ghost use Rattle.emake.specs.Words as words;
+ghost use Rattle.emake.specs.Words.{words_of, unread, ordered};
 
-use crate::messages::{BAD_WORDS, word_line};
+use crate::messages::word_line;
 use crate::say::stop;
 use crate::stop::Stop;
 use crate::verdict::Verdict;
 use em_base::{NoMemory, Seq, Text};
-use em_cmdline::{HistoryMode, Order, WordNo, read_words};
+use em_cmdline::{Order, WordNo, read_words};
 use em_host::Host;
 use std::alloc::Global;
 use std::env::Args;
@@ -62,33 +63,19 @@ pub fn behind_first(words: &[Text]) -> &[Text]
     }
 }
 
-fn is_merge(mode: HistoryMode) -> bool
-    ensures { result ≡ is_merge mode }
+/// With the one goal `all`, where a project is to be generated.
+fn aimed(alloc: Global, order: Order) -> Result<Order, NoMemory>
+    ensures aimed { IfOk result (λ o. o ≡ words.aimed order) }
+    ensures ranges { HasRanges order → IfOk result HasRanges }
 {
-    matches!(mode, HistoryMode::Merge)
-}
-
-/// Whether no part of the order waits for a later release.
-fn is_supported(order: &Order) -> bool
-    ensures { result ≡ is_supported order.now }
-{
-    order.history.is_none()
-        && is_merge(order.mode)
-        && order.report.is_none()
-        && order.generate.is_none()
-}
-
-/// The order, if all of it is supported.
-fn supported<H: Host>(order: Order, host: &mut H) -> Result<Order, Stop>
-    ensures told { Follows (supported order) result (H.told host.old) (H.told host.new) }
-    ensures faults { H.faults host.new ≡ faults_after result (H.faults host.old) }
-    ensures same { IfOk result (λ o. o ≡ order) }
-{
-    if is_supported(&order) {
-        Ok(order)
-    } else {
-        stop(host, BAD_WORDS, Verdict::Faulty)
+    if order.generate.is_none() {
+        return Ok(order);
     }
+    let mut goals = Seq::new(alloc);
+    goals.push(Text::from_slice(alloc, b"all")?)?;
+    let mut aimed = order;
+    aimed.goals = goals;
+    Ok(aimed)
 }
 
 /// What the words order.
@@ -98,22 +85,11 @@ pub fn ordered<H: Host>(alloc: Global, words: &[Text], host: &mut H) -> Result<O
     ensures ranges { IfOk result HasRanges }
 {
     match read_words(alloc, words) {
-        Ok(order) => supported(order, host),
+        Ok(order) => Ok(aimed(alloc, order)?),
         Err(WordNo::NoMemory) => Err(Stop::NoMemory),
         Err(no) => {
             let line = word_line(alloc, &no)?;
             stop(host, line.bytes(), Verdict::Faulty)
         }
-    }
-}
-
-/// The host's file that holds the image.
-pub fn image_name<H: Host>(alloc: Global, name: &Option<Text>, host: &mut H) -> Result<Text, Stop>
-    ensures told { Follows (image_name name.now) result (H.told host.old) (H.told host.new) }
-    ensures faults { H.faults host.new ≡ faults_after result (H.faults host.old) }
-{
-    match name {
-        Some(name) => Ok(name.copy(alloc)?),
-        None => stop(host, BAD_WORDS, Verdict::Faulty),
     }
 }

@@ -39,7 +39,7 @@ impl<H: Host> Host for Slow<H> {
 }
 
 /// Two jobs, of which the second reads what the first makes and doesn't say so.
-const HIDDEN: &[u8] =
+pub const HIDDEN: &[u8] =
     b"EMTREE 1\nd 5 /\nf 5 42 /Makefile\nall: gen use\ngen:\n\techo 1 > g\nuse:\n\tcat g\n\n.\n";
 
 fn host_of(alloc: Global, image: &[u8]) -> Result<MemHost, Fail> {
@@ -52,13 +52,20 @@ fn is_twice(notes: &[Note]) -> bool {
     notes.iter().any(|note| note.runs == 2)
 }
 
-/// Builds over a host whose prints take long, with 8 workers. Whether a job was run twice.
-fn build_slowly<R: Abort + Threads + Wait + Sync>(rt: &R, alloc: Global) -> Result<bool, Fail> {
+/// Builds over a host whose prints take long, with 8 workers and a history that pairs `use` with `gen`. Whether a job was run
+/// twice.
+fn build_slowly<R: Abort + Threads + Wait + Sync>(
+    rt: &R,
+    alloc: Global,
+    words: &str,
+) -> Result<bool, Fail> {
+    let mut memory = host_of(alloc, HIDDEN)?;
+    memory.put(alloc, b"H", b"EMHIST 1\nuse gen\n.\n")?;
     let mut host = Slow {
-        host: host_of(alloc, HIDDEN)?,
+        host: memory,
         turns: AtomicU32::new(0),
     };
-    let words = words_of(alloc, "-I i -j 8 all")?;
+    let words = words_of(alloc, words)?;
     let ended = emake(rt, alloc, words.items(), &mut host);
     assert!(rt; ended.status == 0);
     assert!(rt; host.host.printed() == b"echo 1 > g\ncat g\n1\n".as_slice());
@@ -69,7 +76,7 @@ fn build_slowly<R: Abort + Threads + Wait + Sync>(rt: &R, alloc: Global) -> Resu
 fn a_job_that_is_run_ahead_too_early_is_run_again(rt: HostRuntime) -> Result<(), Fail> {
     let mut is_any = false;
     for _ in 0..100 {
-        if build_slowly(&rt, rt.alloc())? {
+        if build_slowly(&rt, rt.alloc(), "-I i -j 8 all")? {
             is_any = true;
         }
     }

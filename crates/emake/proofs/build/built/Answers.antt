@@ -1,11 +1,12 @@
-use Rattle.emake.proofs.Building.{finishes, breaks, breaks_early, breaks_late, waits_count, waits_lower}
+use Rattle.std.proofs.Common.{refl}
+use Rattle.emake.proofs.Building.{finishes, breaks, breaks_early, breaks_late}
 use Rattle.emake.proofs.build.built.Goals as goal
 
 pub build-requires-clause-waits : goal.build-requires-clause-waits
-build-requires-clause-waits g c = λ κs lives. rw c.in_ok-waits.ensures (waits_count c.args.project c.requires)
+build-requires-clause-waits g c = λ κs lives. rw (c.in_ok-waits.ensures, c.items.ensures) c.requires.count
 
 pub build-requires-clause-lower : goal.build-requires-clause-lower
-build-requires-clause-lower g c = λ κs lives. rw c.in_ok-waits.ensures (waits_lower c.args.project.plan.jobs c.requires.lower)
+build-requires-clause-lower g c = λ κs lives. rw (c.in_ok-waits.ensures, c.items.ensures) c.requires.lower
 
 pub returns-in_err-waits-clause-builds : goal.returns-in_err-waits-clause-builds
 returns-in_err-waits-clause-builds g c = breaks_early c.args.project c.from_residual.ensures.1
@@ -15,10 +16,8 @@ returns-in_err-done-clause-builds g c = breaks c.args.project c.from_residual-in
 
 pub returns-in_err-verdict-clause-builds : goal.returns-in_err-verdict-clause-builds
 returns-in_err-verdict-clause-builds g c =
-    breaks_late c.args.project c.requires c.in_ok-done.ensures.builds c.from_residual-in_err-verdict.ensures.1 (rw c.items.ensures at c.has_ended-early.ensures)
-    (rw c.bytes.ensures at c.in_err-verdict.ensures.told)
+    breaks_late c.args.project c.requires c.in_ok-done.ensures.builds c.from_residual-in_err-verdict.ensures.1 refl c.in_err-verdict.ensures.told
 
 pub returns-clause-builds : goal.returns-clause-builds
 returns-clause-builds g c =
-    finishes c.args.project c.requires c.in_ok-done.ensures.builds (rw c.items.ensures at c.has_ended-early.ensures)
-    (rw c.bytes.ensures at c.in_ok-verdict.ensures.told)
+    finishes c.args.project c.requires c.in_ok-done.ensures.builds refl c.len.ensures c.count.ensures.count refl c.in_ok-verdict.ensures.told

@@ -1,4 +1,4 @@
-use Rattle.emake.proofs.Ends.{headline, none_at}
+use Rattle.emake.proofs.Reaching.{headline, none_at}
 use Rattle.emake.proofs.emake.emake.Goals as goal
 
 pub returns-clause-headline : goal.returns-clause-headline

@@ -1,4 +1,4 @@
-use Rattle.emake.proofs.Ends.{exits, exits_none}
+use Rattle.emake.proofs.Reaching.{exits, exits_none}
 use Rattle.emake.specs.Words.{words_of}
 use Rattle.emake.proofs.emake.program.Goals as goal
 

@@ -1,8 +1,11 @@
-use Rattle.emake.proofs.Ends.{reaches, stops}
+use Rattle.emake.proofs.Reaching.{reaches_work, reaches_count, stops}
 use Rattle.emake.proofs.emake.run.Goals as goal
 
-pub returns-in_err-project-clause-told : goal.returns-in_err-project-clause-told
-returns-in_err-project-clause-told g c = stops _ _ c.from_residual.ensures.1 c.in_err-project.ensures.told
+pub returns-in_err-site-clause-told : goal.returns-in_err-site-clause-told
+returns-in_err-site-clause-told g c = stops _ _ c.from_residual.ensures.1 c.in_err-site.ensures.told
 
-pub returns-clause-told : goal.returns-clause-told
-returns-clause-told g c = reaches _ c.in_ok-project.ensures.told c.built.ensures.builds
+pub returns-in-None-clause-told : goal.returns-in-None-clause-told
+returns-in-None-clause-told g c = reaches_work _ _ _ _ _ _ c.in-None.is c.in_ok-site.ensures.told c.work.ensures.told
+
+pub returns-in-Some-clause-told : goal.returns-in-Some-clause-told
+returns-in-Some-clause-told g c = reaches_count _ _ _ _ _ _ c.in-Some.is c.in_ok-site.ensures.told c.count.ensures.told

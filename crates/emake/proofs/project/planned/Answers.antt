@@ -1,5 +1,5 @@
 use Rattle.emake.proofs.Following.{then, leave, finish}
-use Rattle.emake.proofs.Numbers.{plan_few, plan_lower}
+use Rattle.emake.proofs.Numbers.{plan_few, planned_so}
 use Rattle.emake.proofs.project.planned.Goals as goal
 
 pub returns-in_err-say-in-Ok-clause-told : goal.returns-in_err-say-in-Ok-clause-told
@@ -16,6 +16,6 @@ pub returns-in_ok-say-in-Ok-clause-few : goal.returns-in_ok-say-in-Ok-clause-few
 returns-in_ok-say-in-Ok-clause-few g c =
     plan_few c.law_limit.ensures.few c.args.book.now c.items.result.now c.args.tree.now c.args.cwd.now c.in-Ok.plan c.in-Ok.ensures.ok
 
-pub returns-in_ok-say-in-Ok-clause-lower : goal.returns-in_ok-say-in-Ok-clause-lower
-returns-in_ok-say-in-Ok-clause-lower g c =
-    plan_lower c.law_waits.ensures.below c.args.book.now c.items.result.now c.args.tree.now c.args.cwd.now c.in-Ok.plan c.in-Ok.ensures.ok
+pub returns-in_ok-say-in-Ok-clause-planned : goal.returns-in_ok-say-in-Ok-clause-planned
+returns-in_ok-say-in-Ok-clause-planned g c =
+    planned_so c.args.book.now c.items.result.now c.args.tree.now c.args.cwd.now c.in-Ok.plan c.law_limit.ensures.few c.law_waits.ensures.rise c.law_waits.ensures.below c.law_once.ensures c.in-Ok.ensures.ok

@@ -1,5 +1,5 @@
 use Rattle.emake.proofs.Following.{then, leave, finish}
-use Rattle.emake.proofs.project.image_in.Goals as goal
+use Rattle.emake.proofs.site.image_in.Goals as goal
 
 pub returns-in_err-bytes-clause-told : goal.returns-in_err-bytes-clause-told
 returns-in_err-bytes-clause-told g c = leave _ c.from_residual.ensures.1 c.in_err-bytes.ensures.told

@@ -1,6 +1,6 @@
 use Rattle.emake.proofs.Following.{finish}
-use Rattle.emake.proofs.Ends.{failed-so}
-use Rattle.emake.proofs.project.tree_of.Goals as goal
+use Rattle.emake.proofs.Ends.{failed-so, base-bound}
+use Rattle.emake.proofs.site.tree_of.Goals as goal
 
 pub returns-in-Ok-clause-told : goal.returns-in-Ok-clause-told
 returns-in-Ok-clause-told g c = rw c.in-Ok.ensures.exact finish
@@ -8,3 +8,6 @@ returns-in-Ok-clause-told g c = rw c.in-Ok.ensures.exact finish
 pub returns-in_ok-line-in_default-clause-told : goal.returns-in_ok-line-in_default-clause-told
 returns-in_ok-line-in_default-clause-told g c =
     rw (failed-so c.in-Err.no _ c.in_default.not-NoMemory c.in-Err.ensures.exact) (rw (c.bytes.ensures, c.in_ok-line-in_default.ensures) at c.stop.ensures.told)
+
+pub returns-in-Ok-clause-base : goal.returns-in-Ok-clause-base
+returns-in-Ok-clause-base g c = base-bound _ c.in-Ok.ensures.found.1

@@ -1,6 +1,6 @@
 use Rattle.emake.proofs.Following.{then, leave, finish}
 use Rattle.emake.proofs.Ends.{failed-so}
-use Rattle.emake.proofs.build.close.Goals as goal
+use Rattle.emake.proofs.ending.close.Goals as goal
 
 pub returns-in_err-say-in-Ok-clause-told : goal.returns-in_err-say-in-Ok-clause-told
 returns-in_err-say-in-Ok-clause-told g c =
