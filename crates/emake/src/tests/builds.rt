@@ -20,7 +20,7 @@ pub enum After {
     Any,
 }
 
-pub static BUILDS: [Build; 48] = [
+pub static BUILDS: [Build; 45] = [
     Build {
         words: "-I i",
         before: Some(b"EMTREE 1\nd 1 /\nf 1 15 /Makefile\nall:\n\t@echo hi\n\n.\n"),
@@ -278,28 +278,7 @@ pub static BUILDS: [Build; 48] = [
         after: After::Same,
     },
     Build {
-        words: "--history H -I i",
-        before: Some(b"EMTREE 1\nd 5 /\nf 5 3 /Makefile\na:\n\n.\n"),
-        printed: b"emake: *** bad words.  Stop.\n",
-        status: 2,
-        after: After::Same,
-    },
-    Build {
-        words: "--mode read -I i",
-        before: Some(b"EMTREE 1\nd 5 /\nf 5 3 /Makefile\na:\n\n.\n"),
-        printed: b"emake: *** bad words.  Stop.\n",
-        status: 2,
-        after: After::Same,
-    },
-    Build {
-        words: "--report R -I i",
-        before: Some(b"EMTREE 1\nd 5 /\nf 5 3 /Makefile\na:\n\n.\n"),
-        printed: b"emake: *** bad words.  Stop.\n",
-        status: 2,
-        after: After::Same,
-    },
-    Build {
-        words: "--gen 3",
+        words: "--mode all -I i",
         before: Some(b"EMTREE 1\nd 5 /\nf 5 3 /Makefile\na:\n\n.\n"),
         printed: b"emake: *** bad words.  Stop.\n",
         status: 2,
