@@ -15,7 +15,7 @@ use std::thread::Threads;
 const FAILING: &str =
     "EMTREE 1\nd 5 /\nf 5 34 /Makefile\nall: a z\na:\n\tfalse\nz:\n\techo z > z\n\n.\n";
 
-/// Seven targets, each of which reads the one of half its number and doesn't say so.
+/// Seven targets, each of which reads the one of half the number before its own and doesn't say so.
 const TREE: &str = "EMTREE 1\nd 1 /\nf 1 163 /Makefile\nall: t0 t1 t2 t3 t4 t5 t6\n\
     t0:\n\tcat s0 > t0\nt1:\n\tcat s1 t0 > t1\nt2:\n\tcat s2 t0 > t2\n\
     t3:\n\tcat s3 t1 > t3\nt4:\n\tcat s4 t1 > t4\nt5:\n\tcat s5 t2 > t5\n\

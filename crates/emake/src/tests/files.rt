@@ -11,14 +11,14 @@ use std::thread::Threads;
 /// `b` is made, and `a` is a copy of it.
 const COPY: &[u8] = b"EMTREE 1\nd 5 /\nf 5 28 /Makefile\na: b\n\tcp b a\nb:\n\techo x > b\n\n.\n";
 
-/// Words, the image and the history before; what is printed, the status, the history and the report after.
+/// Words, the image and the history before, which may be absent; what is printed, the status, the history and the report after.
 struct Kept {
     words: &'static str,
     image: &'static [u8],
-    before: &'static [u8],
+    before: Option<&'static [u8]>,
     printed: &'static [u8],
     status: u8,
-    after: &'static [u8],
+    after: Option<&'static [u8]>,
     report: Option<&'static [u8]>,
 }
 
@@ -30,73 +30,73 @@ static KEPT: [Kept; 8] = [
     Kept {
         words: "-I i -j 1 --history H a",
         image: COPY,
-        before: b"\xff\x00",
+        before: Some(b"\xff\x00"),
         printed: b"echo x > b\ncp b a\n",
         status: 0,
-        after: NO_PAIRS,
+        after: Some(NO_PAIRS),
         report: None,
     },
     Kept {
-        words: "-I i --report R -j 1 a",
+        words: "-I i --report R --history H -j 1 a",
         image: COPY,
-        before: b"",
+        before: None,
         printed: b"echo x > b\ncp b a\n",
         status: 0,
-        after: b"",
+        after: Some(NO_PAIRS),
         report: Some(b"EMREPORT 1\njob 0 1 - 7 b\njob 1 1 - 10 a 0\nstatus 0\n.\n"),
     },
     Kept {
         words: "-I i -j 1 --history H --mode create",
         image: HIDDEN,
-        before: PAIRED,
+        before: Some(PAIRED),
         printed: b"echo 1 > g\ncat g\n1\n",
         status: 0,
-        after: NO_PAIRS,
+        after: Some(NO_PAIRS),
         report: None,
     },
     Kept {
         words: "-I i -j 1 --history H --mode merge",
         image: HIDDEN,
-        before: PAIRED,
+        before: Some(PAIRED),
         printed: b"echo 1 > g\ncat g\n1\n",
         status: 0,
-        after: PAIRED,
+        after: Some(PAIRED),
         report: None,
     },
     Kept {
         words: "-I i -j 1 --history H --mode read",
         image: HIDDEN,
-        before: PAIRED,
+        before: Some(PAIRED),
         printed: b"echo 1 > g\ncat g\n1\n",
         status: 0,
-        after: PAIRED,
+        after: Some(PAIRED),
         report: None,
     },
     Kept {
         words: "-I i -q --history H --mode create --report R a",
         image: COPY,
-        before: PAIRED,
+        before: Some(PAIRED),
         printed: b"",
         status: 1,
-        after: PAIRED,
+        after: Some(PAIRED),
         report: None,
     },
     Kept {
         words: "-I i -C x --history H --mode create --report R a",
         image: COPY,
-        before: PAIRED,
+        before: Some(PAIRED),
         printed: b"emake: *** x: no such directory.  Stop.\n",
         status: 2,
-        after: PAIRED,
+        after: Some(PAIRED),
         report: None,
     },
     Kept {
         words: "-I i --history H --report R no",
         image: COPY,
-        before: b"no history",
+        before: Some(b"no history"),
         printed: b"emake: *** No rule to make target 'no'.  Stop.\n",
         status: 2,
-        after: NO_PAIRS,
+        after: Some(NO_PAIRS),
         report: Some(b"EMREPORT 1\njob 0 1 - 1 no\nstatus 2\n.\n"),
     },
 ];
@@ -109,10 +109,12 @@ fn try_kept<R: Abort + Threads + Wait + Sync>(
 ) -> Result<(), Fail> {
     let mut host = MemHost::new(alloc);
     host.put(alloc, b"i", kept.image)?;
-    host.put(alloc, b"H", kept.before)?;
+    if let Some(history) = kept.before {
+        host.put(alloc, b"H", history)?;
+    }
     let (printed, status) = run(rt, alloc, kept.words, &mut host)?;
     let is_right = printed.bytes() == kept.printed && status == kept.status;
-    let is_kept = host.file(b"H") == Some(kept.after) && host.file(b"R") == kept.report;
+    let is_kept = host.file(b"H") == kept.after && host.file(b"R") == kept.report;
     assert!(rt;
         is_right,
         "what build {number} with a history prints, or its status"
