@@ -46,7 +46,7 @@ module _ (words : List (List ℕ)) (s : Site) (r : Result Finished Stop) (a b c 
       let same : project_in words x.files ≡ (project s g).end = same_end words x.files s at g in
       let res : Reaches words r x z = record {
         made = made;
-        told = notes;
+        made_notes = notes;
         ran = λ q e. so.ran q (sym same ∙ e);
         noted = λ q e. so.noted q (sym same ∙ e);
         alone = λ q e. so.alone q (sym same ∙ e);
@@ -83,7 +83,7 @@ none_found : (words : List (List ℕ)) (e : Stop) (x y : Outside) → ((verdict 
 none_found words e x y not_so meets =
     let res : Reaches words (Err e) x y = record {
       made = [];
-      told = [];
+      made_notes = [];
       ran = λ q given. tt;
       noted = λ q given. tt;
       alone = λ q given one. All-nil IsOnce;
@@ -166,7 +166,7 @@ comes words made notes (Err NoMemory) x y p = comes_short (ended words made note
 
 -- at a status other than 3 and 7 the project was built to the end, where there is one
 whole_at : (words : List (List ℕ)) (r : Result Finished Stop) (x y : Outside) (p : Reaches words r x y) → exit_status (verdict_in r) ≢ 3 → exit_status (verdict_in r) ≢ 7
-    → Built words x.files (λ q. HasRunWhole p.made q × (notes_in r ≡ p.told))
+    → Built words x.files (λ q. HasRunWhole p.made q × (notes_in r ≡ p.made_notes))
 whole_at words (Ok f) x y p a b = λ q e. ((p.whole q e).serial, (p.whole q e).notes_are)
 whole_at words (Err (End verdict)) x y p a b = λ q e. absurd (p.early verdict refl q e)
 whole_at words (Err Failed) x y p a b = absurd (a refl)
@@ -180,7 +180,7 @@ pub headline : (words : List (List ℕ)) (r : Result Finished Stop) (a b : Optio
 headline words r a b p = Tells-weaken a b
     (λ x y h. let res : Headline words (exit_status (verdict_in r)) (notes_in r) x y = record {
       made = h.made;
-      told = h.told;
+      made_notes = h.made_notes;
       ran = h.ran;
       whole = λ c d q e. (whole_at words r x y h c d q e).0;
       noted = h.noted;
@@ -188,7 +188,7 @@ headline words r a b p = Tells-weaken a b
       notes_are = λ c d q e. (whole_at words r x y h c d q e).1;
       none = none_at r;
       refused = h.refused;
-      comes = comes words h.made h.told (verdict_in r) x y h.meets;
+      comes = comes words h.made h.made_notes (verdict_in r) x y h.meets;
     } in res)
     p
 

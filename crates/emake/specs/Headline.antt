@@ -54,28 +54,28 @@ Built words files P = (p : Project) → project_in words files ≡ Ok p → P p
 -- the same of what a run answered
 pub record Reaches (words : List (List ℕ)) (result : Result Finished Stop) (before after : Outside) : Type 0 where
   pub made : List Made
-  pub told : List Note
+  pub made_notes : List Note
   pub ran : Built words before.files (HasRun made)
-  pub noted : Built words before.files (HasNotes made told)
-  pub alone : Built words before.files (IsAlone told)
-  pub whole : IfOk result (λ f. Built words before.files (λ p. IsWhole p made told f))
+  pub noted : Built words before.files (HasNotes made made_notes)
+  pub alone : Built words before.files (IsAlone made_notes)
+  pub whole : IfOk result (λ f. Built words before.files (λ p. IsWhole p made made_notes f))
   pub refused : OnErr (project_in words before.files) (notes_in result ≡ [])
   pub early : (verdict : Verdict) → result ≡ Err (End verdict) → Built words before.files (λ p. ⊥)
-  pub meets : Meets (ended words made told before.files) (verdict_in result) before after
+  pub meets : Meets (ended words made made_notes before.files) (verdict_in result) before after
 
 pub record Headline (words : List (List ℕ)) (code : ℕ) (notes : List Note) (before after : Outside) : Type 0 where
   -- of each job its effect on the state that the jobs before it left
   pub made : List Made
   -- one for each of them, in order: what the history and the report tell
-  pub told : List Note
+  pub made_notes : List Note
   pub ran : Built words before.files (HasRun made)
   pub whole : code ≢ 3 → code ≢ 7 → Built words before.files (HasRunWhole made)
-  pub noted : Built words before.files (HasNotes made told)
-  pub alone : Built words before.files (IsAlone told)
-  pub notes_are : code ≢ 3 → code ≢ 7 → Built words before.files (λ p. notes ≡ told)
+  pub noted : Built words before.files (HasNotes made made_notes)
+  pub alone : Built words before.files (IsAlone made_notes)
+  pub notes_are : code ≢ 3 → code ≢ 7 → Built words before.files (λ p. notes ≡ made_notes)
   pub none : (code ≡ 3) ⊎ (code ≡ 7) → notes ≡ []
   pub refused : OnErr (project_in words before.files) (notes ≡ [])
-  pub comes : Comes (ended words made told before.files) code before after
+  pub comes : Comes (ended words made made_notes before.files) code before after
 
 abbrev pub Exits : List (List ℕ) → ℕ → Outside → Outside → Type 0
 Exits words code before after = (notes : List Note) × Headline words code notes before after

@@ -3,6 +3,7 @@
 --     site words         the order, the tree from which the build starts, and the history
 --     project s          what is built there, in order
 --     project_in words files      both
+--     IsUntouched s old ..       a history changes nothing but waits
 --     IsSite s, IsReady p         what a project is made of, and what a build asks of it
 use Rattle.std.specs.Prelude.{◌≡◌, ◌<◌, ◌≤◌, ◌^◌, ℕ, Bool, List, [], Option, Some, None, Result, Ok, Err, All, length, slice_index_or}
 use Rattle.std.specs.FinMap.{get}
@@ -163,6 +164,25 @@ project s = do
 -- what there is to build, where nothing is refused before the build
 abbrev pub project_in : List (List ℕ) → Files → Result Project Verdict
 project_in words files = ((site words >>= project) files).end
+
+-- ---- what a history doesn't change
+
+-- they are built alike: only what jobs wait for, and the pairs that were known, may differ
+pub record AreAlike (p q : Project) : Type 0 where
+  pub order : p.terms.order ≡ q.terms.order
+  pub plan : p.terms.plan ≡ q.terms.plan
+  pub start : p.start ≡ q.start
+  pub specs : p.specs ≡ q.specs
+
+abbrev pub EndAlike : Result Project Verdict → Result Project Verdict → Type 0
+EndAlike (Ok p) (Ok q) = AreAlike p q
+EndAlike (Err v) (Err w) = v ≡ w
+EndAlike _ _ = ⊥
+
+-- what a site with these pairs comes to
+pub record IsUntouched (s : Site) (old : List Pair) (files : Files) : Type 0 where
+  pub calls : (project (record s { old = old }) files).calls ≡ (project s files).calls
+  pub end : EndAlike (project (record s { old = old }) files).end (project s files).end
 
 -- ---- what a project is made of, and what a build asks of it
 

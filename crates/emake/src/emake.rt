@@ -1,6 +1,6 @@
 //! The top call: what the program does.
 ghost use Rattle.std.specs.Prelude.{◌≡◌, ◌≢◌, ◌⊎◌, All, List, [], length, take};
-ghost use Rattle.em_host.specs.Outside.{Tells};
+ghost use Rattle.em_host.specs.Outside.{Files, Tells};
 ghost use Rattle.em_host.specs.Faults.{next_count};
 ghost use Rattle.em_tree.specs.declared.state.State.{State};
 ghost use Rattle.em_history.specs.Histories.{Pair, IsHistory, united};
@@ -15,7 +15,9 @@ ghost use Rattle.em_job.specs.Effects.{Makes};
 ghost use Rattle.emake.specs.Course.{faults_after};
 ghost use Rattle.emake.specs.Endings.{verdict_in, notes_in};
 ghost use Rattle.emake.specs.Headline.{Headline, Exits, Reaches, exit_status};
+ghost use Rattle.emake.specs.Projects.{IsUntouched};
 ghost use Rattle.emake.specs.Serial.{ends};
+ghost use Rattle.emake.specs.declared.site.Site.{Site};
 ghost use Rattle.emake.specs.Words.{words_of};
 
 use crate::build::Finished;
@@ -91,7 +93,7 @@ fn notes_in(alloc: Global, answer: Result<Finished, Stop>) -> Seq<Note>
 ///
 /// Over a host that tells its files and what was printed, and with a status other than 3 and 7, the printed
 /// bytes grew by exactly what the serial run says, the image is the serial run's, and so is the status, for every
-/// number of workers that the words order, and whatever the history tells. The history and the report tell the
+/// number of workers that the words order, and whatever the history tells (`law_history`). The history and the report tell the
 /// notes. At 3 and 7 a front of this was done. No other file is touched. Status 3 comes only where a call on the host
 /// failed, and where one failed the status is 3 or 7 and nothing more is called.
 ///
@@ -141,6 +143,12 @@ pub fn law_alone()
     law_united();
     law_one_history();
 }
+
+/// A history changes nothing of what there is to build but what jobs wait for: not what is said on the way, the order, the plan, the jobs
+/// or the tree from which they start.
+pub fn law_history()
+    ensures { (s : Site) (old : List Pair) (files : Files) → IsUntouched s old files }
+{}
 
 /// The program, from the words that the system gives to the exit status.
 pub fn program<R: Threads + Wait + Sync, H: Host>(

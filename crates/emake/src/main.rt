@@ -15,7 +15,7 @@ mod verdict;
 mod words;
 
 use em_host::RealHost;
-pub use emake::{Ended, emake, law_one_build, program};
+pub use emake::{Ended, emake, law_alone, law_history, law_one_build, program};
 use std::env;
 use std::process::ExitCode;
 
