@@ -1,10 +1,11 @@
 -- The chains of all paths: what a call changes.
 use Rattle.std.proofs.Common.{◌≡◌, ◌≢◌, ℕ, Bool, true, false, cond, not, ◌&&◌, ◌||◌, List, [], ◌∷◌, Option, Some, None, length, nat_eq, arith, refl, sym, ap, subst, ◌∙◌}
 use Rattle.std.proofs.lemmas.Bool.Decides.{nat_tests}
-use Rattle.std.specs.Prelude.{IsSome, is_some}
+use Rattle.std.specs.Prelude.{IsSome, is_some, nat_lt}
+use Rattle.std.proofs.lemmas.Bool.{ltb-true}
 use Rattle.std.specs.Ordering.{nat_cmp, eq_by_cmp}
 use Rattle.std.specs.Cmp.Lexicographic.{nat_list_cmp_total}
-use Rattle.std.specs.FinMap.{get, insert, remove, empty, get-insert, get-remove, get-empty, from_entries, put, find}
+use Rattle.std.specs.FinMap.{get, entries, insert, remove, empty, get-insert, get-remove, get-empty, from_entries, put, find}
 use Rattle.std.specs.FinMap.Entries.{by_order}
 use Rattle.std.specs.declared.cmp.Ordering.{Ordering}
 use Rattle.std.specs.declared.cmp.Ordering.TheVariants.{Less, Equal, Greater}
@@ -14,12 +15,13 @@ use Rattle.std.specs.BTreeMap.{BTreeMap, is_at, UpdatesBy, WritesThrough}
 use Rattle.em_path.specs.Paths.{parent_text}
 use Rattle.em_tree.specs.declared.node.Node.{Node}
 use Rattle.em_tree.specs.Index.{Children, IsIndex, has_child, is_parent}
-use Rattle.em_tree.proofs.Maps.{order, path_found, path_put, path_taken}
+use Rattle.em_tree.proofs.Maps.{order, exact, entries_is, path_found, path_put, path_taken}
 use Rattle.em_tree.proofs.Tables.{same_key}
 use Rattle.em_tree.proofs.Indexes.{IsIndex-same, IsIndex-put, IsIndex-new, IsIndex-back, IsIndex-gone, IsIndex-empty, some_is}
 use Rattle.em_chain.specs.declared.lines.Line.{Line}
 use Rattle.em_chain.specs.Pairs.{Pairs}
-use Rattle.em_chain.specs.Chains.{roomed, without}
+use Rattle.em_chain.specs.Chains.{from_job, roomed, without}
+use Rattle.em_chain.proofs.Pairs.{apart}
 use Rattle.em_chain.specs.Lines.{LineTable, chain_in, chain_at, IsLines}
 
 some_same : {A : Type 0} (x y : A) → Some x ≡ Some y → x ≡ y
@@ -27,6 +29,9 @@ some_same x y e = cc
 
 none_is : {A : Type 0} (y : A) → None ≡ Some y → ⊥
 none_is y e = absurd (cc)
+
+pub line_entries : (es : List (List ℕ × Line)) → IsStrictlySortedBy order (keys_of es) → entries (from_entries {R = order} es) ≡ es
+line_entries = entries_is nat_list_cmp_total exact
 
 -- what stands at q after a line is put at p, and taken from there
 pub line_put : (t : LineTable) (p q : List ℕ) (line : Line) → chain_at (insert t p line) q ≡ cond (eq_by_cmp order q p) line.chain (chain_at t q)
@@ -180,6 +185,14 @@ roomed_full j c full = by_case (is_some (find nat_cmp j c))
 pub counted_full : (c : Pairs) → nat_eq (length c) 0 ≡ false → c ≢ []
 counted_full [] h = absurd (cc)
 counted_full (e ∷ c) h = cons_full e c
+
+pub cut_full : (j : ℕ) (c : Pairs) → IsSome (find nat_cmp j c) → from_job j c ≢ []
+cut_full j [] h = absurd (cc)
+cut_full j (e ∷ c) h = by_case (nat_lt e.0 j) refl h (cut_full j c)
+  where
+    by_case : (b : Bool) → nat_lt e.0 j ≡ b → IsSome (cond (eq_by_cmp nat_cmp j e.0) (Some e.1) (find nat_cmp j c)) → (IsSome (find nat_cmp j c) → from_job j c ≢ []) → cond (not b) (e ∷ from_job j c) (from_job j c) ≢ []
+    by_case true k h rest = rest (subst (λ b. IsSome (cond b (Some e.1) (find nat_cmp j c))) (apart j e.0 (ltb-true e.0 j k)) h)
+    by_case false k h rest = cons_full e (from_job j c)
 
 pub no_chain : (j : ℕ) (t : LineTable) (p : List ℕ) → get t p ≡ None → nat_eq (length (without j (chain_at t p))) 0 ≡ false → ⊥
 no_chain j t p none h = let z : true ≡ false = sym (ap (λ (o : Option Line). nat_eq (length (without j (chain_in o))) 0) none) ∙ h in absurd (cc)

@@ -2,7 +2,8 @@
 --     found_chain, sorted_chain      the pair of a job in a chain is what its post makes of the path
 --     undone, posted, withdrawn      what the chain is after a post that fails, one that doesn't, and a withdrawal
 use Rattle.std.proofs.Common.{◌≡◌, ◌<◌, ◌≤◌, ℕ, zero, suc, length, get_or, take, take_all, arith, Bool, true, false, cond, not, ◌&&◌, ◌⊎◌, inl, inr, List, [], ◌∷◌, Option, Some, None, refl, sym, ap, subst, ◌∙◌, option_map}
-use Rattle.std.specs.Prelude.{T, IsSome, is_some, filter_map}
+use Rattle.std.specs.Prelude.{T, IsSome, is_some, nat_lt, filter_map}
+use Rattle.std.proofs.lemmas.Bool.{le-ltb}
 use Rattle.std.specs.List.{cons_option}
 use Rattle.std.specs.declared.cmp.Ordering.{Ordering}
 use Rattle.std.specs.declared.cmp.Ordering.TheVariants.{Less, Equal, Greater}
@@ -18,21 +19,21 @@ use Rattle.em_tree.proofs.Tables.{same_key}
 use Rattle.em_chain.specs.declared.post.Post.{Post}
 use Rattle.em_chain.specs.Posts.{Posts}
 use Rattle.em_chain.specs.Pairs.{Pairs}
-use Rattle.em_chain.specs.Chains.{chain_of, roomed, without}
-use Rattle.em_chain.specs.Marks.{ChangeList, names, keeps, written, dropped, dropped_by, Roomed}
+use Rattle.em_chain.specs.Chains.{chain_of, from_job, roomed, without}
+use Rattle.em_chain.specs.Marks.{ChangeList, names, keeps, written, dropped, dropped_by, cut_at, Roomed}
 use Rattle.em_chain.proofs.Pairs.{tied, above_absent}
 
 -- ---- lists in order
 
-first_T : (a b : Bool) → T (a && b) → T a
+pub first_T : (a b : Bool) → T (a && b) → T a
 first_T true b h = tt
 first_T false b h = absurd h
 
-second_T : (a b : Bool) → T (a && b) → T b
+pub second_T : (a b : Bool) → T (a && b) → T b
 second_T true b h = h
 second_T false b h = absurd h
 
-both_T : (a b : Bool) → T a → T b → T (a && b)
+pub both_T : (a b : Bool) → T a → T b → T (a && b)
 both_T true b h g = g
 both_T false b h g = absurd h
 
@@ -41,7 +42,7 @@ not_tied Less h = refl
 not_tied Equal h = absurd h
 not_tied Greater h = refl
 
-missed : {X : Type 0} (p : List ℕ) (es : List (List ℕ × X)) → T (below_all order p es) → find order p es ≡ None
+pub missed : {X : Type 0} (p : List ℕ) (es : List (List ℕ × X)) → T (below_all order p es) → find order p es ≡ None
 missed p [] h = refl
 missed p (e ∷ es) h =
     ap (λ b. cond b (Some e.1) (find order p es)) (not_tied (order p e.0) (first_T (is_lt (order p e.0)) (below_all order p es) h))
@@ -381,3 +382,33 @@ write_stays j v m n b is h = ap (λ (d : Pairs). is_some (find nat_cmp j d)) is 
     by_case : (b : Bool) → IsSome (find nat_cmp j (cond b (put nat_cmp j v m) m))
     by_case true = ap is_some (find-put nat_cmp nat_cmp_total j j v m) ∙ ap (λ c. is_some (cond c (Some v) (find nat_cmp j m))) ((eq_by_cmp_equiv nat_cmp_total).refl j)
     by_case false = h
+
+-- ---- a chain that is cut
+
+from_self : (j : ℕ) (c : Pairs) → find nat_cmp j (from_job j c) ≡ find nat_cmp j c
+from_self j c =
+    find-where_key nat_cmp (λ k. not (nat_lt k j)) j (λ x t. ap (λ (y : ℕ). not (nat_lt y j)) (sym (tied j x (ap is_eq t)))) c
+    ∙ ap (λ b. cond (not b) (find nat_cmp j c) None) (le-ltb j j (omega arith))
+
+from_twice : (j : ℕ) (c : Pairs) → from_job j (from_job j c) ≡ from_job j c
+from_twice j [] = refl
+from_twice j (e ∷ c) = by_case (nat_lt e.0 j) refl (from_twice j c)
+  where
+    by_case : (b : Bool) → nat_lt e.0 j ≡ b → from_job j (from_job j c) ≡ from_job j c → from_job j (cond (not b) (e ∷ from_job j c) (from_job j c)) ≡ cond (not b) (e ∷ from_job j c) (from_job j c)
+    by_case true h rest = rest
+    by_case false h rest = ap (λ b. cond (not b) (e ∷ from_job j (from_job j c)) (from_job j (from_job j c))) h ∙ ap (λ (d : Pairs). e ∷ d) rest
+
+pub cut_stays : (j : ℕ) (m n : Pairs) (b : Bool) → n ≡ cond b (from_job j m) m → IsSome (find nat_cmp j m) → IsSome (find nat_cmp j n)
+cut_stays j m n b is h = ap (λ (d : Pairs). is_some (find nat_cmp j d)) is ∙ by_case b
+  where
+    by_case : (b : Bool) → IsSome (find nat_cmp j (cond b (from_job j m) m))
+    by_case true = ap is_some (from_self j m) ∙ h
+    by_case false = h
+
+pub cut_step : (j : ℕ) (q : List ℕ) (e : List ℕ × Option Node) (es : ChangeList) (m n : Pairs) → n ≡ cond (eq_by_cmp order q e.0) (from_job j m) m → cut_at j q es n ≡ cut_at j q (e ∷ es) m
+cut_step j q e es m n is = ap (cut_at j q es) is ∙ by_case (eq_by_cmp order q e.0) (find order q es)
+  where
+    by_case : (b : Bool) (o : Option (Option Node)) → cond (is_some o) (from_job j (cond b (from_job j m) m)) (cond b (from_job j m) m) ≡ cond (is_some (cond b (Some e.1) o)) (from_job j m) m
+    by_case true None = refl
+    by_case true (Some x) = from_twice j m
+    by_case false o = refl

@@ -3,8 +3,8 @@
 --     open_right, open_left     a step of the search, with its count
 --     put_gap, put_over, without_at, without_absent      what a change at the found place makes
 --     last_none, last_some      the last pair whose job is below
-use Rattle.std.proofs.Common.{◌≡◌, ◌<◌, ◌≤◌, ℕ, zero, suc, ◌+◌, ◌-◌, ◌*◌, ◌^◌, Bool, true, false, cond, not, ◌&&◌, [], ◌∷◌, Option, Some, None, length, get_or, set, max, lit<, nat_eq, refl, sym, ap, subst, ◌∙◌, arith, add-one, slice_get}
-use Rattle.std.specs.Prelude.{T, IsSome, is_some, ◌==◌}
+use Rattle.std.proofs.Common.{◌≡◌, ◌<◌, ◌≤◌, ℕ, zero, suc, ◌+◌, ◌-◌, ◌*◌, ◌^◌, Bool, true, false, cond, not, ◌&&◌, List, [], ◌∷◌, Option, Some, None, length, get_or, set, drop, max, lit<, nat_eq, refl, sym, ap, subst, ◌∙◌, arith, add-one, slice_get}
+use Rattle.std.specs.Prelude.{T, IsSome, OnSome, is_some, nat_lt, ◌==◌}
 use Rattle.std.specs.List.{insert, remove}
 use Rattle.std.specs.declared.cmp.Ordering.{Ordering}
 use Rattle.std.specs.declared.cmp.Ordering.TheVariants.{Less, Equal, Greater}
@@ -18,7 +18,7 @@ use Rattle.std.proofs.lemmas.List.Edits.{length-remove}
 use Rattle.std.proofs.Math.Nat.{pow-suc, pow-le-pow_right}
 use Rattle.em_tree.specs.declared.node.Node.{Node}
 use Rattle.em_chain.specs.Pairs.{Pairs}
-use Rattle.em_chain.specs.Chains.{IsOpen, job_in, job_before, last_from, last_below, roomed, without, counted}
+use Rattle.em_chain.specs.Chains.{IsOpen, from_job, job_in, job_before, last_from, last_below, roomed, without, counted}
 
 -- ---- numbers
 
@@ -28,8 +28,11 @@ less x y h = sym (nat_cmp_is x y Less h)
 same : (x y : ℕ) → x ≡ y → nat_cmp x y ≡ Equal
 same x y h = sym (nat_cmp_is x y Equal h)
 
-more : (x y : ℕ) → y < x → nat_cmp x y ≡ Greater
+pub more : (x y : ℕ) → y < x → nat_cmp x y ≡ Greater
 more x y h = sym (nat_cmp_is x y Greater h)
+
+pub apart : (x y : ℕ) → y < x → eq_by_cmp nat_cmp x y ≡ false
+apart x y h = ap is_eq (more x y h)
 
 lower : (x y : ℕ) → T (is_lt (nat_cmp x y)) → x < y
 lower x y = by_rank (nat_cmp x y) refl
@@ -269,6 +272,10 @@ pub none_some : {A : Type 0} (o : Option A) → o ≡ None → IsSome o → ⊥
 none_some None e h = absurd (cc)
 none_some (Some x) e h = absurd (cc)
 
+pub some_then : {A : Type 0} (o : Option A) {P : Type 0} → IsSome o → OnSome o P → P
+some_then None h p = absurd (cc)
+some_then (Some x) h p = p
+
 one_less : (k l n : ℕ) → k + 1 ≡ l → n ≡ l → nat_eq n 1 ≡ nat_eq k 0
 one_less zero l n e f = ap (λ (m : ℕ). nat_eq m 1) (let m : n ≡ 1 = omega (arith, e, f) in m)
 one_less (suc k) l n e f = grind (arith, nat_tests)
@@ -277,3 +284,24 @@ pub only_pair : (j : ℕ) (h m : Pairs) (i n : ℕ) → h ≡ m → T (is_sorted
 only_pair j h m i n is s o e =
     let left : without j m ≡ remove m i = without_at j m i (still_sorted j h m is s) o.0 o.1 o.2 in
     one_less (length (without j m)) (length m) n (ap (λ (c : Pairs). length c + 1) left ∙ length-remove m i o.1) (e ∙ ap length is)
+
+-- ---- a chain from a job on
+
+pub from_is : (j : ℕ) (c : Pairs) (i : ℕ) → IsOpen j c i i → from_job j c ≡ drop i c
+from_is j [] i o = (let w : i ≡ 0 = (let z = o.within in omega (arith, z)) in sym (ap (λ (k : ℕ). drop k []) w))
+from_is j (e ∷ c) zero o = ap (λ b. cond (not b) (e ∷ from_job j c) (from_job j c)) (le-ltb e.0 j (o.above zero (omega arith) (omega arith))) ∙ ap (λ (es : Pairs). e ∷ es) (from_is j c zero (open_rest j e c o))
+from_is j (e ∷ c) (suc i) o = ap (λ b. cond (not b) (e ∷ from_job j c) (from_job j c)) (lt-ltb e.0 j (o.below zero (omega arith))) ∙ from_is j c i (open_tail j e c i o)
+
+pub from_sorted : (j : ℕ) (c : Pairs) → T (is_sorted nat_cmp c) → T (is_sorted nat_cmp (from_job j c))
+from_sorted j c = is_sorted-where_key nat_cmp (λ k. not (nat_lt k j)) c
+
+pub cut_here : (j : ℕ) (h n : Pairs) (i : ℕ) (m : Pairs) → h ≡ n → IsOpen j n i i → m ≡ drop i h → m ≡ from_job j n
+cut_here j h n i m is o e = e ∙ ap (drop i) is ∙ sym (from_is j n i o)
+
+abbrev nil : {A : Type 0} → List A
+nil = []
+
+pub drop_more : {A : Type 0} (k : ℕ) (xs : List A) → drop 1 (drop k xs) ≡ drop (k + 1) xs
+drop_more zero xs = refl
+drop_more {A = A} (suc k) [] = ap (λ (n : ℕ). drop n (nil {A = A})) (sym (add-one (suc k)))
+drop_more (suc k) (x ∷ xs) = drop_more k xs ∙ ap (λ (n : ℕ). drop n (x ∷ xs)) (let e : suc (k + 1) ≡ suc k + 1 = omega arith in e)

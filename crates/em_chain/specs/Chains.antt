@@ -1,7 +1,6 @@
 -- What jobs make of one path: a chain of pairs, each of a job and what the path becomes, in rising order of job.
 --     chain_of ps p         of each post that names p, in order, its job and what p becomes
 --     last_below j c        the last pair whose job is below j
---     last_named v j p      the greatest job below j whose post names p
 --     change_below v j p    what that job makes p
 --     counted n             one step more
 --     job_in c i            the i-th job
@@ -9,6 +8,8 @@
 --     job_before c i        the job right before the place i
 --     without j c           c without a pair of the job j
 --     roomed j c            c with a pair of the job j, which says absent where it is new
+--     head_below f c        the first pair, if its job is below f
+--     from_job f c          c from the job f on
 use Rattle.std.specs.Prelude.{ℕ, zero, suc, ◌+◌, ◌-◌, ◌^◌, ◌<◌, ◌≤◌, ◌==◌, if◌then◌else◌, not, List, [], ◌∷◌, length, Option, Some, None, option_map, filter_map, is_some, nat_lt, slice_index_or}
 use Rattle.std.specs.List.{filter}
 use Rattle.std.specs.Ordering.{nat_cmp, eq_by_cmp}
@@ -26,9 +27,6 @@ last_from found j (e ∷ es) = last_from (if nat_lt e.0 j then Some e else found
 
 abbrev pub last_below : ℕ → Pairs → Option (ℕ × Option Node)
 last_below j c = last_from None j c
-
-abbrev pub last_named : Posted → ℕ → List ℕ → Option ℕ
-last_named v j p = option_map (λ e. e.0) (last_below j (chain_of v.posts p))
 
 abbrev pub change_below : Posted → ℕ → List ℕ → Option (Option Node)
 change_below v j p = option_map (λ e. e.1) (last_below j (chain_of v.posts p))
@@ -55,3 +53,10 @@ without j c = filter (λ e. not (eq_by_cmp nat_cmp j e.0)) c
 
 abbrev pub roomed : ℕ → Pairs → Pairs
 roomed j c = if is_some (find nat_cmp j c) then c else put nat_cmp j None c
+
+abbrev pub head_below : ℕ → Pairs → Option (ℕ × Option Node)
+head_below f [] = None
+head_below f (e ∷ c) = if nat_lt e.0 f then Some e else None
+
+abbrev pub from_job : ℕ → Pairs → Pairs
+from_job f c = filter (λ e. not (nat_lt e.0 f)) c

@@ -6,3 +6,4 @@ pub mod Pairs
 pub mod Chains
 pub mod Lines
 pub mod Marks
+pub mod Floors

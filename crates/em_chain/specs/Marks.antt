@@ -4,6 +4,7 @@
 --     written j p es c        c with what es make p at the job j
 --     dropped j d p es c      c without the job j, if es name p and d doesn't
 --     Roomed j c d            d is c, or has a pair of the job j more
+--     cut_at j p es c         c from the job j on, if es name p
 use Rattle.std.specs.Prelude.{◌≡◌, ℕ, Bool, false, not, ◌&&◌, ◌⊎◌, if◌then◌else◌, List, [], ◌∷◌, Option, Some, None, is_some}
 use Rattle.std.specs.Ordering.{nat_cmp, eq_by_cmp}
 use Rattle.std.specs.Cmp.Lexicographic.{slice_cmp}
@@ -12,7 +13,7 @@ use Rattle.em_tree.specs.declared.node.Node.{Node}
 use Rattle.em_tree.specs.Trees.{Changes}
 use Rattle.em_chain.specs.declared.post.Post.{Post}
 use Rattle.em_chain.specs.Pairs.{Pairs}
-use Rattle.em_chain.specs.Chains.{roomed, without}
+use Rattle.em_chain.specs.Chains.{from_job, roomed, without}
 
 abbrev pub ChangeList : Type 0
 ChangeList = List (List ℕ × Option Node)
@@ -38,3 +39,6 @@ dropped_by j d p (Some post) c = dropped j d p (entries post.delta) c
 
 abbrev pub Roomed : ℕ → Pairs → Pairs → Type 0
 Roomed j c d = (d ≡ c) ⊎ (d ≡ roomed j c)
+
+abbrev pub cut_at : ℕ → List ℕ → ChangeList → Pairs → Pairs
+cut_at j p es c = if names es p then from_job j c else c

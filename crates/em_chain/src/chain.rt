@@ -1,12 +1,13 @@
 //! What jobs make of one path, job by job, and a count of the steps that it takes to search in it.
-ghost use Rattle.std.specs.Prelude.{◌≡◌, ◌==◌, ◌+◌, ◌-◌, ◌*◌, ◌^◌, ◌<◌, ◌≤◌, [], ◌∷◌, None, IsSome, IfOk, IfErr, OnOk, OnErr, length, max, option_map};
+ghost use Rattle.std.specs.Prelude.{◌≡◌, ◌==◌, ◌+◌, ◌-◌, ◌*◌, ◌^◌, ◌<◌, ◌≤◌, [], ◌∷◌, None, IsSome, is_some, IfOk, IfErr, OnOk, OnErr, length, max, option_map};
 ghost use Rattle.std.specs.Ordering.{nat_cmp};
 ghost use Rattle.std.specs.FinMap.{find, put};
-ghost use Rattle.em_chain.specs.Chains.{IsOpen, counted, job_in, job_before, last_below, roomed, without};
+ghost use Rattle.em_chain.specs.Chains.{IsOpen, counted, from_job, head_below, job_in, job_before, last_below, roomed, without};
 
 use em_base::NoMemory;
 use em_tree::Node;
 use std::alloc::Global;
+use std::collections::VecDeque;
 use std::marker::Model;
 use std::mem;
 
@@ -56,9 +57,10 @@ struct Spot {
 }
 
 /// The jobs whose posts name one path, in rising order, each with what the path becomes. Contracts see the list of the pairs.
+/// Pairs come at the back and go from the front, as jobs are posted and settled, so both ends are near.
 #[derive(Drop)]
 pub struct Chain {
-    held: Vec<(u32, Option<Node>)>,
+    held: VecDeque<(u32, Option<Node>)>,
 }
 
 impl Model for Chain {
@@ -83,8 +85,8 @@ impl Chain {
     pub(crate) fn one(alloc: Global, job: u32) -> Result<Chain, NoMemory>
         ensures { IfOk result (λ c. c ≡ (job, None) ∷ []) }
     {
-        let mut held = Vec::new(alloc);
-        held.push((job, None))?;
+        let mut held = VecDeque::new(alloc);
+        held.push_back((job, None))?;
         Ok(Chain { held })
     }
 
@@ -195,5 +197,31 @@ impl Chain {
             Ok(_) => self.held.len() == 1,
             Err(_) => self.held.is_empty(),
         }
+    }
+
+    /// How many jobs are below one.
+    fn count_below(&self, job: u32) -> usize
+        ensures { IsOpen job self.now result result }
+    {
+        let mut steps = Steps::new();
+        self.search(job, 0, self.held.len(), None, &mut steps).at
+    }
+
+    /// Takes out the pairs of the jobs below one. Steps for a search, and for each pair that goes.
+    pub(crate) fn cut(&mut self, job: u32)
+        ensures { self.new ≡ from_job job self.old }
+    {
+        let below = self.count_below(job);
+        for _ in 0..below {
+            drop(self.held.pop_front());
+        }
+    }
+
+    /// Whether the first pair's job is below the given one.
+    pub(crate) fn begins_below(&self, job: u32) -> bool
+        ensures { result ≡ is_some (head_below job self.now) }
+    {
+        let mut steps = Steps::new();
+        !self.held.is_empty() && self.job_at(0, &mut steps) < job
     }
 }

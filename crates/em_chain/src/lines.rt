@@ -1,13 +1,13 @@
 //! The chains of all paths that posts name.
-ghost use Rattle.std.specs.Prelude.{◌≡◌, ◌≢◌, ℕ, List, [], ◌∷◌, Some, None, IsSome, IfOk, OnOk, OnErr, option_copied, unwrap_or, if◌then◌else◌, ◌==◌, false, length};
+ghost use Rattle.std.specs.Prelude.{◌≡◌, ◌≢◌, ℕ, List, [], ◌∷◌, Some, None, IsSome, IfOk, OnOk, OnErr, option_copied, unwrap_or, if◌then◌else◌, ◌==◌, false, length, min, ◌-◌, ◌^◌};
 ghost use Rattle.std.specs.Ordering.{nat_cmp, eq_by_cmp};
 ghost use Rattle.std.specs.Cmp.Lexicographic.{slice_cmp};
 ghost use Rattle.std.specs.FinMap as map;
 ghost use Rattle.std.specs.FinMap.{find, put};
 ghost use Rattle.em_path.specs.Paths.{parent_text};
 ghost use Rattle.em_tree.specs.Names.{children_of};
-ghost use Rattle.em_chain.specs.Chains.{roomed, without};
-ghost use Rattle.em_chain.specs.Lines.{chain_at};
+ghost use Rattle.em_chain.specs.Chains.{from_job, roomed, without};
+ghost use Rattle.em_chain.specs.Lines.{chain_at, merged_in};
 
 use crate::chain::Chain;
 use crate::index::{Children, list, parent_of, unlist};
@@ -194,5 +194,31 @@ impl Lines {
             Some(line) => line.chain.erase(job),
             None => unreachable!(),
         }
+    }
+
+    /// Takes the pairs of the jobs below one, which has a pair there, out of the chain of a path.
+    pub(crate) fn cut(&mut self, p: &Path, job: u32)
+        requires { IsSome (find nat_cmp job (chain_at self.old p.now)) }
+        ensures { (q : List ℕ) → chain_at self.new q
+            ≡ (if eq_by_cmp (slice_cmp nat_cmp) q p.now then from_job job (chain_at self.old q)
+            else chain_at self.old q) }
+    {
+        match self.held.get_mut(p) {
+            Some(line) => line.chain.cut(job),
+            None => unreachable!(),
+        }
+    }
+
+    /// How many chains begin with a job below the floor; 2^64 - 1 where that is less. Steps for each chain.
+    pub(crate) fn count_below(&self, floor: u32) -> u64
+        ensures { result ≡ min (map.len (merged_in floor self.now)) (2 ^ 64 - 1) }
+    {
+        let mut count: u64 = 0;
+        for (_, line) in self.held.iter() {
+            if line.chain.begins_below(floor) {
+                count = count.saturating_add(1);
+            }
+        }
+        count
     }
 }

@@ -1,5 +1,5 @@
 //! Marking in the chains what a post changes: all that takes memory comes first, and is undone where it fails.
-ghost use Rattle.std.specs.Prelude.{◌≡◌, ◌&&◌, ℕ, List, IsSome, IfOk, OnOk, OnErr, is_some, option_copied, not, true, false, if◌then◌else◌, option_map, T};
+ghost use Rattle.std.specs.Prelude.{◌≡◌, ◌&&◌, ℕ, List, IsSome, IfOk, OnOk, OnErr, is_some, option_copied, not, true, false, if◌then◌else◌, option_map, T, min, ◌-◌, ◌^◌};
 ghost use Rattle.std.specs.Ordering.{nat_cmp, eq_by_cmp};
 ghost use Rattle.std.specs.Cmp.Lexicographic.{slice_cmp};
 ghost use Rattle.std.specs.FinMap as map;
@@ -7,7 +7,11 @@ ghost use Rattle.std.specs.FinMap.{find, is_sorted};
 ghost use Rattle.std.specs.BTreeMap as tree;
 ghost use Rattle.em_chain.specs.Chains.{without};
 ghost use Rattle.em_chain.specs.Lines.{chain_at};
-ghost use Rattle.em_chain.specs.Marks.{names, keeps, written, dropped, dropped_by, Roomed};
+ghost use Rattle.em_chain.specs.Marks.{names, keeps, written, dropped, dropped_by, cut_at, Roomed};
+ghost use Rattle.em_chain.specs.Floors.{emptied, is_live};
+ghost use Rattle.std.specs.List.{filter, sum_by};
+ghost use Rattle.std.specs.List.Sorted.{IsStrictlySortedBy};
+ghost use Rattle.std.specs.Map.{keys_of};
 
 use crate::lines::Lines;
 use crate::post::Post;
@@ -16,6 +20,7 @@ use em_path::Path;
 use em_tree::{Delta, Node};
 use std::alloc::Global;
 use std::collections::BTreeMap;
+use std::mem;
 
 /// What a path becomes.
 pub(crate) type Change = (Path, Option<Node>);
@@ -164,4 +169,47 @@ pub(crate) fn delta_of(posts: &BTreeMap<u32, Post>, job: u32) -> Option<&Delta>
         Some(post) => Some(&post.delta),
         None => None,
     }
+}
+
+/// The chains of the paths that a delta names begin with the job, which has a pair there, or behind it.
+pub(crate) fn cut_all(lines: &mut Lines, d: &Delta, job: u32)
+    requires { (q : List ℕ) → names (map.entries d.now) q ≡ true
+        → IsSome (find nat_cmp job (chain_at lines.old q)) }
+    ensures { (q : List ℕ) → chain_at lines.new q
+        ≡ cut_at job q (map.entries d.now) (chain_at lines.old q) }
+{
+    for (path, _) in d.changes() {
+        lines.cut(path, job);
+    }
+}
+
+/// Takes out the changes that a job has posted, and leaves its outcome.
+pub(crate) fn take_delta(posts: &mut BTreeMap<u32, Post>, alloc: Global, job: u32) -> Option<Delta>
+    ensures delta { result ≡ option_map (λ post. post.delta)
+        (map.get (map.from_entries {R = nat_cmp} posts.old.entries) job) }
+    ensures left { (k : ℕ) → map.get (map.from_entries {R = nat_cmp} posts.new.entries) k
+        ≡ (if eq_by_cmp nat_cmp k job
+        then option_map emptied (map.get (map.from_entries {R = nat_cmp} posts.old.entries) k)
+        else map.get (map.from_entries {R = nat_cmp} posts.old.entries) k) }
+    ensures sorted { IsStrictlySortedBy nat_cmp (keys_of posts.old.entries)
+        → IsStrictlySortedBy nat_cmp (keys_of posts.new.entries) }
+{
+    match posts.get_mut(&job) {
+        Some(post) => Some(mem::replace(&mut post.delta, Delta::new(alloc))),
+        None => None,
+    }
+}
+
+/// How many changes the jobs from the floor on have posted; 2^64 - 1 where that is less. Steps for each post.
+pub(crate) fn count_live(posts: &BTreeMap<u32, Post>, floor: u32) -> u64
+    ensures { result ≡ min (sum_by (λ e. map.len e.1.delta)
+        (filter (λ e. is_live floor e.0) posts.now.entries)) (2 ^ 64 - 1) }
+{
+    let mut count: u64 = 0;
+    for (job, post) in posts.iter() {
+        if *job >= floor {
+            count = count.saturating_add(post.delta.len() as u64);
+        }
+    }
+    count
 }

@@ -60,6 +60,32 @@ fn the_last_job_below_is_found_in_two_steps(rt: HostRuntime) -> Result<(), Fail>
     Ok(())
 }
 
+/// Seven jobs, each of which makes a file of its own and changes the root.
+const SEVEN: [&str; 7] = ["/a", "/b", "/c", "/d", "/e", "/f", "/g"];
+
+#[test]
+fn below_the_floor_a_path_keeps_its_last_job(rt: HostRuntime) -> Result<(), Fail> {
+    let alloc = rt.alloc();
+    let mut v = versions(alloc)?;
+    for (job, text) in SEVEN.iter().enumerate() {
+        let stamp = 10 + job as u64;
+        let changes = delta(alloc, &[(*text, stamp), ("/", stamp)])?;
+        v.post(job as u32, changes, Outcome::Made)?;
+    }
+    assert!(rt; v.floor() == 0 && v.entries() == 14);
+    v.raise(0);
+    assert!(rt; v.entries() == 14);
+    for job in 0..7 {
+        v.raise(job + 1);
+        assert!(rt; v.floor() == job + 1 && v.entries() == 14 - u64::from(job));
+    }
+    let root = path(alloc, b"/")?;
+    assert!(rt; last(&v, 7, &root)? == Some(6));
+    let c = path(alloc, b"/c")?;
+    assert!(rt; last(&v, 9, &c)? == Some(2));
+    Ok(())
+}
+
 #[test]
 fn a_chain_tells_its_jobs(rt: HostRuntime) -> Result<(), Fail> {
     let chain = Chain::one(rt.alloc(), 5)?;
@@ -157,8 +183,9 @@ fn slow_log(alloc: Global, posts: &[(u32, Delta)], job: u32) -> Result<String, F
     Ok(log)
 }
 
+/// The jobs from the floor on are told the same.
 fn agree(alloc: Global, both: &Both) -> Result<bool, Fail> {
-    for job in 0..10 {
+    for job in both.fast.floor()..10 {
         let fast = fast_log(alloc, &both.fast, job)?;
         let slow = slow_log(alloc, both.slow.as_slice(), job)?;
         if fast.as_str() != slow.as_str() {
@@ -187,6 +214,28 @@ fn looks_agree_with_a_walk_over_all_posts(rt: HostRuntime) -> Result<(), Fail> {
     assert!(rt; agree(alloc, &both)?);
     withdraw(&mut both, 8);
     withdraw(&mut both, 1);
+    assert!(rt; agree(alloc, &both)?);
+    Ok(())
+}
+
+#[test]
+fn looks_agree_above_a_floor(rt: HostRuntime) -> Result<(), Fail> {
+    let alloc = rt.alloc();
+    let mut both = Both {
+        fast: versions(alloc)?,
+        slow: Vec::new(alloc),
+    };
+    post(alloc, &mut both, 1, &[("/x", 6), ("/d", 7)])?;
+    post(alloc, &mut both, 3, &[("/x", 0), ("/z", 4)])?;
+    post(alloc, &mut both, 4, &[("/z", 5)])?;
+    post(alloc, &mut both, 7, &[("/x", 3), ("/d", 0)])?;
+    both.fast.raise(2);
+    assert!(rt; agree(alloc, &both)?);
+    post(alloc, &mut both, 3, &[("/z", 8)])?;
+    both.fast.raise(4);
+    assert!(rt; agree(alloc, &both)?);
+    withdraw(&mut both, 7);
+    both.fast.raise(8);
     assert!(rt; agree(alloc, &both)?);
     Ok(())
 }

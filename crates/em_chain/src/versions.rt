@@ -1,5 +1,5 @@
-//! A start, and what jobs have posted over it.
-ghost use Rattle.std.specs.Prelude.{◌≡◌, ◌↔◌, ℕ, ◌+◌, ◌-◌, ◌*◌, ◌^◌, ◌≤◌, List, IfOk, OnOk, OnErr, IsTrue, IsSome, Some, length, option_copied, option_map};
+//! A start, and what jobs have posted over it, merged below a floor.
+ghost use Rattle.std.specs.Prelude.{◌≡◌, ◌↔◌, ℕ, ◌+◌, ◌-◌, ◌*◌, ◌^◌, ◌<◌, ◌≤◌, min, List, IfOk, OnOk, OnErr, IsTrue, IsSome, Some, length, option_copied, option_map};
 ghost use Rattle.std.specs.FinMap as map;
 ghost use Rattle.em_tree.specs.declared.node.Kind.TheVariants as kind;
 ghost use Rattle.em_tree.specs.Answers.{holds_memory};
@@ -7,13 +7,15 @@ ghost use Rattle.std.specs.List.{AllByRecursion};
 ghost use Rattle.em_path.specs.Paths.{parent_text};
 ghost use Rattle.em_tree.specs.Names.{IsNameList, names_of};
 ghost use Rattle.em_tree.specs.Trees.{Table, kind_of, stamp_of, content_of};
-ghost use Rattle.em_chain.specs.Chains.{chain_of, change_below, last_below, last_named};
-ghost use Rattle.em_chain.specs.Looking.{looked, table_below, outcome_below};
+ghost use Rattle.em_chain.specs.Chains.{last_below};
+ghost use Rattle.em_chain.specs.Floors.{chain_over, change_over, last_over, table_over, outcome_over, looked_over, entries_of, IsRaised};
 ghost use Rattle.em_chain.specs.Listing.{IsListing, changed_at};
 
 use crate::chain::Steps;
 use crate::lines::Lines;
-use crate::marks::{changes_of, commit, delta_of, drop_old, drop_stale, stage};
+use crate::marks::{
+    changes_of, commit, count_live, cut_all, delta_of, drop_old, drop_stale, stage, take_delta,
+};
 use crate::names::{amend, list_of, listed, name_set};
 use crate::post::Post;
 use em_base::{NoMemory, Text};
@@ -27,10 +29,14 @@ use std::marker::Model;
 /// A starting state, and what jobs have posted over it. What a job is answered are the start and the posts of the jobs below it,
 /// laid over one another in order of number; such a table need not be a tree. Beside the posts stands the chain of each path that
 /// they name.
+///
+/// Below the floor, to which no question comes, the posts are merged: a path keeps the last job that posted it. Contracts see the
+/// start, the floor, what is merged, and the posts, of which those below the floor have an outcome alone.
 #[derive(Drop)]
 pub struct Versions {
     alloc: Global,
     start: State,
+    floor: u32,
     posts: BTreeMap<u32, Post>,
     lines: Lines,
 }
@@ -41,37 +47,83 @@ impl Model for Versions {
     ghost use Rattle.std.specs.List.Sorted.{IsStrictlySortedBy};
     ghost use Rattle.std.specs.Map.{keys_of};
     ghost use Rattle.std.specs.FinMap as map;
-    ghost use Rattle.em_chain.specs.Posts.{Posted};
-    ghost use Rattle.em_chain.specs.Codes.{posted_code};
-    ghost use Rattle.em_chain.specs.Chains.{chain_of};
-    ghost use Rattle.em_chain.specs.Lines.{chain_at};
+    ghost use Rattle.em_chain.specs.Posts.{Floored};
+    ghost use Rattle.em_chain.specs.Codes.{floored_code};
+    ghost use Rattle.em_chain.specs.Lines.{merged_in, IsHeld};
 
-    ghost Value = { Posted };
+    ghost Value = { Floored };
 
-    ghost coded = { posted_code };
+    ghost coded = { floored_code };
 
-    ghost view = { λ v. record { start = v.start; posts = map.from_entries v.posts.entries } };
+    ghost view = { λ v. record {
+      start = v.start;
+      floor = v.floor;
+      merged = merged_in v.floor v.lines;
+      posts = map.from_entries v.posts.entries;
+    } };
 
     ghost invariant = { λ v. IsStrictlySortedBy nat_cmp (keys_of v.posts.entries)
-        × ((p : List ℕ) → chain_at v.lines p ≡ chain_of (map.from_entries v.posts.entries) p) };
+        × IsHeld v.floor v.lines (map.from_entries v.posts.entries) };
 }
 
 impl Versions {
     /// The start, over which nothing is posted.
     pub fn new(alloc: Global, start: State) -> Result<Versions, NoMemory>
-        ensures { IfOk result (λ v. v ≡ record { start = start; posts = map.empty }) }
+        ensures { IfOk result (λ v. v
+            ≡ record { start = start; floor = 0; merged = map.empty; posts = map.empty }) }
     {
         Ok(Versions {
             alloc,
             start,
+            floor: 0,
             posts: BTreeMap::new(alloc),
             lines: Lines::new(alloc),
         })
     }
 
+    /// The floor: the posts of the jobs below it are merged.
+    pub fn floor(&self) -> u32
+        ensures { result ≡ self.now.floor }
+    {
+        self.floor
+    }
+
+    /// How many pairs of a path and a job the chains have; 2^64 - 1 where that is less. Steps for each path and each post, so it is
+    /// for measures alone.
+    pub fn entries(&self) -> u64
+        ensures { result ≡ min (entries_of self.now) (2 ^ 64 - 1) }
+    {
+        let merged = self.lines.count_below(self.floor);
+        merged.saturating_add(count_live(&self.posts, self.floor))
+    }
+
+    /// Raises the floor, and takes no memory: of the jobs below it each path keeps the last one that posted it. Steps for each job
+    /// between the floors a search in the posts, and for each path that it posted one in the paths and in the path's chain.
+    pub fn raise(&mut self, to: u32)
+        requires { self.old.floor ≤ to }
+        ensures { IsRaised self.old to self.new }
+    {
+        for job in self.floor..to {
+            self.raise_over(job);
+        }
+    }
+
+    /// Raises the floor by one.
+    fn raise_over(&mut self, job: u32)
+        requires here { job ≡ self.old.floor }
+        requires room { job + 1 < 2 ^ 32 }
+        ensures { IsRaised self.old (job + 1) self.new }
+    {
+        if let Some(delta) = take_delta(&mut self.posts, self.alloc, job) {
+            cut_all(&mut self.lines, &delta, job);
+        }
+        self.floor = job + 1;
+    }
+
     /// Posts what a job changes and how it ended, in place of what it had posted. Steps for the logarithm of how many jobs have
     /// posted, and for each path that its deltas name a few searches, in the paths and in the path's chain, and the jobs above it there.
     pub fn post(&mut self, job: u32, d: Delta, o: Outcome) -> Result<(), NoMemory>
+        requires { self.old.floor ≤ job }
         ensures ok { OnOk result (self.new ≡ record self.old { posts = map.insert self.old.posts job (record { delta = d; outcome = o }) }) }
         ensures err { OnErr result (self.new ≡ self.old) }
     {
@@ -99,6 +151,7 @@ impl Versions {
 
     /// Takes back what a job has posted, and takes no memory. Steps as for a post of its delta.
     pub fn withdraw(&mut self, job: u32)
+        requires { self.old.floor ≤ job }
         ensures { self.new ≡ record self.old { posts = map.remove self.old.posts job } }
     {
         let old = self.posts.remove(&job);
@@ -106,12 +159,14 @@ impl Versions {
         drop(old);
     }
 
-    /// The greatest job below the given one whose delta names the path; `None` exactly where there is none. It reads at most about as
-    /// many jobs as the logarithm of how many deltas name the path, each of which is one of the steps.
+    /// The greatest job below the given one whose post named the path, of those that are merged the one that the path keeps; `None`
+    /// exactly where there is none. It reads at most about as many jobs as the logarithm of how many the path's chain has, each of
+    /// which is one of the steps.
     pub fn last(&self, job: u32, p: &Path, steps: &mut Steps) -> Option<u32>
-        ensures last { result ≡ last_named self.now job p.now }
+        requires { self.now.floor ≤ job }
+        ensures last { result ≡ last_over self.now job p.now }
         ensures on { steps.old ≤ steps.new }
-        ensures few { 2 ^ (steps.new - steps.old) ≤ 2 * length (chain_of self.now.posts p.now) + 1 }
+        ensures few { 2 ^ (steps.new - steps.old) ≤ 2 * length (chain_over self.now p.now) + 1 }
     {
         match self.found(job, p, steps) {
             Some((last, _)) => Some(last),
@@ -122,9 +177,9 @@ impl Versions {
     /// That job, with what it makes the path.
     fn found(&self, job: u32, p: &Path, steps: &mut Steps) -> Option<(u32, &Option<Node>)>
         ensures found { option_map (λ e. (e.0, e.1.now)) result
-            ≡ last_below job (chain_of self.now.posts p.now) }
+            ≡ last_below job (chain_over self.now p.now) }
         ensures on { steps.old ≤ steps.new }
-        ensures few { 2 ^ (steps.new - steps.old) ≤ 2 * length (chain_of self.now.posts p.now) + 1 }
+        ensures few { 2 ^ (steps.new - steps.old) ≤ 2 * length (chain_over self.now p.now) + 1 }
     {
         match self.lines.chain(p) {
             Some(chain) => chain.last(job, steps),
@@ -134,7 +189,7 @@ impl Versions {
 
     /// What the posts of the jobs below one make a path; `None` where none names it.
     fn change(&self, job: u32, p: &Path) -> Option<&Option<Node>>
-        ensures { option_copied result ≡ change_below self.now job p.now }
+        ensures { option_copied result ≡ change_over self.now job p.now }
     {
         let mut steps = Steps::new();
         match self.found(job, p, &mut steps) {
@@ -145,7 +200,8 @@ impl Versions {
 
     /// What stands at a path under the posts of the jobs below one.
     fn node(&self, job: u32, p: &Path) -> Option<&Node>
-        ensures { option_copied result ≡ map.get (table_below self.now job) p.now }
+        requires { self.now.floor ≤ job }
+        ensures { option_copied result ≡ map.get (table_over self.now job) p.now }
     {
         match self.change(job, p) {
             Some(becomes) => becomes.as_ref(),
@@ -155,7 +211,8 @@ impl Versions {
 
     /// The kind of what stands there.
     fn kind(&self, job: u32, p: &Path) -> Kind
-        ensures { result ≡ kind_of (map.get (table_below self.now job) p.now) }
+        requires { self.now.floor ≤ job }
+        ensures { result ≡ kind_of (map.get (table_over self.now job) p.now) }
     {
         match self.node(job, p) {
             Some(n) => n.kind(),
@@ -165,7 +222,8 @@ impl Versions {
 
     /// Whether a directory stands there.
     fn is_dir(&self, job: u32, p: &Path) -> bool
-        ensures { IsTrue result ↔ (kind_of (map.get (table_below self.now job) p.now) ≡ kind.Dir) }
+        requires { self.now.floor ≤ job }
+        ensures { IsTrue result ↔ (kind_of (map.get (table_over self.now job) p.now) ≡ kind.Dir) }
     {
         match self.kind(job, p) {
             Kind::Dir => true,
@@ -176,14 +234,16 @@ impl Versions {
 
     /// The stamp of the node there; `None` where there is none.
     fn stamp(&self, job: u32, p: &Path) -> Option<u64>
-        ensures { result ≡ stamp_of (map.get (table_below self.now job) p.now) }
+        requires { self.now.floor ≤ job }
+        ensures { result ≡ stamp_of (map.get (table_over self.now job) p.now) }
     {
         self.node(job, p).map(|n| n.stamp())
     }
 
     /// The bytes of the file there; `None` where there is none.
     fn content(&self, job: u32, p: &Path) -> Option<&Body>
-        ensures { option_copied result ≡ content_of (map.get (table_below self.now job) p.now) }
+        requires { self.now.floor ≤ job }
+        ensures { option_copied result ≡ content_of (map.get (table_over self.now job) p.now) }
     {
         match self.node(job, p) {
             Some(Node::File { body, .. }) => Some(body),
@@ -193,7 +253,7 @@ impl Versions {
 
     /// How a job below one ended, by what it posted.
     fn outcome(&self, job: u32, k: u32) -> Option<&Outcome>
-        ensures { option_copied result ≡ outcome_below self.now job k }
+        ensures { option_copied result ≡ outcome_over self.now job k }
     {
         if k >= job {
             return None;
@@ -227,7 +287,7 @@ impl Versions {
         ensures { OnOk result ((p : List ℕ) (t : Table)
             → AllByRecursion (λ q. parent_text q ≡ Some p) paths.entry
             → IsListing p t set.old.keys
-            → IsListing p (changed_at (change_below self.now job) paths.entry t) set.new.keys) }
+            → IsListing p (changed_at (change_over self.now job) paths.entry t) set.new.keys) }
     {
         for path in paths {
             amend(self.alloc, set, self.change(job, path), path)?;
@@ -237,8 +297,9 @@ impl Versions {
 
     /// Puts in and takes out what the posts of the jobs below one do right under a path: a search for each name that they touch.
     fn lay_all(&self, set: &mut BTreeSet<Text>, job: u32, p: &Path) -> Result<(), NoMemory>
-        requires { IsListing p.now self.now.start.tree set.old.keys }
-        ensures { OnOk result (IsListing p.now (table_below self.now job) set.new.keys) }
+        requires floor { self.now.floor ≤ job }
+        requires listing { IsListing p.now self.now.start.tree set.old.keys }
+        ensures { OnOk result (IsListing p.now (table_over self.now job) set.new.keys) }
     {
         let Some(paths) = self.lines.under(p) else {
             return Ok(());
@@ -249,8 +310,9 @@ impl Versions {
 
     /// The names of a directory; `None` where there is none, which always comes.
     fn names(&self, job: u32, p: &Path) -> Result<Option<NameList>, NoMemory>
-        ensures ok { IfOk result (λ r. r ≡ names_of (table_below self.now job) p.now) }
-        ensures err { OnErr result (IsSome (names_of (table_below self.now job) p.now)) }
+        requires { self.now.floor ≤ job }
+        ensures ok { IfOk result (λ r. r ≡ names_of (table_over self.now job) p.now) }
+        ensures err { OnErr result (IsSome (names_of (table_over self.now job) p.now)) }
     {
         let _text = p.text();
         if !self.is_dir(job, p) {
@@ -263,10 +325,11 @@ impl Versions {
 
     /// What a job is answered: by the start with what the jobs below it have posted. An answer that holds no memory always comes.
     /// Steps for a search in the paths and one in the path's chain, and for names these for each name that posts touch there.
-    #[tactic(auto, unfolding(crate::specs::Looking::looked))]
+    #[tactic(auto, unfolding(crate::specs::Floors::looked_over))]
     pub fn look(&self, job: u32, q: &Question) -> Result<Answer, NoMemory>
-        ensures ok { IfOk result (λ a. a ≡ looked self.now job q.now) }
-        ensures err { OnErr result (IsTrue (holds_memory (looked self.now job q.now))) }
+        requires { self.now.floor ≤ job }
+        ensures ok { IfOk result (λ a. a ≡ looked_over self.now job q.now) }
+        ensures err { OnErr result (IsTrue (holds_memory (looked_over self.now job q.now))) }
     {
         Ok(match q {
             Question::Kind(p) => Answer::Kind(self.kind(job, p)),

@@ -16,8 +16,15 @@ use Rattle.em_tree.specs.declared.question.Entry.{Entry}
 use Rattle.em_tree.specs.declared.outcome.Outcome.{Outcome}
 use Rattle.em_tree.specs.Trees.{Changes}
 use Rattle.em_run.specs.declared.run.Parts.{Parts}
-use Rattle.em_chain.specs.Posts.{Posts}
+use Rattle.em_tree.specs.declared.question.Question.{Question}
+use Rattle.em_chain.specs.Posts.{Posts, Floored}
 use Rattle.em_chain.specs.Looking.{looked}
+use Rattle.em_chain.specs.Floors.{IsAt, IsRaised, looked_over}
+use Rattle.em_chain.proofs.Raising.{at_first, at_post, at_raise, at_look}
+use Rattle.std.specs.declared.cmp.Ordering.{Ordering}
+use Rattle.std.specs.declared.cmp.Ordering.TheVariants.{Less, Equal, Greater}
+use Rattle.std.specs.Ordering.{nat_cmp}
+use Rattle.std.specs.Cmp.{ranked}
 use Rattle.em_engine.specs.declared.event.Event.{Event}
 use Rattle.em_engine.specs.declared.event.Event.TheVariants as event
 use Rattle.em_engine.specs.declared.event.Phase.{Phase}
@@ -28,7 +35,7 @@ use Rattle.em_engine.specs.declared.ready.Claim.{Claim}
 use Rattle.em_engine.specs.declared.ready.Claim.TheVariants as claim
 use Rattle.em_engine.specs.Stages.{CanClaim, is_over, Finds}
 use Rattle.em_engine.specs.Journal.{Replay, first, after, May, replay, IsLegal, asked_in, asked_of, weight_of, stop_weight}
-use Rattle.em_engine.specs.Boards.{Seen, Held, IsBoard, now, told, stages, stage_of, is_kept}
+use Rattle.em_engine.specs.Boards.{Seen, Held, IsBoard, posted, now, told, stages, stage_of, is_kept}
 use Rattle.em_engine.specs.Calls.{can_settle, can_take, left_by, put, Takes, Claims}
 use Rattle.em_engine.proofs.Places.{slice_get-set_other, slice_get-set_same, get_or_any}
 
@@ -72,10 +79,16 @@ found [] j s h = absurd (cc)
 found (x ∷ xs) zero s h = (x, refl, same_Some (stage_of x) s h)
 found (x ∷ xs) (suc j) s h = found xs j s h
 
+-- a replay, with its own posts
+pub replayed_now : (r : Replay) (es : List Event) (ss : List Stage) (ps : Posts) (n : ℕ) (b : Bool) → replay r es ≡ record { stages = ss; posts = ps; settled = n; stopped = b }
+    → replay r es ≡ record { stages = ss; posts = (replay r es).posts; settled = n; stopped = b }
+replayed_now r es ss ps n b e = e ∙ ap (λ (qs : Posts). record { stages = ss; posts = qs; settled = n; stopped = b }) (sym (ap (λ (t : Replay). t.posts) e))
+
 -- ---- one event more, for a job whose phase changes with it
 
-pub moves : {S : _} (h : Held S) (e : Event) (j : ℕ) (p q : Phase S) (s : Stage) (posts' : Posts) (settled' owed' len' : ℕ)
+pub moves : {S : _} (h : Held S) (e : Event) (j : ℕ) (p q : Phase S) (s : Stage) (posts' : Posts) (v : Floored) (settled' owed' len' : ℕ)
     → IsBoard h
+    → IsAt (record { start = h.start; posts = posts' }) settled' v
     → slice_get h.phases j ≡ Some p
     → May h.start h.waits (now h) e
     → after (now h) e ≡ record { stages = set (map stage_of h.phases) j s; posts = posts'; settled = settled'; stopped = h.stopped }
@@ -86,15 +99,17 @@ pub moves : {S : _} (h : Held S) (e : Event) (j : ℕ) (p q : Phase S) (s : Stag
     → owed' + weight_of (stage_of p) ≡ h.owed + weight_of s
     → len' ≡ h.len + 1
     → owed' + 1 ≤ h.owed
-    → IsBoard (record h { posts = posts'; stages = set h.stages j s; phases = set h.phases j q; settled = settled'; owed = owed'; journal = h.journal ++ e ∷ []; len = len' })
-moves h e j p q s posts' settled' owed' len' b at may goes is kept quiet below weights one less =
+    → IsBoard (record h { versions = v; stages = set h.stages j s; phases = set h.phases j q; settled = settled'; owed = owed'; journal = h.journal ++ e ∷ []; len = len' })
+moves h e j p q s posts' v settled' owed' len' b there at may goes is kept quiet below weights one less =
     let r : Replay = first (length h.waits) in
     let P : Replay → Type 0 = λ t. May h.start h.waits t e in
     let with_stages : List Stage → Replay = λ x. record { stages = x; posts = posts'; settled = settled'; stopped = h.stopped } in
     let put : set (map stage_of h.phases) j s ≡ map stage_of (set h.phases j q) = ap (set (map stage_of h.phases) j) (sym is) ∙ sym (map-set stage_of h.phases j q) in
     let wq : weight_of (stage_of q) ≡ weight_of s = ap weight_of is in
+    let comes = replay-append r h.journal e ∙ ap (λ t. after t e) b.replayed ∙ goes ∙ ap with_stages put in
     record {
-      replayed = replay-append r h.journal e ∙ ap (λ t. after t e) b.replayed ∙ goes ∙ ap with_stages put;
+      replayed = replayed_now r (h.journal ++ e ∷ []) (map stage_of (set h.phases j q)) posts' settled' h.stopped comes;
+      versions = subst (λ (ps : Posts). IsAt (record { start = h.start; posts = ps }) settled' v) (sym (ap (λ (t : Replay). t.posts) comes)) there;
       legal = legal-append h.start h.waits r h.journal e b.legal (subst P (sym b.replayed) may);
       staged = ap (λ (ss : List Stage). set ss j s) b.staged ∙ put;
       owed_is = omega (arith, weighs h.phases j p q at, b.owed_is, wq, weights);
@@ -144,14 +159,24 @@ claims h j q len' b can is one =
     let f = found h.phases j stage.Free can.0 in
     let wp : weight_of (stage_of f.0) ≡ 3 = ap weight_of f.2 in
     let o : weight_of (stage_of f.0) ≤ h.owed = owes h b j f.0 f.1 in
-    moves h (event.Claim j) j f.0 q stage.Claimed h.posts h.settled (h.owed - 1) len' b f.1 can refl is (λ _. kept_free f.0 f.2) (λ k. refl) (still_below h b j f.0 q f.1 (λ e. let z : stage.Free ≡ stage.Settled = sym f.2 ∙ e in absurd (cc))) (omega (arith, o, wp)) one (omega (arith, o, wp))
+    moves h (event.Claim j) j f.0 q stage.Claimed (posted h) h.versions h.settled (h.owed - 1) len' b b.versions f.1 can refl is (λ _. kept_free f.0 f.2) (λ k. refl) (still_below h b j f.0 q f.1 (λ e. let z : stage.Free ≡ stage.Settled = sym f.2 ∙ e in absurd (cc))) (omega (arith, o, wp)) one (omega (arith, o, wp))
+
+-- a job that isn't settled isn't below the floor
+pub not_below : {S : _} (h : Held S) → IsBoard h → (j : ℕ) (p : Phase S) → slice_get h.phases j ≡ Some p → (stage_of p ≡ stage.Settled → ⊥) → h.settled ≤ j
+not_below h b j p at not = by_rank (nat_cmp j h.settled) refl
+  where
+    by_rank : (o : Ordering) → o ≡ nat_cmp j h.settled → h.settled ≤ j
+    by_rank Less e = absurd (not (ap stage_of (same_Some p phase.Settled (sym at ∙ b.below j (ranked j h.settled Less e)))))
+    by_rank Equal e = let is : j ≡ h.settled = ranked j h.settled Equal e in omega (arith, is)
+    by_rank Greater e = let lt : h.settled < j = ranked j h.settled Greater e in omega (arith, lt)
 
 pub publishes : {S : _} (h : Held S) (j : ℕ) (r : Parts S) (d : Changes) (o : Outcome) (len' : ℕ)
     → IsBoard h → slice_get h.phases j ≡ Some phase.Claimed → len' ≡ h.len + 1
-    → IsBoard (record h { posts = insert h.posts j (record { delta = d; outcome = o }); stages = set h.stages j stage.Ended; phases = set h.phases j (phase.Posted r); owed = h.owed - 1; journal = h.journal ++ event.Publish j d o ∷ []; len = len' })
+    → IsBoard (record h { versions = record h.versions { posts = insert h.versions.posts j (record { delta = d; outcome = o }) }; stages = set h.stages j stage.Ended; phases = set h.phases j (phase.Posted r); owed = h.owed - 1; journal = h.journal ++ event.Publish j d o ∷ []; len = len' })
 publishes {S} h j r d o len' b at one =
     let owed : 2 ≤ h.owed = owes h b j phase.Claimed at in
-    moves h (event.Publish j d o) j phase.Claimed (phase.Posted r) stage.Ended (insert h.posts j (record { delta = d; outcome = o })) h.settled (h.owed - 1) len' b at (stage_at h.phases j phase.Claimed at) refl refl (λ _. refl) (λ k. refl)
+    moves h (event.Publish j d o) j phase.Claimed (phase.Posted r) stage.Ended (insert (posted h) j (record { delta = d; outcome = o })) (record h.versions { posts = insert h.versions.posts j (record { delta = d; outcome = o }) }) h.settled (h.owed - 1) len' b
+    (at_post (record { start = h.start; posts = posted h }) h.versions h.settled j (record { delta = d; outcome = o }) (not_below h b j phase.Claimed at (λ e. absurd (cc))) b.versions) at (stage_at h.phases j phase.Claimed at) refl refl (λ _. refl) (λ k. refl)
     (still_below h b j phase.Claimed (phase.Posted r) at (λ e. absurd (cc))) (omega (arith, owed)) one (omega (arith, owed))
 
 pub gives_up : {S : _} (h : Held S) (j : ℕ) (len' : ℕ)
@@ -159,7 +184,7 @@ pub gives_up : {S : _} (h : Held S) (j : ℕ) (len' : ℕ)
     → IsBoard (record h { stages = set h.stages j stage.Ended; phases = set h.phases j phase.GivenUp; owed = h.owed - 1; journal = h.journal ++ event.GiveUp j ∷ []; len = len' })
 gives_up h j len' b at one =
     let owed : 2 ≤ h.owed = owes h b j phase.Claimed at in
-    moves h (event.GiveUp j) j phase.Claimed phase.GivenUp stage.Ended h.posts h.settled (h.owed - 1) len' b at (stage_at h.phases j phase.Claimed at) refl refl (λ _. refl) (λ k. refl)
+    moves h (event.GiveUp j) j phase.Claimed phase.GivenUp stage.Ended (posted h) h.versions h.settled (h.owed - 1) len' b b.versions at (stage_at h.phases j phase.Claimed at) refl refl (λ _. refl) (λ k. refl)
     (still_below h b j phase.Claimed phase.GivenUp at (λ e. absurd (cc))) (omega (arith, owed)) one (omega (arith, owed))
 
 -- a job that the committer has
@@ -201,19 +226,24 @@ one_more xs n lt below k less = by_test (k == n) refl
         let apart : n ≡ k → ⊥ = λ z. (let t : (k == n) ≡ true = eq-eqb k n (sym z) in absurd (cc)) in
         slice_get-set_other xs n k phase.Settled apart ∙ below k (let ne : k ≢ n = (λ z. apart (sym z)) in omega arith)
 
-pub settles : {S : _} (h : Held S) (j : ℕ) (p : Phase S) (d : Changes) (o : Outcome) (left len' : ℕ)
-    → IsBoard h → j ≡ h.settled → can_settle (slice_get h.phases j) ≡ true → slice_get h.phases j ≡ Some p → left ≡ weight_of (stage_of p) → len' ≡ h.len + 1
-    → IsBoard (record h { posts = insert h.posts j (record { delta = d; outcome = o }); stages = set h.stages j stage.Settled; phases = set h.phases j phase.Settled; settled = h.settled + 1; owed = h.owed - left; journal = h.journal ++ event.Settle j d o ∷ []; len = len' })
-settles h j p d o left len' b next can at weighed one =
+pub settles : {S : _} (h : Held S) (j : ℕ) (p : Phase S) (d : Changes) (o : Outcome) (v : Floored) (left len' : ℕ)
+    → IsBoard h → IsRaised (record h.versions { posts = insert h.versions.posts j (record { delta = d; outcome = o }) }) (j + 1) v → j ≡ h.settled → can_settle (slice_get h.phases j) ≡ true → slice_get h.phases j ≡ Some p → left ≡ weight_of (stage_of p) → len' ≡ h.len + 1
+    → IsBoard (record h { start = v.start; versions = v; stages = set h.stages j stage.Settled; phases = set h.phases j phase.Settled; settled = h.settled + 1; owed = h.owed - left; journal = h.journal ++ event.Settle j d o ∷ []; len = len' })
+settles h j p d o v left len' b raised next can at weighed one =
     let f = fronts h.phases j can in
     let same : f.phase ≡ p = same_Some f.phase p (sym f.at ∙ at) in
     let w : weight_of (stage_of f.phase) ≡ weight_of (stage_of p) = ap (λ (x : Phase _). weight_of (stage_of x)) same in
     let owed : weight_of (stage_of p) ≤ h.owed = owes h b j p at in
     let fw = f.weight in
-    moves h (event.Settle j d o) j p phase.Settled stage.Settled (insert h.posts j (record { delta = d; outcome = o })) (h.settled + 1) (h.owed - left) len' b at
+    let posted_at = at_post (record { start = h.start; posts = posted h }) h.versions h.settled j (record { delta = d; outcome = o }) (omega (arith, next)) b.versions in
+    let there = at_raise (record { start = h.start; posts = insert (posted h) j (record { delta = d; outcome = o }) }) (record h.versions { posts = insert h.versions.posts j (record { delta = d; outcome = o }) }) v h.settled (j + 1) (omega (arith, next)) posted_at raised in
+    subst (λ (s : State). IsBoard (record h { start = s; versions = v; stages = set h.stages j stage.Settled; phases = set h.phases j phase.Settled; settled = h.settled + 1; owed = h.owed - left; journal = h.journal ++ event.Settle j d o ∷ []; len = len' }))
+    (sym (raised.start ∙ b.versions.start))
+    (moves h (event.Settle j d o) j p phase.Settled stage.Settled (insert (posted h) j (record { delta = d; outcome = o })) v (h.settled + 1) (h.owed - left) len' b
+    (subst (λ (n : ℕ). IsAt (record { start = h.start; posts = insert (posted h) j (record { delta = d; outcome = o }) }) (n + 1) v) next there) at
     (next, fronts_stage h.phases j f) refl refl (λ e. absurd (cc)) (λ k. refl)
     (subst (λ (i : ℕ). (k : ℕ) → k < h.settled + 1 → slice_get (set h.phases i phase.Settled) k ≡ Some phase.Settled) (sym next) (one_more h.phases h.settled (subst (λ (i : ℕ). i < length h.phases) next (within h j p at)) b.below))
-    (omega (arith, owed, weighed)) one (omega (arith, owed, weighed, w, fw))
+    (omega (arith, owed, weighed)) one (omega (arith, owed, weighed, w, fw)))
 
 pub stops : {S : _} (h : Held S) (len' : ℕ)
     → IsBoard h → h.stopped ≡ false → len' ≡ h.len + 1
@@ -223,7 +253,8 @@ stops h len' b not_yet one =
     let P : Replay → Type 0 = λ t. May h.start h.waits t event.Stop in
     let w : stop_weight h.stopped ≡ 1 = ap stop_weight not_yet in
     record {
-      replayed = replay-append r h.journal event.Stop ∙ ap (λ t. after t event.Stop) b.replayed;
+      replayed = replayed_now r (h.journal ++ event.Stop ∷ []) (map stage_of h.phases) (posted h) h.settled true (replay-append r h.journal event.Stop ∙ ap (λ t. after t event.Stop) b.replayed);
+      versions = subst (λ (ps : Posts). IsAt (record { start = h.start; posts = ps }) h.settled h.versions) (sym (ap (λ (t : Replay). t.posts) (replay-append r h.journal event.Stop))) b.versions;
       legal = legal-append h.start h.waits r h.journal event.Stop b.legal (subst P (sym b.replayed) not_yet);
       staged = b.staged;
       owed_is = omega (arith, b.owed_is, w);
@@ -250,8 +281,12 @@ asked_test xs j k old e lt is false q =
 asked_set : (xs : List (List Entry)) (j k : ℕ) (old : List Entry) (e : Entry) → j < length xs → get_or xs k [] ≡ old → get_or (set xs j (get_or xs j [] ++ e ∷ [])) k [] ≡ old ++ (if j == k then e ∷ [] else [])
 asked_set xs j k old e lt is = asked_test xs j k old e lt is (j == k) refl
 
+-- what is merged answers as all the posts do
+pub asked_now : {S : _} (h : Held S) → IsBoard h → (j : ℕ) (q : Question) → slice_get h.phases j ≡ Some phase.Claimed → looked_over h.versions j q ≡ looked (record { start = h.start; posts = posted h }) j q
+asked_now h b j q runs = at_look (record { start = h.start; posts = posted h }) h.versions h.settled j (not_below h b j phase.Claimed runs (λ e. absurd (cc))) b.versions q
+
 pub asks : {S : _} (h : Held S) (j : ℕ) (e : Entry) (was more : List Entry) (len' cap' : ℕ)
-    → IsBoard h → slice_get h.phases j ≡ Some phase.Claimed → e.answer ≡ looked (record { start = h.start; posts = h.posts }) j e.question
+    → IsBoard h → slice_get h.phases j ≡ Some phase.Claimed → e.answer ≡ looked_over h.versions j e.question
     → was ≡ get_or h.asked j was → more ≡ was ++ e ∷ [] → len' + h.owed ≤ cap'
     → IsBoard (record h { asked = set h.asked j more; journal = h.journal ++ event.Ask j e ∷ []; len = len'; cap = cap' })
 asks h j e was more len' cap' b runs right at put room =
@@ -261,8 +296,9 @@ asks h j e was more len' cap' b runs right at put room =
     let lt' : j < length h.asked = omega (arith, b.phases_len, b.asked_len) in
     let goes : more ≡ get_or h.asked j [] ++ e ∷ [] = put ∙ ap (λ (ys : List Entry). ys ++ e ∷ []) (at ∙ get_or_any h.asked j was [] lt') in
     record {
-      replayed = replay-append r h.journal (event.Ask j e) ∙ b.replayed;
-      legal = legal-append h.start h.waits r h.journal (event.Ask j e) b.legal (subst P (sym b.replayed) (stage_at h.phases j phase.Claimed runs, right));
+      replayed = replayed_now r (h.journal ++ event.Ask j e ∷ []) (map stage_of h.phases) (posted h) h.settled h.stopped (replay-append r h.journal (event.Ask j e) ∙ b.replayed);
+      versions = subst (λ (ps : Posts). IsAt (record { start = h.start; posts = ps }) h.settled h.versions) (sym (ap (λ (t : Replay). t.posts) (replay-append r h.journal (event.Ask j e)))) b.versions;
+      legal = legal-append h.start h.waits r h.journal (event.Ask j e) b.legal (subst P (sym b.replayed) (stage_at h.phases j phase.Claimed runs, right ∙ asked_now h b j e.question runs));
       staged = b.staged;
       owed_is = b.owed_is;
       room = room;
@@ -284,6 +320,7 @@ unasked h j was new len' cap' b at is room =
     let same : set h.asked j new ≡ h.asked = ap (set h.asked j) (is ∙ at) ∙ set-get_or h.asked j was in
     record {
       replayed = b.replayed;
+      versions = b.versions;
       legal = b.legal;
       staged = b.staged;
       owed_is = b.owed_is;
@@ -308,14 +345,15 @@ no_usage zero k = refl
 no_usage (suc n) zero = refl
 no_usage (suc n) (suc k) = no_usage n k
 
-pub starts : {S : _} (start : State) (posts : Posts) (waits : List (List ℕ)) (stages : List Stage) (phases : List (Phase S)) (asked : List (List Entry)) (n cap : ℕ)
-    → posts ≡ empty → stages ≡ replicate (length waits) stage.Free → phases ≡ replicate n phase.Free → asked ≡ replicate n [] → n ≡ length waits → n < 2 ^ 32 → ((j : ℕ) → All (λ k. k < j) (slice_index_or waits j [])) → 3 * n + 1 ≤ cap
-    → IsBoard (record { start = start; posts = posts; waits = waits; stages = stages; phases = phases; asked = asked; settled = 0; stopped = false; owed = 3 * n + 1; journal = []; len = 0; cap = cap })
-starts start posts waits ss phases asked n cap none free is empty_lists len small lower room =
+pub starts : {S : _} (start : State) (versions : Floored) (waits : List (List ℕ)) (stages : List Stage) (phases : List (Phase S)) (asked : List (List Entry)) (n cap : ℕ)
+    → versions ≡ record { start = start; floor = 0; merged = empty; posts = empty } → stages ≡ replicate (length waits) stage.Free → phases ≡ replicate n phase.Free → asked ≡ replicate n [] → n ≡ length waits → n < 2 ^ 32 → ((j : ℕ) → All (λ k. k < j) (slice_index_or waits j [])) → 3 * n + 1 ≤ cap
+    → IsBoard (record { start = start; versions = versions; waits = waits; stages = stages; phases = phases; asked = asked; settled = 0; stopped = false; owed = 3 * n + 1; journal = []; len = 0; cap = cap })
+starts start versions waits ss phases asked n cap none free is empty_lists len small lower room =
     let all_free : map stage_of phases ≡ replicate n stage.Free = ap (map stage_of) is ∙ map-replicate stage_of n phase.Free in
     let at : List Stage → Posts → Replay = λ x y. record { stages = x; posts = y; settled = 0; stopped = false } in
     record {
-      replayed = ap first (sym len) ∙ ap (λ (x : List Stage). at x empty) (sym all_free) ∙ ap (at (map stage_of phases)) (sym none);
+      replayed = ap first (sym len) ∙ ap (λ (x : List Stage). at x empty) (sym all_free);
+      versions = subst (λ (v : Floored). IsAt (record { start = start; posts = empty }) 0 v) (sym none) (at_first start);
       legal = tt;
       staged = free ∙ ap (λ (k : ℕ). replicate k stage.Free) (sym len) ∙ sym all_free;
       owed_is = omega (arith, ap (sum_by weight_of) all_free, sum_by-replicate weight_of n stage.Free);
@@ -350,9 +388,10 @@ pub takes : {S : _} (h : Held S) (j : ℕ) (p : Phase S)
 takes h j p b is ends =
     let was : get_or h.phases j p ≡ p = get_or_from_slice_get h.phases j p p is in
     let same : map stage_of (set h.phases j phase.Taken) ≡ map stage_of h.phases = map-set_same stage_of h.phases j phase.Taken p (sym ends ∙ ap stage_of (sym was)) in
-    let at : List Stage → Replay = λ x. record { stages = x; posts = h.posts; settled = h.settled; stopped = h.stopped } in
+    let at : List Stage → Replay = λ x. record { stages = x; posts = posted h; settled = h.settled; stopped = h.stopped } in
     record {
       replayed = b.replayed ∙ ap at (sym same);
+      versions = b.versions;
       legal = b.legal;
       staged = b.staged ∙ sym same;
       owed_is = omega (arith, b.owed_is, ap (sum_by weight_of) same);

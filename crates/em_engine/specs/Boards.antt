@@ -3,11 +3,12 @@
 --     Seen                 what contracts see: the start, what each job waits for, the journal, the phases
 --     told b               what the journal comes to
 --     Held, IsBoard        the fields, and what holds of them: the journal is legal, the phases and what is posted are its replay,
---                          and there is room for the events that may still come
+--                          where the posts of the settled jobs are merged, and there is room for the events that may still come
 use Rattle.std.specs.Prelude.{◌≡◌, ◌<◌, ◌≤◌, ◌+◌, ◌^◌, ℕ, List, [], Option, Some, None, Bool, true, false, All, slice_get, slice_index_or, map, length}
 use Rattle.em_tree.specs.declared.state.State.{State}
 use Rattle.em_tree.specs.declared.question.Entry.{Entry}
-use Rattle.em_chain.specs.Posts.{Posts}
+use Rattle.em_chain.specs.Posts.{Posts, Floored}
+use Rattle.em_chain.specs.Floors.{IsAt}
 use Rattle.em_engine.specs.declared.event.Event.{Event}
 use Rattle.em_engine.specs.declared.event.Phase.{Phase}
 use Rattle.em_engine.specs.declared.event.Phase.TheVariants as phase
@@ -49,7 +50,7 @@ stages b = map stage_of b.phases
 
 pub record Held (S : Type 0) : Type 0 where
   pub start : State
-  pub posts : Posts
+  pub versions : Floored
   pub waits : List (List ℕ)
   pub stages : List Stage
   pub phases : List (Phase S)
@@ -61,12 +62,16 @@ pub record Held (S : Type 0) : Type 0 where
   pub len : ℕ
   pub cap : ℕ
 
+abbrev pub posted : {S : _} → Held S → Posts
+posted h = (replay (first (length h.waits)) h.journal).posts
+
 -- what the fields say that the journal comes to
 abbrev pub now : {S : _} → Held S → Replay
-now h = record { stages = map stage_of h.phases; posts = h.posts; settled = h.settled; stopped = h.stopped }
+now h = record { stages = map stage_of h.phases; posts = posted h; settled = h.settled; stopped = h.stopped }
 
 pub record IsBoard {S : _} (h : Held S) : Type 0 where
   pub replayed : replay (first (length h.waits)) h.journal ≡ now h
+  pub versions : IsAt (record { start = h.start; posts = posted h }) h.settled h.versions
   pub legal : IsLegal h.start h.waits (first (length h.waits)) h.journal
   pub staged : h.stages ≡ map stage_of h.phases
   pub owed_is : h.owed ≡ owed_of (now h)

@@ -20,7 +20,8 @@ use std::mem;
 
 /// Jobs, what was posted of them, and the journal of all that happened. Its type keeps that the journal is
 /// legal, that what is posted and the phases are its replay, but for what was taken, and that there is room
-/// for the events of all later calls but asks. So claims, `give_up`, `take` and `stop` take no memory.
+/// for the events of all later calls but asks. So claims, `give_up`, `take` and `stop` take no memory. What the
+/// settled jobs have posted is merged: no job that is claimed stands below them.
 #[derive(Drop)]
 pub struct Board<S: Spec> {
     alloc: Global,
@@ -55,7 +56,7 @@ impl<S: Spec> Model for Board<S> {
 
     ghost invariant = { λ b. IsBoard (record {
       start = b.versions.start;
-      posts = b.versions.posts;
+      versions = b.versions;
       waits = b.ready.waits;
       stages = b.ready.stages;
       phases = b.phases.items;
@@ -266,8 +267,8 @@ impl<S: Spec> Board<S> {
     }
 
     /// Settles the next job, which the committer has: what it changes and how it ended stand in place of what
-    /// was posted. Where memory runs out nothing changes. Steps for each change, and for each job that waits
-    /// for this one.
+    /// was posted, and are merged with what the jobs before it have. Where memory runs out nothing changes.
+    /// Steps for each change, and for each job that waits for this one.
     pub fn settle(&mut self, job: u32, d: Delta, o: Outcome) -> Result<(), NoMemory>
         requires next { job ≡ (told self.old).settled }
         requires fronted { can_settle (slice_get self.old.phases job) ≡ true }
@@ -277,6 +278,7 @@ impl<S: Spec> Board<S> {
         let posted = post_of(self.alloc, &d, &o)?;
         let left = left_of(&self.phases[job as usize]);
         self.versions.post(job, posted.delta, posted.outcome)?;
+        self.versions.raise(job + 1);
         self.journal.push_reserved(Event::Settle(job, d, o));
         self.ready.settle(job);
         self.phases[job as usize] = Phase::Settled;

@@ -1,11 +1,9 @@
 use Rattle.std.proofs.Common.{◌≡◌, ◌∙◌, arith, subst, sym, ap, Some, slice_get, List, ◌++◌, ◌∷◌, []}
 use Rattle.em_tree.specs.declared.question.Entry.{Entry}
 use Rattle.em_engine.specs.declared.event.Phase.TheVariants as phase
-use Rattle.em_chain.specs.Looking.{looked}
-use Rattle.em_engine.specs.Journal.{Replay}
 use Rattle.em_engine.specs.Boards.{Seen}
 use Rattle.em_engine.specs.Calls.{entry}
-use Rattle.em_engine.proofs.Steps.{asks, unasked}
+use Rattle.em_engine.proofs.Steps.{asks, unasked, asked_now}
 use Rattle.em_engine.proofs.board.Board.ask.Goals as goal
 
 pub invariant_of-self-2 : goal.invariant_of-self-2
@@ -23,5 +21,6 @@ invariant_of-self-in_err-push g c =
 
 pub returns-clause-answer : goal.returns-clause-answer
 returns-clause-answer g c =
-    rw (← c.self.view_is) (c.in_ok-answer.ensures.ok
-    ∙ ap (λ (r : Replay). looked (record { start = c.self.inside.versions.start; posts = r.posts }) c.args.job c.args.q.now) (sym c.self.invariant.replayed))
+    let P : Seen g.row.S.Denot → Type 0 = λ b. slice_get b.phases c.args.job ≡ Some phase.Claimed in
+    let at = subst P (sym c.self.view_is) c.requires in
+    rw (← c.self.view_is) (c.in_ok-answer.ensures.ok ∙ asked_now _ c.self.invariant c.args.job c.args.q.now at)

@@ -1,4 +1,8 @@
-use Rattle.std.proofs.Common.{arith}
+use Rattle.std.proofs.Common.{◌+◌, ◌∙◌, ap, subst, arith}
+use Rattle.std.specs.FinMap.{insert}
+use Rattle.em_chain.specs.declared.post.Post.{Post}
+use Rattle.em_chain.specs.Posts.{Floored}
+use Rattle.em_chain.specs.Floors.{IsRaised}
 use Rattle.em_engine.proofs.Steps.{settles, settling, left_owed, read_at}
 use Rattle.em_engine.proofs.board.Board.settle.Goals as goal
 
@@ -6,8 +10,11 @@ pub invariant_of-self-2 : goal.invariant_of-self-2
 invariant_of-self-2 g c =
     let s = settling _ c.self.invariant _ c.self.view_is c.args.job c.requires.next c.requires.fronted in
     let at = read_at c.self.inside.phases.items c.args.job c.index.result.now s.within c.index.ensures in
-    rw (c.in_ok-post.ensures.ok, c.in_ok-posted.ensures, c.push_reserved.ensures.items, c.push_reserved.ensures.capacity, c.settle.ensures)
-    (settles _ c.args.job c.index.result.now c.args.d c.args.o c.left_of-left.result _ c.self.invariant s.next s.can at c.left_of-left.ensures c.push_reserved.ensures.len)
+    let ps = c.self.inside.versions.posts in
+    let put : Post → Floored = λ x. record c.self.inside.versions { posts = insert ps c.args.job x } in
+    let raised = subst (λ (v : Floored). IsRaised v (c.args.job + 1) c.raise.new.self) (c.in_ok-post.ensures.ok ∙ ap put c.in_ok-posted.ensures) c.raise.ensures in
+    rw (c.push_reserved.ensures.items, c.push_reserved.ensures.capacity, c.settle.ensures)
+    (settles _ c.args.job c.index.result.now c.args.d c.args.o c.raise.new.self c.left_of-left.result _ c.self.invariant raised s.next s.can at c.left_of-left.ensures c.push_reserved.ensures.len)
 
 pub index-requires : goal.index-requires
 index-requires g c =
@@ -33,3 +40,8 @@ overflow_sub-self g c =
 pub overflow_add-self : goal.overflow_add-self
 overflow_add-self g c =
     let s = settling _ c.self.invariant _ c.self.view_is c.args.job c.requires.next c.requires.fronted in omega (arith, s.small)
+
+pub overflow_add-job : goal.overflow_add-job
+overflow_add-job g c =
+    let s = settling _ c.self.invariant _ c.self.view_is c.args.job c.requires.next c.requires.fronted in
+    omega (arith, s.within, c.self.invariant.phases_len, c.self.invariant.small)
