@@ -16,14 +16,15 @@ use std::{fs, io, str};
 /// How many writes one call makes at most. One that needs more fails.
 const MOST_TURNS: u64 = 4_294_967_296;
 
-/// How many names are tried for a new file.
-const MOST_NAMES: u32 = 1_000;
+/// How many names are tried for a new file. Those of files that earlier runs left are passed over.
+const MOST_NAMES: u32 = 1_000_000;
 
 /// The system's files, and standard output. Contracts see how many calls have failed.
 ///
 /// A name is a path of the system, in UTF-8: any other name fails. A file is replaced by a new file
-/// in the same folder that is renamed over it, so the old one stands whole until the new one does.
-/// The new file has the permissions that the system gives to new files.
+/// in the same folder that is brought to the disk and then renamed over it, so the old one stands
+/// whole until the new one does. Then the folder is brought to the disk too, so that after Ok a crash
+/// leaves the new one. The new file has the permissions that the system gives to new files.
 #[derive(Drop)]
 pub struct RealHost<R> {
     rt: R,
@@ -95,9 +96,12 @@ fn take_file<R: Files>(rt: &R, alloc: Global, name: &[u8]) -> Result<Option<Vec<
 }
 
 /// Makes the file these bytes, by a new file beside it and a rename. That on Err it is as before and no other file was touched
-/// rests on the system's rename and isn't proved.
+/// rests on the system's rename and isn't proved. It isn't so where the folder alone can't be brought to the disk: then the
+/// file is new and the answer an error.
 fn replace_file<R: Files>(rt: &R, alloc: Global, name: &[u8], bytes: &[u8]) -> Result<(), HostNo> {
     let path = path_of(name)?;
+    // Opened first: where the folder can't be, nothing is done.
+    let folder = fs::open(rt, folder_of(path))?;
     let (mut file, new) = create_beside(rt, alloc, path)?;
     let filled = fill(&mut file, bytes);
     drop(file);
@@ -106,7 +110,17 @@ fn replace_file<R: Files>(rt: &R, alloc: Global, name: &[u8], bytes: &[u8]) -> R
         // Nothing more can be done about a new file that can't be removed either.
         let _ = fs::remove_file(rt, new.as_path());
     }
-    moved
+    moved?;
+    folder.sync_all()?;
+    Ok(())
+}
+
+/// The folder in which the last name of this path stands.
+fn folder_of(path: &str) -> &str {
+    match Path::new(path).parent() {
+        Some(folder) if !folder.as_str().is_empty() => folder.as_str(),
+        _ => ".",
+    }
 }
 
 /// A new file in the folder of this path, with its own path. No file that is there is touched.

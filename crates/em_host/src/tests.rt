@@ -73,6 +73,29 @@ fn a_memory_host_keeps_files_output_and_calls(rt: HostRuntime) -> Result<(), Fai
     Ok(())
 }
 
+/// What an earlier run left half written, under the first name that is tried.
+#[test]
+fn a_half_written_file_is_no_obstacle(rt: HostRuntime) -> Result<(), Fail> {
+    std::fs::create_dir(&rt, "em_host.left")?;
+    std::fs::write(&rt, "em_host.left/.emake-new-0", b"half")?;
+    let mut host = RealHost::new(rt.clone()?);
+    for bytes in [b"old".as_slice(), b"", b"new"] {
+        host.replace(rt.alloc(), b"em_host.left/i", bytes)?;
+        let taken = host.take(rt.alloc(), b"em_host.left/i")?.ok_or("absent")?;
+        assert_eq!(rt; taken.as_slice(), bytes);
+    }
+    assert_eq!(rt;
+        std::fs::read(&rt, "em_host.left/.emake-new-0")?.as_slice(),
+        b"half".as_slice()
+    );
+    assert!(rt; !std::fs::exists(&rt, "em_host.left/.emake-new-1")?);
+    // Removes only what is empty: so nothing else was left.
+    std::fs::remove_file(&rt, "em_host.left/i")?;
+    std::fs::remove_file(&rt, "em_host.left/.emake-new-0")?;
+    std::fs::remove_dir(&rt, "em_host.left")?;
+    Ok(())
+}
+
 #[test]
 fn a_real_host_reaches_files_and_the_output(rt: HostRuntime) -> Result<(), Fail> {
     let mut host = RealHost::new(rt.clone()?);
