@@ -14,7 +14,11 @@ use Rattle.std.specs.Map.{lookup, keys_of}
 use Rattle.std.specs.BTreeMap.{BTreeMap, is_at, UpdatesBy, WritesThrough}
 use Rattle.em_path.specs.Paths.{parent_text}
 use Rattle.em_tree.specs.declared.node.Node.{Node}
-use Rattle.em_tree.specs.Index.{Children, IsIndex, has_child, is_parent}
+use Rattle.std.specs.BTreeMap as tree
+use Rattle.std.specs.BTreeSet.{BTreeSet}
+use Rattle.std.specs.List.{list_any}
+use Rattle.std.specs.Ordering.{is_eq}
+use Rattle.em_tree.specs.Index.{Children, IsIndex, has_child, is_in, is_parent}
 use Rattle.em_tree.proofs.Maps.{order, exact, entries_is, path_found, path_put, path_taken}
 use Rattle.em_tree.proofs.Tables.{same_key}
 use Rattle.em_tree.proofs.Indexes.{IsIndex-same, IsIndex-put, IsIndex-new, IsIndex-back, IsIndex-gone, IsIndex-empty, some_is}
@@ -243,3 +247,18 @@ erase_all j t p q none = here (without j) t p q [] (is_nothing (without j (chain
 pub no_line : {A : Type 0} (o : Option A) → is_some o ≡ false → o ≡ None
 no_line None h = refl
 no_line (Some x) h = absurd (cc)
+
+-- a directory's set that is empty may go
+pub emptied_set : (m n o : Children) (parent : List ℕ) (s : BTreeSet (List ℕ)) (p k : List ℕ) → tree.get order n p ≡ cond (is_eq (order parent p)) (Some s) (tree.get order m p)
+    → tree.get order o p ≡ cond (is_eq (order parent p)) None (tree.get order n p) → length s.keys ≡ 0 → has_child o p k ≡ has_child n p k
+emptied_set m n o parent s p k written gone none = ap (λ (x : Option (BTreeSet (List ℕ))). is_in x k) gone ∙ by_case (is_eq (order parent p)) refl
+  where
+    is_nothing : (ks : List (List ℕ)) → length ks ≡ 0 → ks ≡ []
+    is_nothing [] e = refl
+    is_nothing (q ∷ ks) h = absurd (omega arith)
+
+    by_case : (b : Bool) → is_eq (order parent p) ≡ b → is_in (cond b None (tree.get order n p)) k ≡ has_child n p k
+    by_case true e =
+        sym (ap (λ (x : Option (BTreeSet (List ℕ))). is_in x k) (written ∙ ap (λ b. cond b (Some s) (tree.get order m p)) e)
+        ∙ ap (list_any (λ q. is_eq (order k q))) (is_nothing s.keys none))
+    by_case false e = refl

@@ -41,14 +41,18 @@ fn add(children: &mut Children, alloc: Global, parent: Path, child: Path) -> Res
     Ok(())
 }
 
-/// Takes a child out.
+/// Takes a child out, and the parent with its last one.
 fn take(children: &mut Children, parent: &Path, child: &Path)
     ensures { (p k : List ℕ) → has_child children.new p k
         ≡ (has_child children.old p k && not (eq_by_cmp (slice_cmp nat_cmp) p parent.now
         && eq_by_cmp (slice_cmp nat_cmp) k child.now)) }
 {
-    if let Some(paths) = children.get_mut(parent) {
-        paths.remove(child);
+    let Some(paths) = children.get_mut(parent) else {
+        return;
+    };
+    paths.remove(child);
+    if paths.is_empty() {
+        children.remove(parent);
     }
 }
 
