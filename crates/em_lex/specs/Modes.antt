@@ -37,7 +37,7 @@ between s b =
     else if begins_operator b.code then begun (Operating b.code) b.at s
     else gathered (begun Head b.at s) b.code
 
--- a quote, a backquote or the argument's `}`, opened or closed
+-- a quote or a backquote opens
 abbrev pub quote_opened : Frame → Byte → Lexer → Lexer
 quote_opened f b s = pushed f (begun Gathering b.at s)
 

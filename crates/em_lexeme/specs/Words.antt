@@ -28,11 +28,12 @@ reserved word =
     else if bytes_eq word (codes "}") then Some RightBrace
     else None
 
--- how many bytes the name has with which a text begins
+-- the text begins with a name
 abbrev pub starts_name : List ℕ → Bool
 starts_name [] = false
 starts_name (b ∷ bs) = begins_name b
 
+-- how many bytes the name has with which a text begins
 abbrev pub name_length : List ℕ → ℕ
 name_length text = if starts_name text then prefix_len is_in_name text else 0
 
