@@ -27,6 +27,38 @@ fn lines_have_trees(rt: HostRuntime) -> Result<(), Fail> {
     Ok(())
 }
 
+/// The line within a command substitution.
+fn substituted(alloc: Global, line: &str) -> Result<Text, NoMemory> {
+    let mut text = Text::new(alloc);
+    text.add(b"$( ")?;
+    text.add(line.as_bytes())?;
+    text.add(b"\n)")?;
+    Ok(text)
+}
+
+/// Whether the line within a substitution is a line.
+fn is_list(alloc: Global, line: &str) -> Result<bool, NoMemory> {
+    let text = substituted(alloc, line)?;
+    Ok(parse(alloc, text.bytes()).is_ok())
+}
+
+/// The same lines as lists of command substitutions, which end where the list does.
+#[test]
+fn lists_end_with_their_substitution(rt: HostRuntime) -> Result<(), Fail> {
+    let alloc = rt.alloc();
+    for (line, _) in &TREES {
+        assert!(rt; is_list(alloc, line)?, "{line}");
+    }
+    assert!(rt;
+        is_tree(
+            alloc,
+            "$(case x in a|\nb) c;; esac)",
+            "|[ -$(|case x< a b>(|[ c];);)];"
+        )?
+    );
+    Ok(())
+}
+
 /// A construct's mark, or its name.
 fn name_of(construct: &Construct) -> &'static str {
     match construct {

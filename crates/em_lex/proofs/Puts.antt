@@ -13,7 +13,7 @@ use Rattle.em_lexeme.specs.declared.spot.Spot.{Spot}
 use Rattle.em_lexeme.specs.declared.spot.Spot.TheVariants.{Command, Operand, Duplicate, Subject, Inside, Item, Pattern}
 use Rattle.em_lexeme.specs.Frames.{is_cases, without_cases, is_quoted, is_quoting}
 use Rattle.em_lexeme.specs.Operators.{pair, single, zero_in, zero_at}
-use Rattle.em_lexeme.specs.Spots.{is_item, is_pattern, spot_behind, joins, is_case, is_esac, is_in, spot_in, cases_in, opens_cases, closes_cases}
+use Rattle.em_lexeme.specs.Spots.{is_item, is_pattern, spot_past, spot_behind, joins, is_case, is_esac, is_in, spot_in, cases_in, opens_cases, closes_cases}
 use Rattle.em_lexeme.specs.Words.{reserved, whole_start, front_start, is_assigning, assignment_length, descriptor, is_number, is_dash}
 use Rattle.em_lex.specs.declared.state.Byte.{Byte}
 use Rattle.em_lex.specs.declared.state.Lexer.{Lexer}
@@ -114,6 +114,11 @@ pub substitution_start : (quoted : Bool) → Ordinary (SubstitutionStart quoted)
 substitution_start quoted = record { sized = λ m from to h. h; least = λ at m. refl; zero = λ t at. tt }
 
 -- spots
+spot_past_fits : (t : List ℕ) (spot : Spot) → SpotFits t (spot_past spot)
+spot_past_fits t Item = tt
+spot_past_fits t Pattern = tt
+spot_past_fits t _ = tt
+
 pub spot_behind_fits : (t : List ℕ) (what : What) (f : Option Frame) (spot : Spot) (at : ℕ) → at < length t → SpotFits t (spot_behind what f spot at)
 spot_behind_fits t CaseEnd f spot at h = either (SpotFits t) (is_cases f) Item Command tt tt
 spot_behind_fits t Pipe f spot at h = either (SpotFits t) (is_pattern spot) Pattern Command tt tt
@@ -121,7 +126,7 @@ spot_behind_fits t Less f spot at h = tt
 spot_behind_fits t Great f spot at h = tt
 spot_behind_fits t DoubleGreat f spot at h = tt
 spot_behind_fits t GreatAnd f spot at h = h
-spot_behind_fits t Newline f spot at h = either (SpotFits t) (is_item spot) Item Command tt tt
+spot_behind_fits t Newline f spot at h = spot_past_fits t spot
 spot_behind_fits t _ f spot at h = tt
 
 spot_in_fits : (t : List ℕ) (spot : Spot) (w : Start) → SpotFits t (spot_in spot w)

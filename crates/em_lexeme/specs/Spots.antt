@@ -25,6 +25,12 @@ item_or_command item = if item then Item else Command
 abbrev pub pattern_or_command : Bool → Spot
 pattern_or_command pattern = if pattern then Pattern else Command
 
+-- behind a newline: one may stand before an item, and behind the `|` between patterns
+abbrev pub spot_past : Spot → Spot
+spot_past Item = Item
+spot_past Pattern = Pattern
+spot_past _ = Command
+
 -- behind an operator, which began at `at`: `;;` ends an item where a `case` is open, `|` stands
 -- between patterns too, and a redirection is part of a simple command
 abbrev pub spot_behind : What → Option Frame → Spot → ℕ → Spot
@@ -34,7 +40,7 @@ spot_behind Less f spot at = Operand
 spot_behind Great f spot at = Operand
 spot_behind DoubleGreat f spot at = Operand
 spot_behind GreatAnd f spot at = Duplicate at
-spot_behind Newline f spot at = item_or_command (is_item spot)
+spot_behind Newline f spot at = spot_past spot
 spot_behind _ f spot at = Command
 
 -- the reserved words behind which another may stand, or a command begins

@@ -49,7 +49,18 @@ pub fn spot_behind(what: &What, frame: Option<Frame>, spot: Spot, at: usize) -> 
         What::Great => Spot::Operand,
         What::DoubleGreat => Spot::Operand,
         What::GreatAnd => Spot::Duplicate(at),
-        What::Newline => item_or_command(is_item(spot)),
+        What::Newline => spot_past(spot),
+        _ => Spot::Command,
+    }
+}
+
+/// The spot behind a newline.
+fn spot_past(spot: Spot) -> Spot
+    ensures { result ≡ spots.spot_past spot }
+{
+    match spot {
+        Spot::Item => Spot::Item,
+        Spot::Pattern => Spot::Pattern,
         _ => Spot::Command,
     }
 }

@@ -46,7 +46,7 @@ valued_of reading.Head = codes "n"
 valued_of reading.Tail = codes "n"
 valued_of _ = []
 
--- the letter of this byte is given
+-- the n-th letter, by its byte, is given
 abbrev pub has : Options → ℕ → Bool
 has o letter = is_in o.letters letter
 
