@@ -35,8 +35,28 @@ fn versions(alloc: Global) -> Result<Versions, NoMemory> {
     Versions::new(alloc, start)
 }
 
+/// Posts for a job that isn't below the floor.
+fn put(v: &mut Versions, job: u32, d: Delta) -> Result<(), Fail> {
+    if job < v.floor() {
+        return Err("below the floor".into());
+    }
+    v.post(job, d, Outcome::Made)?;
+    Ok(())
+}
+
+fn raise(v: &mut Versions, to: u32) -> Result<(), Fail> {
+    if to < v.floor() {
+        return Err("below the floor".into());
+    }
+    v.raise(to);
+    Ok(())
+}
+
 /// The last job below this one that posted the path, if it was found by at most two steps.
 fn last(v: &Versions, job: u32, p: &Path) -> Result<Option<u32>, Fail> {
+    if job < v.floor() {
+        return Err("below the floor".into());
+    }
     let mut steps = Steps::new();
     let last = v.last(job, p, &mut steps);
     if steps.count() > 2 {
@@ -49,7 +69,7 @@ fn last(v: &Versions, job: u32, p: &Path) -> Result<Option<u32>, Fail> {
 fn the_last_job_below_is_found_in_two_steps(rt: HostRuntime) -> Result<(), Fail> {
     let mut v = versions(rt.alloc())?;
     for job in [3, 7, 1] {
-        v.post(job, delta(rt.alloc(), &[("/x", 5)])?, Outcome::Made)?;
+        put(&mut v, job, delta(rt.alloc(), &[("/x", 5)])?)?;
     }
     let x = path(rt.alloc(), b"/x")?;
     assert!(rt; last(&v, 4, &x)? == Some(3));
@@ -70,14 +90,14 @@ fn below_the_floor_a_path_keeps_its_last_job(rt: HostRuntime) -> Result<(), Fail
     for (job, text) in SEVEN.iter().enumerate() {
         let stamp = 10 + job as u64;
         let changes = delta(alloc, &[(*text, stamp), ("/", stamp)])?;
-        v.post(job as u32, changes, Outcome::Made)?;
+        put(&mut v, job as u32, changes)?;
     }
     assert!(rt; v.floor() == 0 && v.entries() == 14);
-    v.raise(0);
+    raise(&mut v, 0)?;
     assert!(rt; v.entries() == 14);
-    for job in 0..7 {
-        v.raise(job + 1);
-        assert!(rt; v.floor() == job + 1 && v.entries() == 14 - u64::from(job));
+    for (to, wanted) in [(1, 14), (2, 13), (3, 12), (4, 11), (5, 10), (6, 9), (7, 8)] {
+        raise(&mut v, to)?;
+        assert!(rt; v.floor() == to && v.entries() == wanted);
     }
     let root = path(alloc, b"/")?;
     assert!(rt; last(&v, 7, &root)? == Some(6));
@@ -103,12 +123,14 @@ struct Both {
 }
 
 fn withdraw(both: &mut Both, job: u32) {
-    both.fast.withdraw(job);
-    both.slow.retain(|post| post.0 != job);
+    if both.fast.floor() <= job {
+        both.fast.withdraw(job);
+        both.slow.retain(|post| post.0 != job);
+    }
 }
 
 fn post(alloc: Global, both: &mut Both, job: u32, changes: &[(&str, u64)]) -> Result<(), Fail> {
-    both.fast.post(job, delta(alloc, changes)?, Outcome::Made)?;
+    put(&mut both.fast, job, delta(alloc, changes)?)?;
     both.slow.retain(|post| post.0 != job);
     both.slow.push((job, delta(alloc, changes)?))?;
     Ok(())
@@ -157,14 +179,21 @@ fn told_stamp(answer: &Answer) -> Option<u64> {
     }
 }
 
+fn look(v: &Versions, job: u32, q: &Question) -> Result<Answer, Fail> {
+    if job < v.floor() {
+        return Err("below the floor".into());
+    }
+    Ok(v.look(job, q)?)
+}
+
 /// What a job is told of three paths and of the root's names.
 fn fast_log(alloc: Global, v: &Versions, job: u32) -> Result<String, Fail> {
     let mut log = String::new(alloc);
     for text in ["/d", "/x", "/z"] {
         let question = Question::Stamp(path(alloc, text.as_bytes())?);
-        show_stamp(&mut log, told_stamp(&v.look(job, &question)?))?;
+        show_stamp(&mut log, told_stamp(&look(v, job, &question)?))?;
     }
-    show_names(&mut log, &v.look(job, &Question::Names(Path::root()))?)?;
+    show_names(&mut log, &look(v, job, &Question::Names(Path::root()))?)?;
     Ok(log)
 }
 
@@ -229,13 +258,13 @@ fn looks_agree_above_a_floor(rt: HostRuntime) -> Result<(), Fail> {
     post(alloc, &mut both, 3, &[("/x", 0), ("/z", 4)])?;
     post(alloc, &mut both, 4, &[("/z", 5)])?;
     post(alloc, &mut both, 7, &[("/x", 3), ("/d", 0)])?;
-    both.fast.raise(2);
+    raise(&mut both.fast, 2)?;
     assert!(rt; agree(alloc, &both)?);
     post(alloc, &mut both, 3, &[("/z", 8)])?;
-    both.fast.raise(4);
+    raise(&mut both.fast, 4)?;
     assert!(rt; agree(alloc, &both)?);
     withdraw(&mut both, 7);
-    both.fast.raise(8);
+    raise(&mut both.fast, 8)?;
     assert!(rt; agree(alloc, &both)?);
     Ok(())
 }

@@ -49,6 +49,11 @@ outcomes_after : (s : State) (made : List Made) → (state_after s made).outcome
 outcomes_after s [] = sym (append-nil s.outcomes)
 outcomes_after s (m ∷ ms) = outcomes_after (after m.effect s) ms ∙ append_assoc s.outcomes (m.effect.outcome ∷ []) (outcomes_of ms)
 
+-- a serial run is whole
+pub whole_by : (early : Bool) (m n : ℕ) → (early ≡ false → m ≡ n) → (early || m == n) ≡ true
+whole_by true m n h = refl
+whole_by false m n h = let e : m ≡ n = h refl in grind (arith, e)
+
 module _ (p : Project) (ready : IsReady p) where
   ended_so : (made : List Made) → Ran Makes ends p.start p.specs made → has_ended p.terms.order (state_after p.start made).outcomes ≡ is_early p made
   ended_so made ran =
@@ -56,10 +61,6 @@ module _ (p : Project) (ready : IsReady p) where
       ∙ sym (early_by (flags_of p.terms.order) p.start p.specs made ready.flags ran)
 
   -- ---- the build
-
-  whole_by : (early : Bool) (m n : ℕ) → (early ≡ false → m ≡ n) → (early || m == n) ≡ true
-  whole_by true m n h = refl
-  whole_by false m n h = let e : m ≡ n = h refl in grind (arith, e)
 
   module _ {d : Built} {x y : Option Outside} (b : Builds Makes ends p.start p.specs p.terms.order.workers (Ok d) x y) where
     follows : {early : Bool} {r : Result Verdict Stop} {z : Option Outside} → early ≡ has_ended p.terms.order d.state.outcomes → Follows (finish p.terms d.notes d.fuel early d.state) r y z → Follows (building p b.made d.notes) r x z

@@ -36,7 +36,7 @@ use Rattle.emake.proofs.Working.{same_end, if_ok, on_err, ok_err}
 -- the verdict alone
 told_verdict : (steps : Trace Tally) (r : Result Finished Stop) (y z : Outside) → Meets steps (tally_in r) y z → Meets (go_on steps.calls steps.end (λ t. done t.verdict) y.files) (verdict_in r) y z
 unfolding done
-told_verdict steps (Ok f) y z h = then_does (λ t. done t.verdict) steps (record { verdict = f.verdict; jobs = f.jobs; nodes = f.nodes }) (Ok f.verdict) y z z h (record { same = refl; made = makes_none z })
+told_verdict steps (Ok f) y z h = then_does (λ t. done t.verdict) steps (record { verdict = f.verdict; jobs = f.jobs; nodes = f.nodes; whole = true }) (Ok f.verdict) y z z h (record { same = refl; made = makes_none z })
 told_verdict steps (Err e) y z h = leave_does (λ t. done t.verdict) steps e y z h
 
 module _ (words : List (List ℕ)) (s : Site) (r : Result Finished Stop) (a b c : Option Outside) where

@@ -41,6 +41,7 @@ use Rattle.emake.specs.Closing.{code_of, closing}
 use Rattle.emake.specs.Course.{Trace, Course, go_on, ◌>>=◌, done, quit, say, say_all, keep, stop, Ends, Meets, Follows}
 use Rattle.emake.specs.Messages.{image_line, summary}
 use Rattle.emake.specs.Projects.{as_dir, as_path, entered, as_book, book_of, as_plan, planned, site, project, project_in}
+use Rattle.emake.proofs.Building.{whole_by}
 use Rattle.emake.specs.Endings.{closed, written, kept, history_kept, report_kept, replaced, finish, fuel_of, is_early, is_whole, building, verdict_in, notes_in, IsWhole, IsBuild, Tally, tally_of, tally_in, working, Given, HasRun, HasNotes, IsAlone, AreSo, IsWork, counted_as, counted, IsCount}
 use Rattle.emake.proofs.Following.{then_does, leave_does, then, finish as stays}
 
@@ -190,8 +191,8 @@ err_to {r = Err s} is = ap Err is
 
 -- the tally of what was built
 tally_is : (p : Project) (made : List Made) (notes : List Note) (f : Finished) → IsWhole p made notes f
-    → (let x : Result Tally Verdict = Ok (tally_of p made f.verdict) in let y : Result Tally Verdict = Ok (record { verdict = f.verdict; jobs = f.jobs; nodes = f.nodes }) in x ≡ y)
-tally_is p made notes f w = rw (w.jobs, w.nodes) refl
+    → (let x : Result Tally Verdict = Ok (tally_of p made f.verdict) in let y : Result Tally Verdict = Ok (record { verdict = f.verdict; jobs = f.jobs; nodes = f.nodes; whole = true }) in x ≡ y)
+tally_is p made notes f w = rw (w.jobs, w.nodes, whole_by (is_early p made) (length made) (length p.specs) w.serial.whole) refl
 
 module _ (p : Project) where
   tallied : (made : List Made) (notes : List Note) (r : Result Finished Stop) → IfOk r (IsWhole p made notes) → (x y : Outside) → Meets (building p made notes x.files) (verdict_in r) x y

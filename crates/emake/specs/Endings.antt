@@ -85,7 +85,7 @@ module _ (t : Terms) (notes : List Note) where
       if t.order.question then done (status_of true false s.outcomes)
       else replaced t.order.image fuel (closing t.order.silent t.plan s.outcomes early) s
 
--- where the run broke off nothing more is called. The verdict isn't looked at: the status is then 3 or 7
+-- where the run broke off nothing more is called, and nothing is counted. The verdict isn't looked at: the status is then 3 or 7
 abbrev pub broken_off : Course Verdict
 broken_off = done Faulty
 
@@ -140,17 +140,18 @@ pub record IsBuild (p : Project) (result : Result Finished Stop) (before after :
 
 -- ---- a project and its build
 
--- what a build comes to, as it is counted
+-- what a build comes to, as it is counted, and whether it is the whole of it
 pub record Tally : Type 0 where
   pub verdict : Verdict
   pub jobs : ℕ
   pub nodes : ℕ
+  pub whole : Bool
 
 abbrev pub tally_of : Project → List Made → Verdict → Tally
-tally_of p made verdict = record { verdict = verdict; jobs = length p.terms.plan.jobs; nodes = len (state_after p.start made).tree }
+tally_of p made verdict = record { verdict = verdict; jobs = length p.terms.plan.jobs; nodes = len (state_after p.start made).tree; whole = is_whole p made }
 
 abbrev pub tally_in : Result Finished Stop → Result Tally Stop
-tally_in (Ok f) = Ok (record { verdict = f.verdict; jobs = f.jobs; nodes = f.nodes })
+tally_in (Ok f) = Ok (record { verdict = f.verdict; jobs = f.jobs; nodes = f.nodes; whole = true })
 tally_in (Err e) = Err e
 
 abbrev pub working : List Made → List Note → Site → Course Tally
@@ -195,11 +196,15 @@ pub record IsWork (s : Site) (result : Result Finished Stop) (before after : Out
 
 -- ---- all of it
 
--- only the summary is said, with the number of bytes that would be said in a build; or all of them, where they end in a refusal
-abbrev pub counted_as : List Call → Result Tally Verdict → Course Verdict
-counted_as calls (Ok t) = do
+abbrev pub summed : List Call → Tally → Course Verdict
+summed calls t = do
   u ← say (summary t.jobs (length (printed_by calls)) t.nodes (code_of t.verdict))
   done t.verdict
+
+-- only the summary is said, with the number of bytes that would be said in a build; or all of them, where they end in a refusal;
+-- nothing of a run that broke off
+abbrev pub counted_as : List Call → Result Tally Verdict → Course Verdict
+counted_as calls (Ok t) = if t.whole then summed calls t else done t.verdict
 counted_as calls (Err verdict) = stop (printed_by calls) verdict
 
 abbrev pub counted : Trace Tally → Course Verdict
