@@ -109,7 +109,8 @@ fn no_history_changes_what_is_built(rt: HostRuntime) -> Result<(), Fail> {
 }
 
 /// What the image is where it was replaced.
-const NEW: &[u8] = b"EMTREE 1\nd 1048582 /\nf 5 28 /Makefile\na: b\n\tcp b a\nb:\n\techo x > b\n\nf 1048582 2 /a\nx\n\nf 7 2 /b\nx\n\n.\n";
+const NEW: &[u8] =
+    b"EMTREE 1\nd 1048582 /\nf 5 28 /Makefile\na: b\n\tcp b a\nb:\n\techo x > b\n\nf 1048582 2 /a\nx\n\nf 7 2 /b\nx\n\n.\n";
 
 /// Which call fails, what was printed then, and whether the image and the history were replaced. The calls are: image and
 /// history are taken, two jobs print, image, history and report are replaced.
@@ -126,7 +127,11 @@ const FAILING: [(u64, &str, bool, bool); 7] = [
 /// Whether the files are these, and there is no report.
 fn are_left(host: &MemHost, new_image: bool, new_history: bool) -> bool {
     let image = if new_image { NEW } else { TWO.1 };
-    let history = if new_history { b"EMHIST 1\n.\n".as_slice() } else { b"none" };
+    let history = if new_history {
+        b"EMHIST 1\n.\n".as_slice()
+    } else {
+        b"none"
+    };
     host.file(b"i") == Some(image) && host.file(b"H") == Some(history) && host.file(b"R").is_none()
 }
 
