@@ -147,7 +147,7 @@ fn fail_at<R: Abort + Threads + Wait + Sync>(
     host.put(alloc, b"H", b"none")?;
     host.fail_at(failing)?;
     let (said, status) = run(rt, alloc, "-I i -j 4 --history H --report R a", &mut host)?;
-    let is_ended = status == 3 && host.calls().len() as u64 == failing + 1;
+    let is_ended = status == 3 && host.calls().len() as u64 == failing.saturating_add(1);
     let is_left = said.bytes() == printed.as_bytes() && are_left(&host, new_image, new_history);
     assert!(rt; is_ended, "the status where call {failing} fails");
     assert!(rt; is_left, "what is left where call {failing} fails");
