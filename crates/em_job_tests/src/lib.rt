@@ -8,4 +8,6 @@ mod counts;
 #[cfg(test)]
 mod makefiles;
 #[cfg(test)]
+mod numbers;
+#[cfg(test)]
 mod usage;

@@ -80,14 +80,31 @@ fn strange<R: Wait>(rt: &R, alloc: Global) -> Result<String, Fail> {
     committed(rt, alloc, &shared, &Linker)
 }
 
+/// What comes of the three jobs where job 0 was claimed and given up.
+fn given_up<R: Wait>(rt: &R, alloc: Global) -> Result<String, Fail> {
+    let shared = shared_of(alloc, &THREE, false)?;
+    if shared.claim(rt) != Claim::Job(0) {
+        return Err("no job".into());
+    }
+    shared.give_up(rt, 0);
+    committed(rt, alloc, &shared, &Linker)
+}
+
 #[test]
-fn a_run_that_asked_the_board_nothing_is_strange(rt: HostRuntime) -> Result<(), Fail> {
-    let log = strange(&rt, rt.alloc())?;
-    assert_eq!(rt;
-        log.as_str(),
-        "0 in 2 strange 0: board none, run content of /z is no content; 1 in 1; 2 in 1; \
-         /a/a/b/a/b/c"
-    );
+fn what_cannot_be_kept_of_a_job_is_run_again(rt: HostRuntime) -> Result<(), Fail> {
+    for (log, wanted) in [
+        (
+            strange(&rt, rt.alloc())?,
+            "0 in 2 strange 0: board none, run content of /z is no content; 1 in 1; 2 in 1; \
+             /a/a/b/a/b/c",
+        ),
+        (
+            given_up(&rt, rt.alloc())?,
+            "0 in 2 memory; 1 in 1; 2 in 1; /a/a/b/a/b/c",
+        ),
+    ] {
+        assert_eq!(rt; log.as_str(), wanted);
+    }
     Ok(())
 }
 

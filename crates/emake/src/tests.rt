@@ -10,7 +10,9 @@ use std::thread::Threads;
 
 mod big;
 mod builds;
+mod damage;
 mod files;
+mod limits;
 mod workers;
 
 use builds::{After, BUILDS, Build};

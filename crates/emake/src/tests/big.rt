@@ -4,7 +4,7 @@ use super::*;
 const BLOCK: &[u8] = &[b'x'; 4096];
 
 /// An image of a root, a makefile, and a file `big` of so many blocks.
-fn image_of(alloc: Global, makefile: &str, blocks: usize) -> Result<Text, Fail> {
+pub(super) fn image_of(alloc: Global, makefile: &str, blocks: usize) -> Result<Text, Fail> {
     let size = makefile.len();
     let big = blocks.saturating_mul(BLOCK.len());
     let head = format!(in alloc;
@@ -27,7 +27,8 @@ fn fan(alloc: Global, count: u32) -> Result<String, Fail> {
     Ok(format!(in alloc; "all:{names}\n{names}:\n")?)
 }
 
-fn check<R: Abort + Threads + Wait + Sync>(
+/// Builds with these words: what is printed and the status are these, and the image stays.
+pub(super) fn check<R: Abort + Threads + Wait + Sync>(
     rt: &R,
     alloc: Global,
     words: &str,

@@ -20,6 +20,10 @@ pub enum After {
     Any,
 }
 
+/// A program of two sources, with a pattern rule and a header that is made.
+pub const PROJECT: &[u8] =
+    b"EMTREE 1\nd 5 /\nf 5 240 /Makefile\nSRC := main.c util.c\nOBJ := $(SRC:.c=.o)\n.PHONY: all clean edit\nall: config.h prog\nprog: $(OBJ)\n\tcat $^ > $@\n%.o: %.c\n\tcat $< config.h > $@\nconfig.h: config.in\n\techo '#define N 1' > $@\nedit:\n\ttouch main.c\nclean:\n\trm -f $(OBJ) prog config.h\n\nf 5 2 /config.in\n1\n\nf 5 5 /main.c\nmain\n\nf 5 5 /util.c\nutil\n\n.\n";
+
 pub static BUILDS: [Build; 45] = [
     Build {
         words: "-I i",
@@ -346,9 +350,7 @@ pub static BUILDS: [Build; 45] = [
     },
     Build {
         words: "-I i",
-        before: Some(
-            b"EMTREE 1\nd 5 /\nf 5 240 /Makefile\nSRC := main.c util.c\nOBJ := $(SRC:.c=.o)\n.PHONY: all clean edit\nall: config.h prog\nprog: $(OBJ)\n\tcat $^ > $@\n%.o: %.c\n\tcat $< config.h > $@\nconfig.h: config.in\n\techo '#define N 1' > $@\nedit:\n\ttouch main.c\nclean:\n\trm -f $(OBJ) prog config.h\n\nf 5 2 /config.in\n1\n\nf 5 5 /main.c\nmain\n\nf 5 5 /util.c\nutil\n\n.\n",
-        ),
+        before: Some(PROJECT),
         printed: b"echo '#define N 1' > config.h\ncat main.c config.h > main.o\ncat util.c config.h > util.o\ncat main.o util.o > prog\n",
         status: 0,
         after: After::Any,
