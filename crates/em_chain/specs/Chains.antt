@@ -1,7 +1,6 @@
 -- What jobs make of one path: a chain of pairs, each of a job and what the path becomes, in rising order of job.
 --     chain_of ps p         of each post that names p, in order, its job and what p becomes
 --     last_below j c        the last pair whose job is below j
---     change_below v j p    what that job makes p
 --     counted n             one step more
 --     job_in c i            the i-th job
 --     IsOpen j c a b        the jobs before the place a are below j, and those from b on are not
@@ -15,7 +14,7 @@ use Rattle.std.specs.List.{filter}
 use Rattle.std.specs.Ordering.{nat_cmp, eq_by_cmp}
 use Rattle.std.specs.FinMap.{get, entries, find, put}
 use Rattle.em_tree.specs.declared.node.Node.{Node}
-use Rattle.em_chain.specs.Posts.{Posts, Posted}
+use Rattle.em_chain.specs.Posts.{Posts}
 use Rattle.em_chain.specs.Pairs.{Pairs}
 
 abbrev pub chain_of : Posts → List ℕ → Pairs
@@ -27,9 +26,6 @@ last_from found j (e ∷ es) = last_from (if nat_lt e.0 j then Some e else found
 
 abbrev pub last_below : ℕ → Pairs → Option (ℕ × Option Node)
 last_below j c = last_from None j c
-
-abbrev pub change_below : Posted → ℕ → List ℕ → Option (Option Node)
-change_below v j p = option_map (λ e. e.1) (last_below j (chain_of v.posts p))
 
 -- at 2 ^ 64 - 1 it stays
 abbrev pub counted : ℕ → ℕ

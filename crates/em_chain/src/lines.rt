@@ -28,7 +28,7 @@ pub(crate) struct Line {
 
 /// The chains that aren't empty, by their paths, with an index from each directory to those right under it. Contracts see the
 /// finite map. Each call takes steps for the logarithms of how many paths there are and of how many pairs their chains have,
-/// and `make_place` and `erase` also for each pair behind the job's.
+/// and `make_place` and `erase` also for each pair on the nearer side of the job's.
 #[derive(Drop)]
 pub(crate) struct Lines {
     alloc: Global,

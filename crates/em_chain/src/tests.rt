@@ -59,8 +59,8 @@ fn last(v: &Versions, job: u32, p: &Path) -> Result<Option<u32>, Fail> {
     }
     let mut steps = Steps::new();
     let last = v.last(job, p, &mut steps);
-    if steps.count() > 2 {
-        return Err("too many steps".into());
+    if steps.count() > 2 || (last.is_some() && steps.count() == 0) {
+        return Err("too many steps, or none".into());
     }
     Ok(last)
 }

@@ -26,12 +26,11 @@ use std::collections::btree_set::Iter;
 use std::collections::{BTreeMap, BTreeSet};
 use std::marker::Model;
 
-/// A starting state, and what jobs have posted over it. What a job is answered are the start and the posts of the jobs below it,
-/// laid over one another in order of number; such a table need not be a tree. Beside the posts stands the chain of each path that
-/// they name.
+/// A starting state, and what jobs have posted over it. A job is answered by the start with the posts of the jobs below it laid
+/// over it, in order of number; such a table need not be a tree. Beside the posts stands the chain of each path that they name.
 ///
-/// Below the floor, to which no question comes, the posts are merged: a path keeps the last job that posted it. Contracts see the
-/// start, the floor, what is merged, and the posts, of which those below the floor have an outcome alone.
+/// No job below the floor asks: their posts are merged, and a path keeps the last job that posted it. Contracts see the start, the
+/// floor, what is merged, and the posts, of which those below the floor have an outcome alone.
 #[derive(Drop)]
 pub struct Versions {
     alloc: Global,
@@ -98,7 +97,8 @@ impl Versions {
     }
 
     /// Raises the floor, and takes no memory: of the jobs below it each path keeps the last one that posted it. Steps for each job
-    /// between the floors a search in the posts, and for each path that it posted one in the paths and in the path's chain.
+    /// between the floors a search in the posts, and for each path that it posted one in the paths and in the path's chain, and the
+    /// pairs that go.
     pub fn raise(&mut self, to: u32)
         requires { self.old.floor ≤ to }
         ensures { IsRaised self.old to self.new }

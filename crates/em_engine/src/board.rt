@@ -21,7 +21,7 @@ use std::mem;
 /// Jobs, what was posted of them, and the journal of all that happened. Its type keeps that the journal is
 /// legal, that what is posted and the phases are its replay, but for what was taken, and that there is room
 /// for the events of all later calls but asks. So claims, `give_up`, `take` and `stop` take no memory. What the
-/// settled jobs have posted is merged: no job that is claimed stands below them.
+/// settled jobs have posted is merged: no claimed job is one of them.
 #[derive(Drop)]
 pub struct Board<S: Spec> {
     alloc: Global,

