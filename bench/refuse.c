@@ -9,6 +9,7 @@
 #include <stdio.h>
 #include <stdlib.h>
 #include <string.h>
+#include <sys/syscall.h>
 #include <unistd.h>
 
 extern void *__libc_malloc(size_t);
@@ -35,6 +36,13 @@ __attribute__((destructor)) static void end(void) {
         fprintf(file, "%lu\n", count);
         fclose(file);
     }
+}
+
+// The program ends by _exit, which runs no destructor.
+void _exit(int status) {
+    end();
+    syscall(SYS_exit_group, status);
+    __builtin_unreachable();
 }
 
 static int now(char which) {
