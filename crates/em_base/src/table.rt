@@ -34,7 +34,8 @@ impl<V> Model for Table<V> {
 
     ghost view = { λ t. table.from_entries (map (λ e. (e.0.items, e.1)) t.held.entries) };
 
-    ghost invariant = { λ t. IsStrictlySortedBy (λ a b. slice_cmp nat_cmp a.items b.items) (keys_of t.held.entries) };
+    ghost invariant = { λ t. IsStrictlySortedBy
+        (λ a b. slice_cmp nat_cmp a.items b.items) (keys_of t.held.entries) };
 }
 
 impl<V> Table<V> {
@@ -70,7 +71,8 @@ impl<V> Table<V> {
 
     /// The i-th name with its value, in i steps; `None` exactly where there are no more than i names.
     pub fn at(&self, i: usize) -> Option<(&[u8], &V)>
-        ensures { option_map (λ e. (e.0.now, e.1.now)) result ≡ slice_get (table.entries self.now) i }
+        ensures { option_map (λ e. (e.0.now, e.1.now)) result
+            ≡ slice_get (table.entries self.now) i }
     {
         let (name, value) = self.held.iter().nth(i)?;
         Some((name.as_slice(), value))
@@ -127,9 +129,12 @@ impl<V: TryClone + Drop> TryClone for Table<V> {
 }
 
 impl<V: PartialEq> PartialEq for Table<V> {
-    ghost eq = { λ s t. pointwise (λ p q. pointwise nat_eq p.0 q.0 && V.eq p.1 q.1) (table.entries s) (table.entries t) };
+    ghost eq = { λ s t. pointwise
+        (λ p q. pointwise nat_eq p.0 q.0 && V.eq p.1 q.1) (table.entries s) (table.entries t) };
 
-    ghost laws = { on_per table.entries (lists_per (and_per (on_per (λ p. p.0) (partial_equiv_from_equiv nat_list_eq_equiv)) (on_per (λ p. p.1) V.laws))) };
+    ghost laws = { on_per table.entries
+        (lists_per (and_per (on_per (λ p. p.0) (partial_equiv_from_equiv nat_list_eq_equiv))
+        (on_per (λ p. p.1) V.laws))) };
 
     fn eq(&self, other: &Self) -> bool {
         self.held == other.held
@@ -137,5 +142,7 @@ impl<V: PartialEq> PartialEq for Table<V> {
 }
 
 impl<V: Eq> Eq for Table<V> {
-    ghost laws = { on_equiv table.entries (lists_equiv (and_equiv (on_equiv (λ p. p.0) nat_list_eq_equiv) (on_equiv (λ p. p.1) V.Eq.laws))) };
+    ghost laws = { on_equiv table.entries
+        (lists_equiv (and_equiv (on_equiv (λ p. p.0) nat_list_eq_equiv)
+        (on_equiv (λ p. p.1) V.Eq.laws))) };
 }

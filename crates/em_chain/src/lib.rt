@@ -12,6 +12,3 @@ mod versions;
 pub use chain::{Chain, Steps};
 pub use post::Post;
 pub use versions::Versions;
-
-#[cfg(test)]
-mod tests;

@@ -142,7 +142,8 @@ impl Lines {
     pub(crate) fn write(&mut self, p: &Path, job: u32, becomes: Option<Node>)
         requires { IsSome (find nat_cmp job (chain_at self.old p.now)) }
         ensures { (q : List ℕ) → chain_at self.new q
-            ≡ (if eq_by_cmp (slice_cmp nat_cmp) q p.now then put nat_cmp job becomes (chain_at self.old q)
+            ≡ (if eq_by_cmp (slice_cmp nat_cmp) q p.now
+            then put nat_cmp job becomes (chain_at self.old q)
             else chain_at self.old q) }
     {
         match self.held.get_mut(p) {

@@ -45,7 +45,8 @@ pub(crate) fn amend(
     requires named { IsNameList set.old.keys }
     ensures named { OnOk result (IsNameList set.new.keys) }
     ensures listing { OnOk result ((p : List ℕ) (t : Table) → parent_text path.now ≡ Some p
-        → IsListing p t set.old.keys → IsListing p (changed_by (option_copied becomes.entry) path.now t) set.new.keys) }
+        → IsListing p t set.old.keys
+        → IsListing p (changed_by (option_copied becomes.entry) path.now t) set.new.keys) }
 {
     let _text = path.text();
     let Some(name) = path.last() else {

@@ -124,7 +124,9 @@ impl Versions {
     /// posted, and for each path that its deltas name a few searches, in the paths and in the path's chain, and the jobs above it there.
     pub fn post(&mut self, job: u32, d: Delta, o: Outcome) -> Result<(), NoMemory>
         requires { self.old.floor ≤ job }
-        ensures ok { OnOk result (self.new ≡ record self.old { posts = map.insert self.old.posts job (record { delta = d; outcome = o }) }) }
+        ensures ok { OnOk result (self.new ≡ record self.old {
+          posts = map.insert self.old.posts job (record { delta = d; outcome = o });
+        }) }
         ensures err { OnErr result (self.new ≡ self.old) }
     {
         let changes = changes_of(self.alloc, &d)?;

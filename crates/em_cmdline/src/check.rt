@@ -45,7 +45,8 @@ pub(crate) fn mode(found: &ArgMatches<'_>) -> Option<HistoryMode>
 
 /// The value where it is no number from 1 to the limit.
 fn bad_value<'a>(limit: u64, value: Option<&'a str>) -> Option<&'a str>
-    ensures { option_map (λ s. s.now) result ≡ spec.bad_value limit (option_map (λ s. s.now) value.entry) }
+    ensures { option_map (λ s. s.now) result
+        ≡ spec.bad_value limit (option_map (λ s. s.now) value.entry) }
 {
     value.filter(|text| positive(limit, text).is_none())
 }
@@ -95,7 +96,8 @@ fn bad_name<'a>(found: &ArgMatches<'a>) -> Option<&'a str>
 
 /// The first name, where both are there and the same.
 fn same<'a>(first: Option<&'a str>, second: Option<&'a str>) -> Option<&'a str>
-    ensures { option_map (λ s. s.now) result ≡ spec.same (option_map (λ s. s.now) first.entry) (option_map (λ s. s.now) second.entry) }
+    ensures { option_map (λ s. s.now) result
+        ≡ spec.same (option_map (λ s. s.now) first.entry) (option_map (λ s. s.now) second.entry) }
 {
     if first == second { first } else { None }
 }
@@ -114,8 +116,11 @@ fn same_name<'a>(found: &ArgMatches<'a>) -> Option<&'a str>
 
 /// Answers the first refusal.
 pub(crate) fn check(alloc: Global, found: &ArgMatches<'_>) -> Result<(), WordNo>
-    ensures ok { IfOk result (λ _. spec.first_some (spec.causes (rows_of (found_of found.now))) ≡ None) }
-    ensures err { IfErr result (λ e. (e ≡ WordNo.NoMemory) ⊎ (spec.first_some (spec.causes (rows_of (found_of found.now))) ≡ Some e)) }
+    ensures ok { IfOk result
+        (λ _. spec.first_some (spec.causes (rows_of (found_of found.now))) ≡ None) }
+    ensures err { IfErr result
+        (λ e. (e ≡ WordNo.NoMemory)
+        ⊎ (spec.first_some (spec.causes (rows_of (found_of found.now))) ≡ Some e)) }
 {
     if value(found, "image").is_some() == value(found, "generate").is_some() {
         return Err(WordNo::Missing);

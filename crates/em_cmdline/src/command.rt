@@ -56,8 +56,11 @@ fn command<'a>(alloc: Global) -> Result<Command<'a>, AllocError>
 
 /// The words as text. `Unknown` comes exactly where one isn't UTF-8.
 pub(crate) fn texts(alloc: Global, words: &[Text]) -> Result<Vec<&str>, WordNo>
-    ensures ok { IfOk result (λ v. (list_all is_utf8 words.now ≡ true) × (map (λ s. s.now) v.items ≡ words.now)) }
-    ensures err { IfErr result (λ e. (e ≡ WordNo.NoMemory) ⊎ ((e ≡ WordNo.Unknown) × (list_all is_utf8 words.now ≡ false))) }
+    ensures ok { IfOk result
+        (λ v. (list_all is_utf8 words.now ≡ true) × (map (λ s. s.now) v.items ≡ words.now)) }
+    ensures err { IfErr result
+        (λ e. (e ≡ WordNo.NoMemory)
+        ⊎ ((e ≡ WordNo.Unknown) × (list_all is_utf8 words.now ≡ false))) }
 {
     let mut texts = Vec::new(alloc);
     for word in words {
@@ -71,8 +74,12 @@ pub(crate) fn texts(alloc: Global, words: &[Text]) -> Result<Vec<&str>, WordNo>
 
 /// What the words give the command. `Unknown` comes exactly where clap refuses them.
 pub(crate) fn matches<'a>(alloc: Global, words: &'a [&'a str]) -> Result<ArgMatches<'a>, WordNo>
-    ensures ok { IfOk result (λ m. (faults (map (λ s. s.now) words.entry.now) ≡ []) × (rows_of (found_of m) ≡ spec.found (map (λ s. s.now) words.entry.now))) }
-    ensures err { IfErr result (λ e. (e ≡ WordNo.NoMemory) ⊎ ((e ≡ WordNo.Unknown) × (faults (map (λ s. s.now) words.entry.now) ≢ []))) }
+    ensures ok { IfOk result
+        (λ m. (faults (map (λ s. s.now) words.entry.now) ≡ [])
+        × (rows_of (found_of m) ≡ spec.found (map (λ s. s.now) words.entry.now))) }
+    ensures err { IfErr result
+        (λ e. (e ≡ WordNo.NoMemory)
+        ⊎ ((e ≡ WordNo.Unknown) × (faults (map (λ s. s.now) words.entry.now) ≢ []))) }
 {
     match command(alloc)?.try_get_matches_from(words) {
         Ok(found) => Ok(found),
@@ -99,7 +106,8 @@ pub(crate) fn is_set(found: &ArgMatches<'_>, id: &str) -> bool
 
 /// The other words, if there are any.
 pub(crate) fn others<'m, 'a>(found: &'m ArgMatches<'a>) -> Option<&'m [&'a str]>
-    ensures { option_map (λ ws. map (λ s. s.now) ws.now) result ≡ all_of (codes "words") (rows_of (found_of found.now)) }
+    ensures { option_map (λ ws. map (λ s. s.now) ws.now) result
+        ≡ all_of (codes "words") (rows_of (found_of found.now)) }
 {
     found.get_strs("words")
 }

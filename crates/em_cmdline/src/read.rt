@@ -24,7 +24,8 @@ fn own(alloc: Global, text: Option<&str>) -> Result<Option<Text>, NoMemory>
 
 /// The number from 1 to the limit that an option has.
 fn count(limit: u64, text: Option<&str>) -> Option<u64>
-    ensures value { result ≡ option_and_then (spec.positive limit) (option_map (λ s. s.now) text.entry) }
+    ensures value { result
+        ≡ option_and_then (spec.positive limit) (option_map (λ s. s.now) text.entry) }
     ensures range { IfSome result (λ n. (1 ≤ n) × (n ≤ limit)) }
 {
     positive(limit, text?)

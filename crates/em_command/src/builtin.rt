@@ -186,7 +186,8 @@ fn pwd(alloc: Global, operands: &[Text], cwd: &Path) -> Result<Answer, OperandNo
 
 /// The status with which the shell ends.
 fn exit_by(alloc: Global, word: &[u8]) -> Result<Answer, OperandNo>
-    ensures { free_in is_free result ≡ false → result ≡ builtins.exit_by word.now (number_of 255 word.now) }
+    ensures { free_in is_free result ≡ false
+        → result ≡ builtins.exit_by word.now (number_of 255 word.now) }
 {
     match number(255, word) {
         Some(n) => Ok(answered(n as u8, Text::new(alloc), Flow::Exit)),
@@ -218,7 +219,8 @@ fn leave(alloc: Global, operands: &[Text], in_loop: bool, flow: Flow) -> Result<
 
 /// Marks a variable as exported, if the name has one.
 fn mark(alloc: Global, name: &[u8], shell: &mut Shell) -> Result<(), NoMemory>
-    ensures { OnOk result (shell.new ≡ builtins.mark name.now (value_of shell.old.vars name.now) shell.old) }
+    ensures { OnOk result
+        (shell.new ≡ builtins.mark name.now (value_of shell.old.vars name.now) shell.old) }
 {
     let text = match shell.vars.get(name) {
         Some(v) => v.text.copy(alloc)?,
@@ -349,7 +351,8 @@ fn faulted(alloc: Global, name: &[u8], word: &[u8], reason: Reason) -> Result<Ra
 }
 
 fn settled(alloc: Global, name: &[u8], given: Result<Answer, OperandNo>) -> Result<Ran, ExecNo>
-    ensures { free_in is_want result ≡ false → (s : Shell) → with_state result s ≡ settled name.now (with_state given s) }
+    ensures { free_in is_want result ≡ false → (s : Shell)
+        → with_state result s ≡ settled name.now (with_state given s) }
 {
     match given {
         Ok(answer) => Ok(ran_of(alloc, answer)?),

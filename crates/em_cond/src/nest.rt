@@ -118,7 +118,8 @@ impl Nest {
     pub fn other(&mut self, condition: Option<bool>) -> Result<(), CondNo>
         ensures { MatchResult result
             (λ _. after_other condition self.old ≡ Some self.new)
-            (λ e. (e ≡ CondNo.Unbalanced) × (after_other condition self.old ≡ None) × (self.new ≡ self.old)) }
+            (λ e. (e ≡ CondNo.Unbalanced) × (after_other condition self.old ≡ None)
+            × (self.new ≡ self.old)) }
     {
         let Some(top) = self.open.top().copied() else {
             return Err(CondNo::Unbalanced);

@@ -45,7 +45,8 @@ impl<S: Spec> Model for Board<S> {
 
     ghost Value = { Seen S };
 
-    ghost coded = { Prim.hlevel (codes, state.the_row.coded, event.the_row.coded, parts_code S.code) };
+    ghost coded = { Prim.hlevel
+        (codes, state.the_row.coded, event.the_row.coded, parts_code S.code) };
 
     ghost view = { λ b. record {
       start = b.versions.start;
@@ -218,7 +219,8 @@ impl<S: Spec> Board<S> {
     pub fn publish(&mut self, run: Run<S>) -> Result<(), Run<S>>
         requires { slice_get self.old.phases (S.job_of run.spec) ≡ Some phase.Claimed }
         ensures ok { OnOk result (self.new ≡ moved self.old
-            (event.Publish (S.job_of run.spec) run.delta run.outcome) (S.job_of run.spec) (phase.Posted run)) }
+            (event.Publish (S.job_of run.spec) run.delta run.outcome) (S.job_of run.spec)
+            (phase.Posted run)) }
         ensures err { IfErr result (λ r. (r ≡ run) × (self.new ≡ self.old)) }
     {
         let job = job_of(&run);
@@ -272,7 +274,8 @@ impl<S: Spec> Board<S> {
     pub fn settle(&mut self, job: u32, d: Delta, o: Outcome) -> Result<(), NoMemory>
         requires next { job ≡ (told self.old).settled }
         requires fronted { can_settle (slice_get self.old.phases job) ≡ true }
-        ensures ok { OnOk result (self.new ≡ moved self.old (event.Settle job d o) job phase.Settled) }
+        ensures ok { OnOk result
+            (self.new ≡ moved self.old (event.Settle job d o) job phase.Settled) }
         ensures err { OnErr result (self.new ≡ self.old) }
     {
         let posted = post_of(self.alloc, &d, &o)?;
@@ -289,7 +292,8 @@ impl<S: Spec> Board<S> {
 
     /// Stops the board: no more jobs are claimed. A board that is stopped stays as it is.
     pub fn stop(&mut self)
-        ensures { MatchBool (told self.old).stopped (self.new ≡ self.old) (self.new ≡ noted self.old event.Stop) }
+        ensures { MatchBool (told self.old).stopped (self.new ≡ self.old)
+            (self.new ≡ noted self.old event.Stop) }
     {
         if self.stopped {
             return;

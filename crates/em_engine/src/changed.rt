@@ -21,7 +21,8 @@ pub(crate) fn named(alloc: Global, d: &Delta) -> Result<Vec<Text>, NoMemory>
 /// Sees that the path has a place in the table, also where nothing has changed it.
 fn make_place(changed: &mut Table<Option<u32>>, alloc: Global, name: &Text) -> Result<(), NoMemory>
     ensures same { (p : List ℕ) → flat (table.get changed.new p) ≡ flat (table.get changed.old p) }
-    ensures stays { (p : List ℕ) → IsSome (table.get changed.old p) → IsSome (table.get changed.new p) }
+    ensures stays { (p : List ℕ) → IsSome (table.get changed.old p)
+        → IsSome (table.get changed.new p) }
     ensures room { OnOk result (IsSome (table.get changed.new name.now)) }
 {
     if changed.get(name.bytes()).is_none() {
@@ -59,7 +60,8 @@ fn mark_one(changed: &mut Table<Option<u32>>, name: Text, job: u32)
 
 /// The job has changed the paths, each of which has a place.
 pub(crate) fn mark(changed: &mut Table<Option<u32>>, names: Vec<Text>, job: u32)
-    requires room { (p : List ℕ) → is_among p names.items ≡ true → IsSome (table.get changed.old p) }
+    requires room { (p : List ℕ) → is_among p names.items ≡ true
+        → IsSome (table.get changed.old p) }
     ensures { (p : List ℕ) → flat (table.get changed.new p)
         ≡ (if is_among p names.items then Some job else flat (table.get changed.old p)) }
 {

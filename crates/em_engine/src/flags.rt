@@ -42,7 +42,8 @@ impl Flags {
 
     /// The place of the first raised flag; `None` exactly where none is raised.
     pub fn first(&self) -> Option<usize>
-        ensures { MatchOption result ((i : ℕ) → slice_get self.now i ≢ Some true) (IsFirst self.now) }
+        ensures { MatchOption result ((i : ℕ) → slice_get self.now i ≢ Some true)
+            (IsFirst self.now) }
     {
         if !self.any[1] {
             return None;

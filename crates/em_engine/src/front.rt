@@ -148,7 +148,8 @@ impl<S: Spec> Front<S> {
     /// an answer of the state takes.
     pub fn check(&self, run: &Run<S>, asked: &[Entry]) -> Verdict
         requires { IsSome (next_of self.now) }
-        ensures { IfSome (next_of self.now) (λ next. IsVerdict S.eq self.now.state next run.now asked.now result) }
+        ensures { IfSome (next_of self.now)
+            (λ next. IsVerdict S.eq self.now.state next run.now asked.now result) }
     {
         match self.next() {
             Some(next) => self.check_as(next, run, asked),

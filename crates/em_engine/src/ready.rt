@@ -108,7 +108,8 @@ impl Ready {
     /// A free job is claimed. Steps for the logarithm of how many jobs there are.
     pub fn claim(&mut self, job: u32)
         requires { slice_get self.old.stages job ≡ Some stage.Free }
-        ensures { self.new ≡ record self.old { stages = slice_set self.old.stages job stage.Claimed } }
+        ensures { self.new
+            ≡ record self.old { stages = slice_set self.old.stages job stage.Claimed } }
     {
         self.stages[job as usize] = Stage::Claimed;
         self.flagged.put(job as usize, false);
@@ -118,7 +119,8 @@ impl Ready {
     /// A claimed job has ended. Steps for each job that waits for it.
     pub fn end(&mut self, job: u32)
         requires { slice_get self.old.stages job ≡ Some stage.Claimed }
-        ensures { self.new ≡ record self.old { stages = slice_set self.old.stages job stage.Ended } }
+        ensures { self.new
+            ≡ record self.old { stages = slice_set self.old.stages job stage.Ended } }
     {
         self.finish(job, Stage::Ended);
     }
@@ -128,7 +130,8 @@ impl Ready {
     pub fn settle(&mut self, job: u32)
         requires { (slice_get self.old.stages job ≡ Some stage.Claimed)
             ⊎ (slice_get self.old.stages job ≡ Some stage.Ended) }
-        ensures { self.new ≡ record self.old { stages = slice_set self.old.stages job stage.Settled } }
+        ensures { self.new
+            ≡ record self.old { stages = slice_set self.old.stages job stage.Settled } }
     {
         if self.is_claimed(job) {
             self.finish(job, Stage::Settled);
@@ -149,7 +152,8 @@ impl Ready {
     /// A job that has ended is settled.
     fn close(&mut self, job: u32)
         requires { slice_get self.old.stages job ≡ Some stage.Ended }
-        ensures { self.new ≡ record self.old { stages = slice_set self.old.stages job stage.Settled } }
+        ensures { self.new
+            ≡ record self.old { stages = slice_set self.old.stages job stage.Settled } }
     {
         self.stages[job as usize] = Stage::Settled;
     }
@@ -236,7 +240,8 @@ fn release(jobs: &[u32], stages: &[Stage], left: &mut [usize], flagged: &mut Fla
     requires room { length left.old ≤ length flagged.old }
     requires enough { (j : ℕ) → times j jobs.now ≤ slice_index_or left.old j 0 }
     requires marked { IsMarked stages.now left.old flagged.old }
-    ensures left { (j : ℕ) → slice_index_or left.new j 0 + times j jobs.now ≡ slice_index_or left.old j 0 }
+    ensures left { (j : ℕ)
+        → slice_index_or left.new j 0 + times j jobs.now ≡ slice_index_or left.old j 0 }
     ensures room { length flagged.new ≡ length flagged.old }
     ensures marked { IsMarked stages.now left.new flagged.new }
 {

@@ -56,7 +56,8 @@ pub(crate) fn body_of(text: Text) -> Result<Body, NoMemory>
 
 /// Takes a unit.
 pub(crate) fn charge_unit<V: View>(desk: &mut Desk<V>) -> Result<(), Jump>
-    ensures does { (h : State) → Does is_free V.tells desk.old desk.new h h result (below of_desk (spend 1)) }
+    ensures does { (h : State)
+        → Does is_free V.tells desk.old desk.new h h result (below of_desk (spend 1)) }
     ensures burns { IfOk result (λ u. desk.new.work.fuel < desk.old.work.fuel) }
 {
     match desk.take(1) {

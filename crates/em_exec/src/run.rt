@@ -288,7 +288,8 @@ fn acted<V: View>(
     desk: &mut Desk<V>,
 ) -> Result<(), Jump>
     ensures { Does is_free V.tells desk.old desk.new here.old here.new result
-        (steps.act (script_at left) scene.now (out-Simple simple.now).assigned.items words.now streams.now) }
+        (steps.act (script_at left) scene.now
+        (out-Simple simple.now).assigned.items words.now streams.now) }
 {
     let alone = words.is_empty();
     assignments_in(alloc, left, &simple.assigned, alone, scene, here, desk)?;
@@ -702,7 +703,8 @@ fn round<V: View>(
     desk: &mut Desk<V>,
 ) -> Result<Turn, Jump>
     ensures { Does is_free V.tells desk.old desk.new here.old here.new result
-        (steps.round (out-For it.now).name (script_at left (out-For it.now).body scene.now) word.now) }
+        (steps.round (out-For it.now).name
+        (script_at left (out-For it.now).body scene.now) word.now) }
 {
     charge_unit(desk)?;
     here.assign(alloc, it.name.bytes(), word.copy(alloc)?)?;

@@ -75,7 +75,8 @@ pub fn exec<V: View>(
     out: &mut Text,
 ) -> Result<u8, ExecNo>
     ensures { Does is_want V.tells desk.old desk.new
-        (record { shell = shell.old; output = out.old }) (record { shell = shell.new; output = out.new })
+        (record { shell = shell.old; output = out.old })
+        (record { shell = shell.new; output = out.new })
         result (runs.run script.now) }
 {
     let copy = copy_of(alloc, shell)?;

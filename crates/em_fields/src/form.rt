@@ -97,7 +97,8 @@ fn text<'a>(value: Option<&'a [u8]>) -> &'a [u8]
 
 /// The value, where the argument doesn't bear on it.
 pub fn early_value<'a>(form: Form, value: Option<&'a [u8]>, status: u8) -> Early<'a>
-    ensures { forms.told result ≡ forms.early_value form (option_map (λ v. v.now) value.entry) status }
+    ensures { forms.told result
+        ≡ forms.early_value form (option_map (λ v. v.now) value.entry) status }
 {
     match form {
         Form::Value => Early::Text(text(value)),

@@ -10,5 +10,6 @@ pub fn law_quoted()
 
 /// Texts that are joined by single spaces part again, where none is empty or has a space, a tab or a newline.
 pub fn law_joined()
-    ensures { (texts : List (List ℕ)) → All IsFilled texts → fields (marked false (join_with_byte 32 texts)) ≡ map (map (glyph false)) texts }
+    ensures { (texts : List (List ℕ)) → All IsFilled texts
+        → fields (marked false (join_with_byte 32 texts)) ≡ map (map (glyph false)) texts }
 {}

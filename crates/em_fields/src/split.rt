@@ -21,7 +21,8 @@ fn is_break(part: &Part) -> bool
 
 /// What stands between the breaks.
 fn between(alloc: Global, parts: &[Part]) -> Result<Vec<&[Part]>, NoMemory>
-    ensures { IfOk result (λ v. map (λ f. f.now) v.items ≡ slice_split parts_of.is_break parts.now) }
+    ensures { IfOk result
+        (λ v. map (λ f. f.now) v.items ≡ slice_split parts_of.is_break parts.now) }
 {
     Ok(parts.split(|p| is_break(p)).collect(alloc)?)
 }

@@ -174,7 +174,8 @@ pub(crate) fn is_star_at(pattern: &[Glyph], at: usize) -> bool
 pub(crate) fn place_behind(pattern: &[Glyph], closed: usize, at: usize, byte: u8) -> Option<usize>
     requires within { closed ≤ length pattern.now }
     requires rest { list_any is_closing (drop closed pattern.now) ≡ false }
-    ensures passed { passed (pieces (drop at pattern.now)) byte ≡ option_map (λ n. pieces (drop n pattern.now)) result }
+    ensures passed { passed (pieces (drop at pattern.now)) byte
+        ≡ option_map (λ n. pieces (drop n pattern.now)) result }
     ensures within { IfSome result (λ n. (at < n) × (n ≤ length pattern.now)) }
 {
     let (piece, behind) = piece_at(pattern, closed, at)?;

@@ -54,7 +54,8 @@ impl Nest {
 
     /// Adds a piece.
     pub fn add(&mut self, piece: WordPiece) -> Result<(), NoMemory>
-        ensures parts { OnOk result (nest_parts self.new ≡ nest_parts self.old ++ piece_pattern piece ∷ []) }
+        ensures parts { OnOk result
+            (nest_parts self.new ≡ nest_parts self.old ++ piece_pattern piece ∷ []) }
         ensures depth { OnOk result (nest_depth self.new ≡ nest_depth self.old) }
     {
         self.pieces.push(piece)?;
@@ -63,7 +64,8 @@ impl Nest {
 
     /// Begins an argument.
     pub fn enter(&mut self, alloc: Global, head: Head) -> Result<(), NoMemory>
-        ensures parts { OnOk result (nest_parts self.new ≡ nest_parts self.old ++ head_pattern head ∷ []) }
+        ensures parts { OnOk result
+            (nest_parts self.new ≡ nest_parts self.old ++ head_pattern head ∷ []) }
         ensures depth { OnOk result (nest_depth self.new ≡ nest_depth self.old + 1) }
     {
         let before = std::mem::replace(&mut self.pieces, Vec::new(alloc));
@@ -75,8 +77,10 @@ impl Nest {
     pub fn leave(&mut self) -> Result<(), NoMemory>
         requires { 0 < nest_depth self.old }
         ensures depth { OnOk result (nest_depth self.new + 1 ≡ nest_depth self.old) }
-        ensures spells { OnOk result ((start us rest : List What) → Spells shell (all (nest_parts self.old)) start us
-            → Spells shell (key Kind.ArgumentEnd) us rest → Spells shell (all (nest_parts self.new)) start rest) }
+        ensures spells { OnOk result
+            ((start us rest : List What) → Spells shell (all (nest_parts self.old)) start us
+            → Spells shell (key Kind.ArgumentEnd) us rest
+            → Spells shell (all (nest_parts self.new)) start rest) }
     {
         if let Some(open) = self.open_arguments.pop() {
             let Open { before, head } = open;
@@ -102,7 +106,8 @@ impl Nest {
 
 /// The value with this argument.
 fn closed(head: Head, pieces: Vec<WordPiece>) -> WordPiece
-    ensures { piece_pattern result ≡ (head_pattern head ⨾ all (map piece_pattern pieces.items) ⨾ key Kind.ArgumentEnd) }
+    ensures { piece_pattern result
+        ≡ (head_pattern head ⨾ all (map piece_pattern pieces.items) ⨾ key Kind.ArgumentEnd) }
 {
     let Head { quoted, name, form } = head;
     WordPiece {

@@ -42,7 +42,8 @@ fn is_parens(rest: &[Lexeme]) -> bool
 /// What a fault is, and where it is told. A function is refused at its name, and a `for` without `in` at the `for`.
 fn fault_at(why: Why, tokens: &[Lexeme], rest: &[Lexeme], length: usize) -> GramNo
     ensures { (stop : Option LexNo) → (whats rest.now ≡ [] → stop ≡ None)
-        → run shell ((64, line_grammar) ∷ []) (whats tokens.now) ≡ fault (why_code why) (whats rest.now)
+        → run shell ((64, line_grammar) ∷ []) (whats tokens.now)
+        ≡ fault (why_code why) (whats rest.now)
         → IsFault (lexed_of tokens.now stop) length result }
 {
     let number = tokens.len().saturating_sub(rest.len());
@@ -69,7 +70,8 @@ fn fault_at(why: Why, tokens: &[Lexeme], rest: &[Lexeme], length: usize) -> Gram
 
 /// The fault that ended the lexer's reading.
 fn stopped(stop: LexNo) -> GramNo
-    ensures { (items : List Lexeme) (length : ℕ) → GoesOn items → IsFault (lexed_of items (Some stop)) length result }
+    ensures { (items : List Lexeme) (length : ℕ) → GoesOn items
+        → IsFault (lexed_of items (Some stop)) length result }
 {
     match stop {
         LexNo::Unclosed(at) => GramNo::Unclosed(at),
@@ -86,7 +88,8 @@ fn fault_or_stop(
     stop: Option<LexNo>,
     length: usize,
 ) -> GramNo
-    requires { run shell ((64, line_grammar) ∷ []) (whats tokens.now) ≡ fault (why_code why) (whats rest.now) }
+    requires { run shell ((64, line_grammar) ∷ []) (whats tokens.now)
+        ≡ fault (why_code why) (whats rest.now) }
     ensures { IsFault (lexed_of tokens.now stop) length result }
 {
     if !rest.is_empty() {
@@ -106,7 +109,8 @@ fn whole(
     stop: Option<LexNo>,
     length: usize,
 ) -> Result<Script, GramNo>
-    requires { Reads shell 64 line_grammar (whats tokens.now) (newlines ⨾ body_pattern script) (whats rest.now) }
+    requires { Reads shell 64 line_grammar (whats tokens.now) (newlines ⨾ body_pattern script)
+        (whats rest.now) }
     ensures tree { IfOk result (λ s. IsScript (lexed_of tokens.now stop) s) }
     ensures fault { IfErr result (λ e. IsFault (lexed_of tokens.now stop) length e) }
 {

@@ -67,7 +67,8 @@ pub fn simple_piece<'a>(
 }
 
 fn bytes_piece(quoted: bool, text: Text) -> WordPiece
-    ensures pattern { piece_pattern result ≡ this (kinds_of (Kind.Bytes ∷ Kind.Assigning ∷ [])) (What.Bytes quoted text) }
+    ensures pattern { piece_pattern result
+        ≡ this (kinds_of (Kind.Bytes ∷ Kind.Assigning ∷ [])) (What.Bytes quoted text) }
     ensures digit { (Tree.piece_spelling result).digit ≡ Tree.digit_of quoted text }
 {
     WordPiece {
@@ -77,7 +78,8 @@ fn bytes_piece(quoted: bool, text: Text) -> WordPiece
 }
 
 fn value_piece(quoted: bool, name: Text, form: Text) -> WordPiece
-    ensures { piece_pattern result ≡ this (kinds_of (Kind.Value ∷ [])) (What.Value quoted name form) }
+    ensures { piece_pattern result
+        ≡ this (kinds_of (Kind.Value ∷ [])) (What.Value quoted name form) }
 {
     WordPiece {
         quoted,
@@ -96,7 +98,8 @@ pub fn argument_begin<'a>(
 ) -> Result<(Head, &'a [Lexeme]), Stop<'a>>
     ensures reads { (left : ℕ) → Gives shell left (key Kind.ArgumentStart) (whats tokens.now)
         (lead_of (λ x. (head_pattern x.0, whats x.1.now)) fault_of result) }
-    ensures free { IfErr result (λ x. begins_with shell (whats tokens.now) (kinds_of (Kind.ArgumentStart ∷ [])) ≡ true
+    ensures free { IfErr result
+        (λ x. begins_with shell (whats tokens.now) (kinds_of (Kind.ArgumentStart ∷ [])) ≡ true
         → fault_of x ≡ None) }
     ensures shorter { IfOk result (λ x. length x.1.now < length tokens.now) }
 {
@@ -109,7 +112,8 @@ pub fn argument_begin<'a>(
 
 /// Whether the substitution that begins here is quoted.
 fn first_quoted(tokens: &[Lexeme]) -> Result<bool, em_base::NoMemory>
-    ensures held { IfOk result (λ x. slice_get (whats tokens.now) 0 ≡ Some (What.SubstitutionStart x)) }
+    ensures held { IfOk result
+        (λ x. slice_get (whats tokens.now) 0 ≡ Some (What.SubstitutionStart x)) }
     ensures comes { (quoted : Bool)
         → slice_get (whats tokens.now) 0 ≡ Some (What.SubstitutionStart quoted) → IsOk result }
 {
@@ -132,9 +136,16 @@ pub fn substitution_begin<'a>(
     left: u32,
 ) -> Result<(bool, &'a [Lexeme]), Stop<'a>>
     ensures level { IfOk result (λ x. 0 < left) }
-    ensures turns { IfOk result (λ x. (e : Expr) → Turns shell left (nested (kinds_of (Kind.SubstitutionStart ∷ [])) e) (whats tokens.now)
-        (this (kinds_of (Kind.SubstitutionStart ∷ [])) (What.SubstitutionStart x.0)) e (whats x.1.now)) }
-    ensures err { IfErr result (λ x. (e : Expr) → Gives shell left (nested (kinds_of (Kind.SubstitutionStart ∷ [])) e) (whats tokens.now)
+    ensures turns { IfOk result
+        (λ x. (e : Expr)
+        → Turns shell left (nested (kinds_of (Kind.SubstitutionStart ∷ [])) e)
+        (whats tokens.now)
+        (this (kinds_of (Kind.SubstitutionStart ∷ [])) (What.SubstitutionStart x.0)) e
+        (whats x.1.now)) }
+    ensures err { IfErr result
+        (λ x. (e : Expr)
+        → Gives shell left (nested (kinds_of (Kind.SubstitutionStart ∷ [])) e)
+        (whats tokens.now)
         (lead_off (fault_of x))) }
     ensures shorter { IfOk result (λ x. length x.1.now < length tokens.now) }
 {
@@ -149,7 +160,11 @@ pub fn assigned_name<'a>(
     tokens: &'a [Lexeme],
 ) -> Result<(Text, &'a [Lexeme]), Stop<'a>>
     ensures reads { (left : ℕ) → Gives shell left (key Kind.Assigning) (whats tokens.now)
-        (lead_of (λ x. (this (kinds_of (Kind.Assigning ∷ [])) (What.Bytes false (x.0 ++ 61 ∷ [])), whats x.1.now)) fault_of result) }
+        (lead_of (λ x. (
+          this (kinds_of (Kind.Assigning ∷ []))
+              (What.Bytes false (x.0 ++ 61 ∷ [])),
+          whats x.1.now,
+        )) fault_of result) }
     ensures shorter { IfOk result (λ x. length x.1.now < length tokens.now) }
 {
     let (token, rest) = take(tokens, &[Kind::Assigning])?;
@@ -161,7 +176,11 @@ pub fn assigned_name<'a>(
 /// The digit of a descriptor.
 pub fn digit<'a>(tokens: &'a [Lexeme]) -> Result<(u8, &'a [Lexeme]), Stop<'a>>
     ensures reads { (left : ℕ) → Gives shell left (key Kind.Number) (whats tokens.now)
-        (lead_of (λ x. (this (kinds_of (Kind.Number ∷ [])) (What.Number x.0), whats x.1.now)) fault_of result) }
+        (lead_of (λ x. (
+          this (kinds_of (Kind.Number ∷ []))
+              (What.Number x.0),
+          whats x.1.now,
+        )) fault_of result) }
     ensures small { IfOk result (λ x. x.0 ≤ 9) }
     ensures shorter { IfOk result (λ x. length x.1.now < length tokens.now) }
 {
@@ -197,7 +216,11 @@ fn digit_word(alloc: Global, n: u8) -> Result<Word, em_base::NoMemory>
 /// `>&` and the digit behind it.
 pub fn duplicate<'a>(alloc: Global, tokens: &'a [Lexeme]) -> Result<(Word, &'a [Lexeme]), Stop<'a>>
     ensures reads { (left : ℕ) → Gives shell left Grammar.duplicate (whats tokens.now)
-        (lead_of (λ x. (Tree.target_spelled RedirectKind.Duplicate (Tree.word_spelling x.0), whats x.1.now)) fault_of result) }
+        (lead_of (λ x. (
+          Tree.target_spelled RedirectKind.Duplicate
+              (Tree.word_spelling x.0),
+          whats x.1.now,
+        )) fault_of result) }
     ensures shorter { IfOk result (λ x. length x.1.now < length tokens.now) }
 {
     let rest = skip(tokens, &[Kind::GreatAnd])?;
@@ -237,7 +260,9 @@ fn usual_fd(kind: RedirectKind) -> u8
 
 /// A redirection of the descriptor that was given, or of the usual one.
 pub fn redirection(number: Option<u8>, kind: RedirectKind, target: Word) -> Redirect
-    ensures { (us rest : List What) → Spells shell (Tree.number_of number ⨾ Tree.target_spelled kind (Tree.word_spelling target)) us rest
+    ensures { (us rest : List What)
+        → Spells shell (Tree.number_of number ⨾ Tree.target_spelled kind
+        (Tree.word_spelling target)) us rest
         → Spells shell (Tree.redirect_pattern result) us rest }
 {
     let fd = number.unwrap_or(usual_fd(kind));
@@ -247,7 +272,8 @@ pub fn redirection(number: Option<u8>, kind: RedirectKind, target: Word) -> Redi
 /// The piece for a substitution; where it has no commands, their list is empty.
 pub fn output_piece(alloc: Global, quoted: bool, script: Option<Script>) -> WordPiece
     ensures { (us rest : List What)
-        → Spells shell (this (kinds_of (Kind.SubstitutionStart ∷ [])) (What.SubstitutionStart quoted)
+        → Spells shell (this (kinds_of (Kind.SubstitutionStart ∷ []))
+        (What.SubstitutionStart quoted)
         ⨾ Grammar.newlines ⨾ Tree.body_of (option_map Tree.script_pattern script)
         ⨾ key Kind.SubstitutionEnd) us rest
         → Spells shell (piece_pattern result) us rest }

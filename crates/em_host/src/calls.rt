@@ -33,7 +33,9 @@ pub(crate) struct Begun {
 impl Calls {
     /// Whether the next call is to fail.
     fn is_next_chosen(&self) -> bool
-        ensures { IsTrue result ↔ Contains self.now.failing.items (min (length self.now.noted.items + self.now.lost) (2 ^ 64 - 1)) }
+        ensures { IsTrue result
+            ↔ Contains self.now.failing.items
+            (min (length self.now.noted.items + self.now.lost) (2 ^ 64 - 1)) }
     {
         let number = (self.noted.as_slice().len() as u64).saturating_add(self.lost);
         self.failing.contains(&number)
@@ -43,12 +45,20 @@ impl Calls {
     pub(crate) fn begin(&mut self, call: Result<Call, NoMemory>) -> Result<Begun, HostNo>
         ensures call { IfOk result (λ begun. call ≡ Ok begun.call) }
         ensures chosen { IfOk result (λ begun.
-            IsTrue begun.fails ↔ Contains self.old.failing.items (min (length self.old.noted.items + self.old.lost) (2 ^ 64 - 1))) }
+            IsTrue begun.fails
+            ↔ Contains self.old.failing.items
+            (min (length self.old.noted.items + self.old.lost) (2 ^ 64 - 1))) }
         ensures memory { IfErr result (λ e. e ≡ HostNo.NoMemory) }
         ensures noted { self.new.noted.items ≡ self.old.noted.items }
         ensures room { OnOk result (vec_len self.new.noted < vec_capacity self.new.noted) }
         ensures ok { OnOk result (self.new ≡ record self.old { noted = self.new.noted }) }
-        ensures lost { OnErr result (self.new ≡ record self.old { noted = self.new.noted; lost = next_count self.old.lost; failed = true }) }
+        ensures lost { OnErr result
+            (self.new
+            ≡ record self.old {
+              noted = self.new.noted;
+              lost = next_count self.old.lost;
+              failed = true;
+            }) }
     {
         let fails = self.is_next_chosen();
         if let Ok(call) = call {
@@ -64,8 +74,14 @@ impl Calls {
     /// Notes a call with its answer.
     pub(crate) fn end<T>(&mut self, call: Call, answer: &Result<T, HostNo>)
         requires room { vec_len self.old.noted < vec_capacity self.old.noted }
-        ensures noted { self.new.noted.items ≡ self.old.noted.items ++ record { call = call; ok = is_ok answer.now } ∷ [] }
-        ensures rest { self.new ≡ record self.old { noted = self.new.noted; faults = count_after answer.now self.old.faults; failed = is_err answer.now } }
+        ensures noted { self.new.noted.items
+            ≡ self.old.noted.items ++ record { call = call; ok = is_ok answer.now } ∷ [] }
+        ensures rest { self.new
+            ≡ record self.old {
+              noted = self.new.noted;
+              faults = count_after answer.now self.old.faults;
+              failed = is_err answer.now;
+            } }
     {
         let ok = answer.is_ok();
         let _ = self.noted.push(Called { call, ok });

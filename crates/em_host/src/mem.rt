@@ -36,7 +36,13 @@ impl Model for MemHost {
     ghost coded = { memory_code };
 
     ghost view = { λ h. record {
-      outside = record { files = h.files; printed = h.printed; calls = h.calls.noted.items; lost = h.calls.lost; failed = h.calls.failed };
+      outside = record {
+        files = h.files;
+        printed = h.printed;
+        calls = h.calls.noted.items;
+        lost = h.calls.lost;
+        failed = h.calls.failed;
+      };
       faults = h.calls.faults;
       failing = h.calls.failing.items;
     } };
@@ -62,7 +68,9 @@ impl MemHost {
 
     /// Sets a file up. This is no call.
     pub fn put(&mut self, alloc: Global, name: &[u8], bytes: &[u8]) -> Result<(), NoMemory>
-        ensures ok { OnOk result (self.new ≡ with_files self.old (map.insert self.old.outside.files name.now bytes.now)) }
+        ensures ok { OnOk result
+            (self.new
+            ≡ with_files self.old (map.insert self.old.outside.files name.now bytes.now)) }
         ensures err { OnErr result (self.new ≡ self.old) }
     {
         self.files.insert(
@@ -74,7 +82,8 @@ impl MemHost {
 
     /// Lets the call of this number fail.
     pub fn fail_at(&mut self, number: u64) -> Result<(), NoMemory>
-        ensures ok { OnOk result (self.new ≡ record self.old { failing = self.old.failing ++ number ∷ [] }) }
+        ensures ok { OnOk result
+            (self.new ≡ record self.old { failing = self.old.failing ++ number ∷ [] }) }
         ensures err { OnErr result (self.new ≡ self.old) }
     {
         self.calls.failing.push(number)?;
@@ -110,8 +119,10 @@ impl Host for MemHost {
 
     fn take(&mut self, alloc: Global, name: &[u8]) -> Result<Option<Vec<u8>>, HostNo>
         ensures chosen { Contains self.old.failing (number_of self.old.outside)
-            → IsErrOf result HostNo.Failed ⊎ (self.new.outside.lost ≡ next_count self.old.outside.lost) }
-        ensures fails { IsErrOf result HostNo.Failed → Contains self.old.failing (number_of self.old.outside) }
+            → IsErrOf result HostNo.Failed
+            ⊎ (self.new.outside.lost ≡ next_count self.old.outside.lost) }
+        ensures fails { IsErrOf result HostNo.Failed
+            → Contains self.old.failing (number_of self.old.outside) }
         ensures takes { Takes name.now (contents result) self.old.outside self.new.outside }
         ensures faults { self.new.faults ≡ count_after result self.old.faults }
         ensures failing { self.new.failing ≡ self.old.failing }
@@ -124,8 +135,10 @@ impl Host for MemHost {
 
     fn replace(&mut self, alloc: Global, name: &[u8], bytes: &[u8]) -> Result<(), HostNo>
         ensures chosen { Contains self.old.failing (number_of self.old.outside)
-            → IsErrOf result HostNo.Failed ⊎ (self.new.outside.lost ≡ next_count self.old.outside.lost) }
-        ensures fails { IsErrOf result HostNo.Failed → Contains self.old.failing (number_of self.old.outside) }
+            → IsErrOf result HostNo.Failed
+            ⊎ (self.new.outside.lost ≡ next_count self.old.outside.lost) }
+        ensures fails { IsErrOf result HostNo.Failed
+            → Contains self.old.failing (number_of self.old.outside) }
         ensures replaces { Replaces name.now bytes.now result self.old.outside self.new.outside }
         ensures faults { self.new.faults ≡ count_after result self.old.faults }
         ensures failing { self.new.failing ≡ self.old.failing }
@@ -138,10 +151,13 @@ impl Host for MemHost {
 
     fn print(&mut self, bytes: &[u8]) -> Result<(), HostNo>
         ensures chosen { Contains self.old.failing (number_of self.old.outside)
-            → IsErrOf result HostNo.Failed ⊎ (self.new.outside.lost ≡ next_count self.old.outside.lost) }
-        ensures fails { IsErrOf result HostNo.Failed → Contains self.old.failing (number_of self.old.outside) }
+            → IsErrOf result HostNo.Failed
+            ⊎ (self.new.outside.lost ≡ next_count self.old.outside.lost) }
+        ensures fails { IsErrOf result HostNo.Failed
+            → Contains self.old.failing (number_of self.old.outside) }
         ensures prints { Prints bytes.now result self.old.outside self.new.outside }
-        ensures whole_or_nothing { OnErr result (self.new.outside.printed ≡ self.old.outside.printed) }
+        ensures whole_or_nothing { OnErr result
+            (self.new.outside.printed ≡ self.old.outside.printed) }
         ensures faults { self.new.faults ≡ count_after result self.old.faults }
         ensures failing { self.new.failing ≡ self.old.failing }
     {

@@ -153,7 +153,8 @@ fn fill<F: Write + OpenFile>(file: &mut F, bytes: &[u8]) -> Result<(), HostNo> {
 
 /// Everything that is left to read, with room for so many bytes at once.
 fn read_whole<R: Read>(alloc: Global, from: &mut R, room: usize) -> Result<Vec<u8>, HostNo>
-    ensures whole { IfOk result (λ bytes. Consumes (R.remaining from.old) (R.remaining from.new) bytes.items) }
+    ensures whole { IfOk result
+        (λ bytes. Consumes (R.remaining from.old) (R.remaining from.new) bytes.items) }
     ensures end { OnOk result (IsAtEnd (R.remaining from.new)) }
 {
     let mut whole = Vec::with_capacity(alloc, room)?;
@@ -164,7 +165,8 @@ fn read_whole<R: Read>(alloc: Global, from: &mut R, room: usize) -> Result<Vec<u
 /// Writes all of the bytes. On Err a front of them was written.
 fn write_whole<W: Write>(to: &mut W, bytes: &[u8]) -> Result<(), HostNo>
     ensures whole { OnOk result (Appends (W.contents to.old) (W.contents to.new) bytes.now) }
-    ensures front { OnErr result ((n : ℕ) × Appends (W.contents to.old) (W.contents to.new) (take n bytes.now)) }
+    ensures front { OnErr result
+        ((n : ℕ) × Appends (W.contents to.old) (W.contents to.new) (take n bytes.now)) }
 {
     let mut rest = bytes;
     for _ in 0..MOST_TURNS {

@@ -15,7 +15,8 @@ pub fn one_tree_of_a_text()
 
 /// Short is told at the text's end, an image that is too long at the limit, and any other fault at a byte of the text.
 pub fn faults_have_places()
-    ensures within { (bytes : List ℕ) (e : ImageNo) → length bytes ≤ limits.image → reading limits bytes ≡ Err e
+    ensures within { (bytes : List ℕ) (e : ImageNo) → length bytes ≤ limits.image
+        → reading limits bytes ≡ Err e
         → FaultFits (length bytes) e }
     ensures long { (bytes : List ℕ) → limits.image < length bytes
         → reading limits bytes ≡ Err (no.Limit which.Image limits.image) }

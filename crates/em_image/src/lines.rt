@@ -66,7 +66,8 @@ pub fn header<'a>(
     is_file: bool,
 ) -> Result<(Header, Cursor<'a>), ImageNo>
     requires { IsAt input.now (seen cursor) }
-    ensures { Gives (λ x. (header_of x.0, seen x.1)) result (header_at limits is_file (seen cursor.entry)) }
+    ensures { Gives (λ x. (header_of x.0, seen x.1)) result
+        (header_at limits is_file (seen cursor.entry)) }
 {
     let (stamp, cursor) = stamp(cursor)?;
     let (size, cursor) = size(cursor, is_file)?;

@@ -86,7 +86,8 @@ fn first_other(bytes: &[u8]) -> Option<usize>
 
 /// Takes the bytes in front of the first newline, which stays.
 pub fn line(cursor: Cursor) -> Result<(&[u8], Cursor), ImageNo>
-    ensures { Gives (λ x. (x.0.now, seen x.1)) result (until_at (λ b. b == 10) (seen cursor.entry)) }
+    ensures { Gives (λ x. (x.0.now, seen x.1)) result
+        (until_at (λ b. b == 10) (seen cursor.entry)) }
 {
     match first_newline(cursor.rest) {
         None => Err(ImageNo::Short { at: end(cursor) }),
@@ -96,7 +97,9 @@ pub fn line(cursor: Cursor) -> Result<(&[u8], Cursor), ImageNo>
 
 /// Takes the digits in front of the first byte that is no digit, which stays.
 pub fn digits(cursor: Cursor) -> Result<(&[u8], Cursor), ImageNo>
-    ensures gives { Gives (λ x. (x.0.now, seen x.1)) result (until_at (λ b. not (is_ascii_digit b)) (seen cursor.entry)) }
+    ensures gives { Gives
+        (λ x. (x.0.now, seen x.1)) result
+        (until_at (λ b. not (is_ascii_digit b)) (seen cursor.entry)) }
     ensures digits { IfOk result (λ x. list_all is_ascii_digit x.0.now ≡ true) }
 {
     match first_other(cursor.rest) {

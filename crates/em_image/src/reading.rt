@@ -73,7 +73,9 @@ fn body<'a>(
 /// The parent of a path, where it is a directory of the tree. No search where it is `home`, which is one.
 fn parent_in(alloc: Global, tree: &Tree, home: &Path, path: &Path) -> Result<Option<Path>, NoMemory>
     requires { has_dir tree.now (Some home.now) ≡ true }
-    ensures { IfOk result (λ r. r ≡ (if has_dir tree.now (parent_text path.now) then parent_text path.now else None)) }
+    ensures { IfOk result
+        (λ r. r ≡ (if has_dir tree.now (parent_text path.now) then parent_text path.now
+        else None)) }
 {
     match path.parent(alloc) {
         Err(_) => Err(NoMemory),
@@ -97,7 +99,8 @@ fn node<'a>(
     requires at { IsAt input.now (seen cursor) }
     requires home { has_dir tree.now (Some home.now) ≡ true }
     ensures parent { IfOk result (λ x. parent_text x.0 ≡ Some x.3) }
-    ensures node { Gives (λ x. ((x.0, x.1), seen x.2)) result (node_at limits is_file last.now tree.now (seen cursor.entry)) }
+    ensures node { Gives (λ x. ((x.0, x.1), seen x.2)) result
+        (node_at limits is_file last.now tree.now (seen cursor.entry)) }
 {
     let (header, after) = header(input, cursor, is_file)?;
     let Header {
@@ -124,7 +127,9 @@ fn nodes<'a>(
     cursor: Cursor<'a>,
 ) -> Result<(Tree, Cursor<'a>), ImageNo>
     requires { IsAt input.now (seen cursor) }
-    ensures { Gives (λ x. (x.0, seen x.1)) result (nodes_at limits (limits.nodes - 1) root_text (map.insert map.empty root_text (node.Dir root_stamp)) (seen cursor.entry)) }
+    ensures { Gives (λ x. (x.0, seen x.1)) result
+        (nodes_at limits (limits.nodes - 1) root_text
+        (map.insert map.empty root_text (node.Dir root_stamp)) (seen cursor.entry)) }
 {
     let mut tree = Tree::new(alloc, root_stamp)?;
     let mut last = Path::root();
@@ -188,11 +193,13 @@ pub fn read_image(alloc: Global, bytes: &[u8]) -> Result<Tree, ImageNo>
     // The bytes are the tree's text, and the tree breaks no limit.
     ensures found { IfOk result (λ t. IsImage bytes.now t × (broken limits t ≡ None)) }
     // A text of a tree that breaks no limit is read as that tree, unless memory runs out.
-    ensures only { (t : Table) → IsImage bytes.now t → broken limits t ≡ None → Gives (λ u. u) result (Ok t) }
+    ensures only { (t : Table) → IsImage bytes.now t → broken limits t ≡ None
+        → Gives (λ u. u) result (Ok t) }
     // Which fault it is, and where.
     ensures exact { Gives (λ t. t) result (reading limits bytes.now) }
     // An input that is too long is told also where memory is short.
-    ensures long { limits.image < length bytes.now → result ≡ Err (no.Limit which.Image limits.image) }
+    ensures long { limits.image < length bytes.now
+        → result ≡ Err (no.Limit which.Image limits.image) }
 {
     if is_too_long(bytes) {
         return Err(TOO_LONG);
@@ -204,7 +211,8 @@ pub fn read_image(alloc: Global, bytes: &[u8]) -> Result<Tree, ImageNo>
 /// stay as long as one of them does.
 pub fn read_text(alloc: Global, text: Text) -> Result<Tree, ImageNo>
     ensures found { IfOk result (λ t. IsImage text t × (broken limits t ≡ None)) }
-    ensures only { (t : Table) → IsImage text t → broken limits t ≡ None → Gives (λ u. u) result (Ok t) }
+    ensures only { (t : Table) → IsImage text t → broken limits t ≡ None
+        → Gives (λ u. u) result (Ok t) }
     ensures exact { Gives (λ t. t) result (reading limits text) }
     ensures long { limits.image < length text → result ≡ Err (no.Limit which.Image limits.image) }
 {

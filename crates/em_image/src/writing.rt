@@ -59,7 +59,8 @@ fn put_node(out: &mut Text, path: &Path, node: &Node) -> Result<(), NoMemory>
 
 /// What is left of `room` bytes behind the text of a node; none where the text is longer.
 fn left_behind(room: usize, path: &Path, node: &Node) -> Option<usize>
-    ensures { MatchOption result (room < length (node_text (path.now, node.now))) (λ left. left + length (node_text (path.now, node.now)) ≡ room) }
+    ensures { MatchOption result (room < length (node_text (path.now, node.now)))
+        (λ left. left + length (node_text (path.now, node.now)) ≡ room) }
 {
     let room = room.checked_sub(path.text().len())?;
     match node {
@@ -99,8 +100,11 @@ fn is_late(node: &Node) -> bool
 
 /// Measures the tree in one pass; none where its text is too long.
 fn measured(tree: &Tree) -> Option<Measure>
-    ensures text { MatchOption result (limits.image < length (image_text tree.now)) (λ m. m.room + length (image_text tree.now) ≡ limits.image) }
-    ensures nodes { IfSome result (λ m. (m.has_big_file ≡ list_any (is_too_big limits) (entries tree.now)) × (m.has_late_stamp ≡ list_any (is_too_late limits) (entries tree.now))) }
+    ensures text { MatchOption result (limits.image < length (image_text tree.now))
+        (λ m. m.room + length (image_text tree.now) ≡ limits.image) }
+    ensures nodes { IfSome result
+        (λ m. (m.has_big_file ≡ list_any (is_too_big limits) (entries tree.now))
+        × (m.has_late_stamp ≡ list_any (is_too_late limits) (entries tree.now))) }
 {
     let mut room = MAX_IMAGE - 11;
     let mut has_big_file = false;
@@ -119,7 +123,9 @@ fn measured(tree: &Tree) -> Option<Measure>
 
 /// How many bytes the text has, or the first limit that the tree breaks.
 fn length_of(tree: &Tree) -> Result<usize, Which>
-    ensures exact { MatchResult result (λ n. (broken limits tree.now ≡ None) × (n ≡ length (image_text tree.now))) (λ w. broken limits tree.now ≡ Some w) }
+    ensures exact { MatchResult result
+        (λ n. (broken limits tree.now ≡ None) × (n ≡ length (image_text tree.now)))
+        (λ w. broken limits tree.now ≡ Some w) }
     ensures tree { OnOk result (IsTree tree.now) }
 {
     let Some(
@@ -162,7 +168,8 @@ fn text_of(alloc: Global, tree: &Tree, length: usize) -> Result<Text, NoMemory>
 /// for once.
 pub fn write_image(alloc: Global, tree: &Tree) -> Result<Text, ImageNo>
     // What is written is the tree's text, and the tree breaks no limit. So it is read again.
-    ensures written { IfOk result (λ text. IsImage text tree.now × (broken limits tree.now ≡ None)) }
+    ensures written { IfOk result
+        (λ text. IsImage text tree.now × (broken limits tree.now ≡ None)) }
     // Which limit is refused.
     ensures exact { Gives (λ t. t) result (writing limits tree.now) }
     // It is told also where memory is short.

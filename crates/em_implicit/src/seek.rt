@@ -51,7 +51,8 @@ impl Known<'_> {
         rule: &Rule,
     ) -> Result<Option<Found>, NoMemory>
         ensures best { IfOk result (λ r. r ≡ fold shorter best
-            (candidate self.now.rules.now self.now.tree.now self.now.cwd.now target.now number rule.now)) }
+            (candidate self.now.rules.now self.now.tree.now self.now.cwd.now target.now number
+            rule.now)) }
         ensures unmatched { rule_match rule.now target.now ≡ None → result ≡ Ok best }
     {
         let Some(found) = rule_match(rule, target) else {

@@ -142,7 +142,8 @@ pub(crate) fn carry_out<V: View>(
     job: &Job,
     course: Result<Course, Stop>,
 ) -> Result<Outcome, Stop>
-    ensures ok { IfOk course (λ c. Does is_free V.tells desk.old desk.new spoken.old spoken.new result
+    ensures ok { IfOk course
+        (λ c. Does is_free V.tells desk.old desk.new spoken.old spoken.new result
         (carrying.carry_out job.now c)) }
     ensures err { IfErr course (λ e. (result ≡ Err e)
         × ((desk.new ≡ desk.old) × (spoken.new ≡ spoken.old))) }

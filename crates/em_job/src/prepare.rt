@@ -157,7 +157,8 @@ fn expand_recipe<V: View>(
 /// Says that no rule makes the target.
 fn no_rule(spoken: &mut Spoken, job: &Job) -> Result<(), Stop>
     ensures { Works is_free spoken.old spoken.new result
-        (preparing.say (messages.no_rule job.now.plan.target job.now.plan.needed_by job.now.flags.keep_going)) }
+        (preparing.say (messages.no_rule job.now.plan.target job.now.plan.needed_by
+        job.now.flags.keep_going)) }
 {
     let plan = &job.plan;
     put_no_rule(

@@ -80,8 +80,10 @@ fn append(text: &mut Vec<u8>, row: &[u8]) -> Result<(), NoMemory>
 pub(crate) fn first_line<'a>(alloc: Global, bytes: &'a [u8]) -> Result<First<'a>, NoMemory>
     ensures tab { IfOk result (λ l. l.tab ≡ is_recipe (first_group (rows bytes.now))) }
     ensures text { IfOk result (λ l. l.text ≡ joined_text (first_group (rows bytes.now))) }
-    ensures rows { IfOk result (λ l. l.rows ≡ min (length (first_group (rows bytes.now))) 4294967295) }
-    ensures rest { IfOk result (λ l. rows_in (option_copied l.rest) ≡ behind_first (rows bytes.now)) }
+    ensures rows { IfOk result
+        (λ l. l.rows ≡ min (length (first_group (rows bytes.now))) 4294967295) }
+    ensures rest { IfOk result
+        (λ l. rows_in (option_copied l.rest) ≡ behind_first (rows bytes.now)) }
 {
     let (row, mut rest) = first_row(bytes);
     let tab = row.first() == Some(&b'\t');

@@ -20,6 +20,8 @@ pub fn law_bare()
 
 /// The logical lines are the joined lines, those outside recipes without their comments.
 pub fn law_logical()
-    ensures lines { (file bytes : List ℕ) → (logical file bytes).lines ≡ map bared (joined file bytes).lines }
-    ensures end { (file bytes : List ℕ) → (logical file bytes).too_long ≡ (joined file bytes).too_long }
+    ensures lines { (file bytes : List ℕ)
+        → (logical file bytes).lines ≡ map bared (joined file bytes).lines }
+    ensures end { (file bytes : List ℕ)
+        → (logical file bytes).too_long ≡ (joined file bytes).too_long }
 {}

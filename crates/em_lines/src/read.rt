@@ -79,7 +79,8 @@ pub fn logical_before(alloc: Global, file: &Text, bytes: &[u8]) -> Result<Lines,
 /// 1,048,576 bytes, with the place of the first such line.
 pub fn logical(alloc: Global, file: &Text, bytes: &[u8]) -> Result<Vec<Line>, LinesNo>
     ensures ok { IfOk result (λ v. all_lines file.now bytes.now ≡ Ok v.items) }
-    ensures err { IfErr result (λ e. (e ≡ LinesNo.NoMemory) ⊎ (all_lines file.now bytes.now ≡ Err e)) }
+    ensures err { IfErr result
+        (λ e. (e ≡ LinesNo.NoMemory) ⊎ (all_lines file.now bytes.now ≡ Err e)) }
 {
     let Lines { lines, too_long } = logical_before(alloc, file, bytes)?;
     match too_long {

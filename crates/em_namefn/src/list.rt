@@ -30,7 +30,9 @@ pub(crate) fn part(alloc: Global, part: Part, x: &[u8]) -> Result<Text, NoMemory
 
 /// `suffix x`: words without a suffix give nothing.
 pub(crate) fn suffix(alloc: Global, x: &[u8]) -> Result<Text, NoMemory>
-    ensures { IfOk result (λ t. t ≡ joined (filter (λ s. nat_lt 0 (length s)) (map names.suffix_of (words_of x.now)))) }
+    ensures { IfOk result
+        (λ t. t ≡ joined (filter
+        (λ s. nat_lt 0 (length s)) (map names.suffix_of (words_of x.now)))) }
 {
     let mut suffixes = parts(alloc, Part::Suffix, x)?;
     suffixes.retain(|s| !s.is_empty());
@@ -84,7 +86,8 @@ fn word_at<'a>(words: &[&'a [u8]], n: usize) -> &'a [u8]
 }
 
 fn pairs(alloc: Global, a: &[&[u8]], b: &[&[u8]]) -> Result<Vec<Text>, NoMemory>
-    ensures { IfOk result (λ v. v.items ≡ names.pairs (map (λ w. w.now) a.now) (map (λ w. w.now) b.now)) }
+    ensures { IfOk result
+        (λ v. v.items ≡ names.pairs (map (λ w. w.now) a.now) (map (λ w. w.now) b.now)) }
 {
     let mut all = Vec::new(alloc);
     for n in 0..a.len().max(b.len()) {

@@ -41,7 +41,8 @@ fn each_pattern<V: View>(
     cwd: &Path,
     desk: &mut Desk<V>,
 ) -> Result<Seq<Text>, DeskNo>
-    ensures performs { Acts V.tells desk.old desk.new result (each_pattern cwd.now [] (map (λ p. p.now) patterns.now)) }
+    ensures performs { Acts V.tells desk.old desk.new result
+        (each_pattern cwd.now [] (map (λ p. p.now) patterns.now)) }
     ensures unrefused { IfErr result (λ e. is_refusal e ≡ false) }
 {
     let mut all = Seq::new(alloc);
@@ -62,7 +63,8 @@ pub fn wildcard<V: View>(
     cwd: &Path,
     desk: &mut Desk<V>,
 ) -> Result<Text, DeskNo>
-    ensures performs { Acts V.tells desk.old desk.new result (wildcards.wildcard patterns.now cwd.now) }
+    ensures performs { Acts V.tells desk.old desk.new result
+        (wildcards.wildcard patterns.now cwd.now) }
     ensures unrefused { IfErr result (λ e. is_refusal e ≡ false) }
 {
     let words = texts(alloc, patterns)?;

@@ -159,7 +159,8 @@ impl Path {
     pub fn read(alloc: Global, cwd: &Path, name: &[u8]) -> Result<Path, PathNo>
         ensures ok { IfOk result (λ p. (read_fault cwd.now name.now ≡ None)
             × (p ≡ resolved_text cwd.now name.now)) }
-        ensures err { IfErr result (λ e. (e ≡ PathNo.NoMemory) ⊎ (read_fault cwd.now name.now ≡ Some e)) }
+        ensures err { IfErr result
+            (λ e. (e ≡ PathNo.NoMemory) ⊎ (read_fault cwd.now name.now ≡ Some e)) }
         ensures named { (e : PathNo) → name_fault_of name.now ≡ Some e → IsErrOf result e }
     {
         if let Some(fault) = name_fault(name) {
@@ -173,7 +174,8 @@ impl Path {
         requires spelled { text.items ≡ path_text (components text.items) }
         requires names { All IsComponent (components text.items) }
         ensures ok { IfOk result (λ p. (limit_fault text.items ≡ None) × (p ≡ text.items)) }
-        ensures err { IfErr result (λ e. (e ≡ PathNo.NoMemory) ⊎ (limit_fault text.items ≡ Some e)) }
+        ensures err { IfErr result
+            (λ e. (e ≡ PathNo.NoMemory) ⊎ (limit_fault text.items ≡ Some e)) }
     {
         if text.len() > 1024 {
             return Err(PathNo::TooLong);
@@ -191,7 +193,8 @@ impl Path {
     pub fn child(&self, alloc: Global, name: &[u8]) -> Result<Path, PathNo>
         requires component { IsComponent name.now }
         ensures ok { IfOk result (λ p. p ≡ child_text self.now name.now) }
-        ensures long { IsErrOf result PathNo.TooLong ↔ (1024 < length (child_text self.now name.now)) }
+        ensures long { IsErrOf result PathNo.TooLong
+            ↔ (1024 < length (child_text self.now name.now)) }
         ensures deep { IsErrOf result PathNo.TooDeep
             ↔ (length (child_text self.now name.now) ≤ 1024)
             × (64 < length (components (child_text self.now name.now))) }

@@ -25,7 +25,9 @@ pub(crate) fn begins_with(byte: u8, glyphs: &[Glyph]) -> bool
 
 /// The root, or the working directory, whose name is empty.
 fn first(alloc: Global, cwd: &Path, slash: bool) -> Result<Found, NoMemory>
-    ensures { IfOk result (λ f. f ≡ (if slash then record { name = 47 ∷ []; path = root_text } else record { name = []; path = cwd.now })) }
+    ensures { IfOk result
+        (λ f. f ≡ (if slash then record { name = 47 ∷ []; path = root_text }
+        else record { name = []; path = cwd.now })) }
 {
     if slash {
         return Ok(Found {

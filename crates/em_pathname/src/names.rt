@@ -56,7 +56,8 @@ fn shown(
     component: &[Glyph],
     name: &[u8],
 ) -> Result<Option<Found>, NoMemory>
-    ensures { IfOk result (λ f. those_that_match cwd.now dir.now component.now (name.now ∷ []) ≡ option_to_list f) }
+    ensures { IfOk result
+        (λ f. those_that_match cwd.now dir.now component.now (name.now ∷ []) ≡ option_to_list f) }
 {
     if !shows(component, name) {
         return Ok(None);

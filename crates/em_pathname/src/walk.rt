@@ -21,7 +21,8 @@ fn search<V: View>(
     dir: &Found,
     desk: &mut Desk<V>,
 ) -> Result<Seq<Found>, DeskNo>
-    ensures performs { Acts V.tells desk.old desk.new result (search cwd.now component.now dir.now) }
+    ensures performs { Acts V.tells desk.old desk.new result
+        (search cwd.now component.now dir.now) }
     ensures unrefused { IfErr result (λ e. is_refusal e ≡ false) }
 {
     let names = desk.names(&dir.path)?;
@@ -63,7 +64,8 @@ fn look_up<V: View>(
     dir: &Found,
     desk: &mut Desk<V>,
 ) -> Result<Seq<Found>, DeskNo>
-    ensures performs { Acts V.tells desk.old desk.new result (look_up cwd.now component.now dir.now) }
+    ensures performs { Acts V.tells desk.old desk.new result
+        (look_up cwd.now component.now dir.now) }
     ensures unrefused { IfErr result (λ e. is_refusal e ≡ false) }
 {
     let name = name_below(alloc, dir.name.bytes(), &bytes_of(alloc, component)?)?;
@@ -78,7 +80,8 @@ fn in_dir<V: View>(
     dir: &Found,
     desk: &mut Desk<V>,
 ) -> Result<Seq<Found>, DeskNo>
-    ensures performs { Acts V.tells desk.old desk.new result (in_dir cwd.now component.now dir.now) }
+    ensures performs { Acts V.tells desk.old desk.new result
+        (in_dir cwd.now component.now dir.now) }
     ensures unrefused { IfErr result (λ e. is_refusal e ≡ false) }
 {
     if is_pattern(component) {
@@ -96,7 +99,8 @@ fn in_each<V: View>(
     dirs: &[Found],
     desk: &mut Desk<V>,
 ) -> Result<Seq<Found>, DeskNo>
-    ensures performs { Acts V.tells desk.old desk.new result (in_each cwd.now component.now [] dirs.now) }
+    ensures performs { Acts V.tells desk.old desk.new result
+        (in_each cwd.now component.now [] dirs.now) }
     ensures unrefused { IfErr result (λ e. is_refusal e ≡ false) }
 {
     let mut all = Seq::new(alloc);
@@ -114,7 +118,8 @@ fn walk<V: View>(
     start: Seq<Found>,
     desk: &mut Desk<V>,
 ) -> Result<Seq<Found>, DeskNo>
-    ensures performs { Acts V.tells desk.old desk.new result (walk cwd.now (map (λ c. c.now) components.now) start) }
+    ensures performs { Acts V.tells desk.old desk.new result
+        (walk cwd.now (map (λ c. c.now) components.now) start) }
     ensures unrefused { IfErr result (λ e. is_refusal e ≡ false) }
 {
     let mut dirs = start;
@@ -136,7 +141,8 @@ pub fn matching_names<V: View>(
     cwd: &Path,
     desk: &mut Desk<V>,
 ) -> Result<Seq<Text>, DeskNo>
-    ensures performs { Acts V.tells desk.old desk.new result (walking.matching_names cwd.now pattern.now) }
+    ensures performs { Acts V.tells desk.old desk.new result
+        (walking.matching_names cwd.now pattern.now) }
     ensures unrefused { IfErr result (λ e. is_refusal e ≡ false) }
 {
     let parts = components(alloc, pattern)?;

@@ -58,7 +58,8 @@ pub fn law_without_circles()
 /// What was dropped was on the walk's stack: when a name gets its number, each of its prerequisites has one, or is open.
 pub fn law_dropped()
     ensures { (says : List ℕ → Making) (left : ℕ) (stack : List (List ℕ)) (t : List ℕ)
-        (w v : Walked) → finish (visit says left (t ∷ stack)) t stack (says t) (says t).needs w ≡ Ok v
+        (w v : Walked)
+        → finish (visit says left (t ∷ stack)) t stack (says t) (says t).needs w ≡ Ok v
         → (last : Walked) × (v ≡ with_job t stack (says t) last)
         × All (λ n. (is_in (t ∷ stack) n.name ≡ true) ⊎ (is_numbered last.jobs n.name ≡ true))
         (says t).needs }

@@ -8,8 +8,10 @@ ghost use Rattle.em_refs.specs.Nesting.{IsNested, IsUnclosed};
 /// Nothing is lost: the parts of a text, each as it was written, and what stands from a reference on that isn't closed, are
 /// the text again.
 pub fn law_whole()
-    ensures before { (text : List ℕ) → flat_map (source text) (parted text).parts ++ left text (parted text).unclosed ≡ text }
-    ensures all { (text : List ℕ) (ps : List Part) → parts_of text ≡ Ok ps → flat_map (source text) ps ≡ text }
+    ensures before { (text : List ℕ)
+        → flat_map (source text) (parted text).parts ++ left text (parted text).unclosed ≡ text }
+    ensures all { (text : List ℕ) (ps : List Part) → parts_of text ≡ Ok ps
+        → flat_map (source text) ps ≡ text }
 {}
 
 /// In a reference that is closed the brackets of its kind pair off, and one that isn't closed has no bracket that closes it.
@@ -20,5 +22,6 @@ pub fn law_nested()
 
 /// A text without `$` is one literal, and the empty text has no part.
 pub fn law_plain()
-    ensures { (text : List ℕ) → All (λ b. b ≢ 36) text → parts_of text ≡ Ok (literal 0 (length text)) }
+    ensures { (text : List ℕ) → All (λ b. b ≢ 36) text
+        → parts_of text ≡ Ok (literal 0 (length text)) }
 {}

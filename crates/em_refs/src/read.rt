@@ -12,7 +12,8 @@ use std::alloc::Global;
 /// Where the bracket that opened before the bytes is closed in them; only brackets of its own kind count.
 fn closing(bracket: Bracket, rest: &[u8]) -> Option<usize>
     ensures within { IfSome result (λ n. n < length rest.now) }
-    ensures parts { (from : ℕ) → parts_from (inside from bracket 0) (from + 2) rest.now ≡ closes from rest.now result }
+    ensures parts { (from : ℕ)
+        → parts_from (inside from bracket 0) (from + 2) rest.now ≡ closes from rest.now result }
 {
     let mut deep: usize = 0;
     for (at, byte) in rest.iter().enumerate() {
@@ -32,7 +33,8 @@ fn closing(bracket: Bracket, rest: &[u8]) -> Option<usize>
 fn bracketed(text: &[u8], at: usize, bracket: Bracket) -> Option<(Part, usize)>
     requires inside { at + 1 < length text.now }
     ensures within { IfSome result (λ p. (at < p.1) × (p.1 ≤ length text.now)) }
-    ensures parts { parts_from (inside at bracket 0) (at + 2) (drop (at + 2) text.now) ≡ begins text.now at result }
+    ensures parts { parts_from (inside at bracket 0) (at + 2) (drop (at + 2) text.now)
+        ≡ begins text.now at result }
 {
     let start = at + 2;
     let end = start + closing(bracket, &text[start..])?;

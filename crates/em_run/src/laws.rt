@@ -8,5 +8,6 @@ use crate::spec::Spec;
 /// Where each job makes one thing of a state at most, there is one serial run at most.
 pub fn law_one_run<S: Spec>()
     ensures { IsOne S.makes → (start : State) (jobs : List S) (a b : List Made)
-        → IsSerial S.makes S.ends_after start jobs a → IsSerial S.makes S.ends_after start jobs b → a ≡ b }
+        → IsSerial S.makes S.ends_after start jobs a → IsSerial S.makes S.ends_after start jobs b
+        → a ≡ b }
 {}

@@ -56,9 +56,23 @@ impl<S: Spec> Run<S> {
         fuel: u64,
     ) -> Run<S>
         requires { IsValid S.makes
-            (record { spec = spec; usage = usage; delta = delta; output = output; outcome = outcome; fuel = fuel }) }
+            (record {
+              spec = spec;
+              usage = usage;
+              delta = delta;
+              output = output;
+              outcome = outcome;
+              fuel = fuel;
+            }) }
         ensures { result
-            ≡ record { spec = spec; usage = usage; delta = delta; output = output; outcome = outcome; fuel = fuel } }
+            ≡ record {
+              spec = spec;
+              usage = usage;
+              delta = delta;
+              output = output;
+              outcome = outcome;
+              fuel = fuel;
+            } }
     {
         Run {
             parts: Parts {

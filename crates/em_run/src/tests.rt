@@ -33,14 +33,15 @@ impl Spec for Mark {
     ghost makes = { λ m s e n. (e ≡ effect_by end_of (mark m.path) (fresh 100 m.job m.fuel) s)
         × (n ≡ used_by (mark m.path) (fresh 100 m.job m.fuel) s) };
 
-    ghost means_same = { λ a b h. let e = same_parts (a.job, (a.fuel, a.path)) (b.job, (b.fuel, b.path)) h in record {
-      number = ap (λ x. x.0) e;
-      ends = λ o. refl;
-      effects = λ s f n. λ made. (
-        made.0 ∙ ap (λ x. effect_by end_of (mark x.1.1) (fresh 100 x.0 x.1.0) s) e,
-        made.1 ∙ ap (λ x. used_by (mark x.1.1) (fresh 100 x.0 x.1.0) s) e,
-      );
-    } };
+    ghost means_same = { λ a b h. let e = same_parts (a.job, (a.fuel, a.path))
+        (b.job, (b.fuel, b.path)) h in record {
+          number = ap (λ x. x.0) e;
+          ends = λ o. refl;
+          effects = λ s f n. λ made. (
+            made.0 ∙ ap (λ x. effect_by end_of (mark x.1.1) (fresh 100 x.0 x.1.0) s) e,
+            made.1 ∙ ap (λ x. used_by (mark x.1.1) (fresh 100 x.0 x.1.0) s) e,
+          );
+        } };
 
     fn job(&self) -> u32 {
         self.job

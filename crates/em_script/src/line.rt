@@ -47,7 +47,8 @@ impl Line {
         out: &mut Text,
     ) -> Result<u8, ExecNo>
         ensures { Does is_want V.tells desk.old desk.new
-            (record { shell = shell.old; output = out.old }) (record { shell = shell.new; output = out.new })
+            (record { shell = shell.old; output = out.old })
+            (record { shell = shell.new; output = out.new })
             result (run_line self.now) }
     {
         match self {

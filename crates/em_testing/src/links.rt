@@ -31,14 +31,15 @@ impl Spec for Link {
     ghost makes = { λ l s e n. (e ≡ effect_by end_of (link l.before l.path) (fresh 100 l.job 20) s)
         × (n ≡ used_by (link l.before l.path) (fresh 100 l.job 20) s) };
 
-    ghost means_same = { λ a b h. let e = same_links (a.job, (a.before, a.path)) (b.job, (b.before, b.path)) h in record {
-      number = ap (λ x. x.0) e;
-      ends = λ o. refl;
-      effects = λ s f n. λ made. (
-        made.0 ∙ ap (λ x. effect_by end_of (link x.1.0 x.1.1) (fresh 100 x.0 20) s) e,
-        made.1 ∙ ap (λ x. used_by (link x.1.0 x.1.1) (fresh 100 x.0 20) s) e,
-      );
-    } };
+    ghost means_same = { λ a b h. let e = same_links (a.job, (a.before, a.path))
+        (b.job, (b.before, b.path)) h in record {
+          number = ap (λ x. x.0) e;
+          ends = λ o. refl;
+          effects = λ s f n. λ made. (
+            made.0 ∙ ap (λ x. effect_by end_of (link x.1.0 x.1.1) (fresh 100 x.0 20) s) e,
+            made.1 ∙ ap (λ x. used_by (link x.1.0 x.1.1) (fresh 100 x.0 20) s) e,
+          );
+        } };
 
     fn job(&self) -> u32 {
         self.job
@@ -83,7 +84,8 @@ fn make<V: View>(
     path: &Path,
     output: &mut Text,
 ) -> Result<Outcome, DeskNo>
-    ensures { Does is_memory V.tells desk.old desk.new output.old output.new result (link before.now path.now) }
+    ensures { Does is_memory V.tells desk.old desk.new output.old output.new result
+        (link before.now path.now) }
 {
     let body = desk.content(before)?;
     let text = grown(alloc, &body, path)?;

@@ -67,8 +67,10 @@ fn positive(text: &Text) -> Option<usize>
 /// `word n,x`: the n-th word, from 1; nothing beyond the end.
 fn word(alloc: Global, n: &Text, x: &Text) -> Result<Text, TextfnNo>
     ensures ok { IfOk result (λ t. nth_of (positive_of n.now) (words_of x.now) ≡ Ok t) }
-    ensures err { IfErr result (λ e. (e ≡ TextfnNo.NoMemory) ⊎ (nth_of (positive_of n.now) (words_of x.now) ≡ Err e)) }
-    ensures memory { result ≡ Err TextfnNo.NoMemory → IsOk (nth_of (positive_of n.now) (words_of x.now)) }
+    ensures err { IfErr result
+        (λ e. (e ≡ TextfnNo.NoMemory) ⊎ (nth_of (positive_of n.now) (words_of x.now) ≡ Err e)) }
+    ensures memory { result ≡ Err TextfnNo.NoMemory
+        → IsOk (nth_of (positive_of n.now) (words_of x.now)) }
 {
     match positive(n) {
         Some(n) => Ok(list::word(alloc, n, x.bytes())?),
@@ -78,9 +80,13 @@ fn word(alloc: Global, n: &Text, x: &Text) -> Result<Text, TextfnNo>
 
 /// `wordlist s,e,x`: the words from number s, from 1, up to and with number e.
 fn word_list(alloc: Global, s: &Text, e: &Text, x: &Text) -> Result<Text, TextfnNo>
-    ensures ok { IfOk result (λ t. range_of (positive_of s.now) (index_of e.now) (words_of x.now) ≡ Ok t) }
-    ensures err { IfErr result (λ no. (no ≡ TextfnNo.NoMemory) ⊎ (range_of (positive_of s.now) (index_of e.now) (words_of x.now) ≡ Err no)) }
-    ensures memory { result ≡ Err TextfnNo.NoMemory → IsOk (range_of (positive_of s.now) (index_of e.now) (words_of x.now)) }
+    ensures ok { IfOk result
+        (λ t. range_of (positive_of s.now) (index_of e.now) (words_of x.now) ≡ Ok t) }
+    ensures err { IfErr result
+        (λ no. (no ≡ TextfnNo.NoMemory)
+        ⊎ (range_of (positive_of s.now) (index_of e.now) (words_of x.now) ≡ Err no)) }
+    ensures memory { result ≡ Err TextfnNo.NoMemory
+        → IsOk (range_of (positive_of s.now) (index_of e.now) (words_of x.now)) }
 {
     match (positive(s), index(e)) {
         (Some(s), Some(e)) => Ok(list::word_list(alloc, s, e, x.bytes())?),
@@ -91,7 +97,8 @@ fn word_list(alloc: Global, s: &Text, e: &Text, x: &Text) -> Result<Text, Textfn
 /// What the function gives. Arguments beyond those that it needs are ignored.
 fn value(alloc: Global, function: Function, args: &[Text]) -> Result<Text, TextfnNo>
     ensures ok { IfOk result (λ t. value_of function args.now ≡ Ok t) }
-    ensures err { IfErr result (λ e. (e ≡ TextfnNo.NoMemory) ⊎ (value_of function args.now ≡ Err e)) }
+    ensures err { IfErr result
+        (λ e. (e ≡ TextfnNo.NoMemory) ⊎ (value_of function args.now ≡ Err e)) }
     ensures memory { result ≡ Err TextfnNo.NoMemory → IsOk (value_of function args.now) }
 {
     let text = match (function, args) {
@@ -125,11 +132,13 @@ fn value(alloc: Global, function: Function, args: &[Text]) -> Result<Text, Textf
 /// text to give.
 pub fn text_function(alloc: Global, name: &[u8], args: &[Text]) -> Result<Option<Text>, TextfnNo>
     ensures ok { IfOk result (λ r. functions.text_function name.now args.now ≡ Ok r) }
-    ensures err { IfErr result (λ e. (e ≡ TextfnNo.NoMemory) ⊎ (functions.text_function name.now args.now ≡ Err e)) }
+    ensures err { IfErr result
+        (λ e. (e ≡ TextfnNo.NoMemory) ⊎ (functions.text_function name.now args.now ≡ Err e)) }
     ensures none { IfOk result (λ r. IsNone r ↔ functions.function_of name.now ≡ None) }
 
     // another name and bad arguments are told without memory
-    ensures memory { result ≡ Err TextfnNo.NoMemory → IsOkAnd (functions.text_function name.now args.now) IsSome }
+    ensures memory { result ≡ Err TextfnNo.NoMemory
+        → IsOkAnd (functions.text_function name.now args.now) IsSome }
 {
     match function_of(name) {
         Some(function) => Ok(Some(value(alloc, function, args)?)),

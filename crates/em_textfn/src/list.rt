@@ -27,7 +27,8 @@ fn replaced_words(alloc: Global, p: &[u8], r: &[u8], x: &[u8]) -> Result<Vec<Tex
 
 /// `patsubst p,r,x`: those words with one space between each two.
 pub(crate) fn patsubst(alloc: Global, p: &[u8], r: &[u8], x: &[u8]) -> Result<Text, NoMemory>
-    ensures { IfOk result (λ t. t ≡ joined (nonempty (map (replaced p.now r.now) (words_of x.now)))) }
+    ensures { IfOk result
+        (λ t. t ≡ joined (nonempty (map (replaced p.now r.now) (words_of x.now)))) }
 {
     join_texts(alloc, &replaced_words(alloc, p, r, x)?)
 }
@@ -81,7 +82,8 @@ fn matches(patterns: &[&[u8]], word: &[u8]) -> bool
 
 /// `filter p,x`: the words that a pattern of p matches.
 pub(crate) fn filter(alloc: Global, p: &[u8], x: &[u8]) -> Result<Text, NoMemory>
-    ensures { IfOk result (λ t. t ≡ joined (filter (texts.matches (words_of p.now)) (words_of x.now))) }
+    ensures { IfOk result
+        (λ t. t ≡ joined (filter (texts.matches (words_of p.now)) (words_of x.now))) }
 {
     let patterns = texts(alloc, p)?;
     let mut words = texts(alloc, x)?;
@@ -91,7 +93,8 @@ pub(crate) fn filter(alloc: Global, p: &[u8], x: &[u8]) -> Result<Text, NoMemory
 
 /// `filter-out p,x`: the words that no pattern of p matches.
 pub(crate) fn filter_out(alloc: Global, p: &[u8], x: &[u8]) -> Result<Text, NoMemory>
-    ensures { IfOk result (λ t. t ≡ joined (filter (λ w. not (texts.matches (words_of p.now) w)) (words_of x.now))) }
+    ensures { IfOk result
+        (λ t. t ≡ joined (filter (λ w. not (texts.matches (words_of p.now) w)) (words_of x.now))) }
 {
     let patterns = texts(alloc, p)?;
     let mut words = texts(alloc, x)?;

@@ -42,7 +42,8 @@ pub fn opens(tokens: &[Lexeme], kinds: &[Kind]) -> bool
 pub fn skip<'a>(tokens: &'a [Lexeme], kinds: &[Kind]) -> Result<&'a [Lexeme], Stop<'a>>
     ensures reads { (left : ℕ) → Gives shell left (one (kinds_of kinds.now)) (whats tokens.now)
         (lead_of (λ x. (one (kinds_of kinds.now), whats x.now)) fault_of result) }
-    ensures wrong { IfErr result (λ x. begins_with shell (whats tokens.now) (kinds_of kinds.now) ≡ false) }
+    ensures wrong { IfErr result
+        (λ x. begins_with shell (whats tokens.now) (kinds_of kinds.now) ≡ false) }
     ensures shorter { IfOk result (λ x. length x.now < length tokens.now) }
 {
     if !opens(tokens, kinds) {
@@ -58,9 +59,11 @@ pub fn take<'a>(
 ) -> Result<(&'a Lexeme, &'a [Lexeme]), Stop<'a>>
     ensures reads { (left : ℕ) → Gives shell left (one (kinds_of kinds.now)) (whats tokens.now)
         (lead_of (λ x. (this (kinds_of kinds.now) x.0.now.what, whats x.1.now)) fault_of result) }
-    ensures among { IfOk result (λ x. is_among (class_of x.0.now.what) (kinds_of kinds.now) ≡ true) }
+    ensures among { IfOk result
+        (λ x. is_among (class_of x.0.now.what) (kinds_of kinds.now) ≡ true) }
     ensures split { IfOk result (λ x. tokens.now ≡ x.0.now ∷ x.1.now) }
-    ensures wrong { IfErr result (λ x. begins_with shell (whats tokens.now) (kinds_of kinds.now) ≡ false) }
+    ensures wrong { IfErr result
+        (λ x. begins_with shell (whats tokens.now) (kinds_of kinds.now) ≡ false) }
     ensures shorter { IfOk result (λ x. length x.1.now < length tokens.now) }
 {
     if !opens(tokens, kinds) {
@@ -76,9 +79,11 @@ pub fn descend<'a>(
     left: u32,
 ) -> Result<&'a [Lexeme], Stop<'a>>
     ensures level { IfOk result (λ x. 0 < left) }
-    ensures turns { IfOk result (λ x. (e : Expr) → Turns shell left (nested (kinds_of kinds.now) e) (whats tokens.now)
+    ensures turns { IfOk result
+        (λ x. (e : Expr) → Turns shell left (nested (kinds_of kinds.now) e) (whats tokens.now)
         (one (kinds_of kinds.now)) e (whats x.now)) }
-    ensures err { IfErr result (λ x. (e : Expr) → Gives shell left (nested (kinds_of kinds.now) e) (whats tokens.now)
+    ensures err { IfErr result
+        (λ x. (e : Expr) → Gives shell left (nested (kinds_of kinds.now) e) (whats tokens.now)
         (lead_off (fault_of x))) }
     ensures shorter { IfOk result (λ x. length x.now < length tokens.now) }
 {
@@ -94,7 +99,8 @@ pub fn descend<'a>(
 /// Passes newlines without a meaning.
 pub fn newlines<'a>(tokens: &'a [Lexeme]) -> &'a [Lexeme]
     ensures within { length result.now ≤ length tokens.now }
-    ensures reads { (left : ℕ) → Reads shell left Grammar.newlines (whats tokens.now) Grammar.newlines (whats result.now) }
+    ensures reads { (left : ℕ)
+        → Reads shell left Grammar.newlines (whats tokens.now) Grammar.newlines (whats result.now) }
 {
     let mut rest = tokens;
     while opens(rest, &[Kind::Newline]) {
@@ -128,7 +134,11 @@ pub fn reserved<'a>(tokens: &'a [Lexeme], kind: Kind) -> Result<&'a [Lexeme], St
 /// `!`, perhaps.
 pub fn bang<'a>(tokens: &'a [Lexeme]) -> Result<(bool, &'a [Lexeme]), Stop<'a>>
     ensures reads { (left : ℕ) → Gives shell left Grammar.bang (whats tokens.now)
-        (lead_of (λ x. (cond x.0 (Grammar.reserved Kind.Bang) empty, whats x.1.now)) fault_of result) }
+        (lead_of (λ x. (
+          cond x.0
+              (Grammar.reserved Kind.Bang) empty,
+          whats x.1.now,
+        )) fault_of result) }
     ensures within { IfOk result (λ x. length x.1.now ≤ length tokens.now) }
 {
     if opens(tokens, &[Kind::Bang]) {
@@ -265,7 +275,8 @@ pub fn opens_list(tokens: &[Lexeme]) -> bool
 
 /// Whether a simple command begins here.
 pub fn opens_simple(tokens: &[Lexeme]) -> bool
-    ensures { result ≡ begins_with shell (whats tokens.now) (first_set shell.list_first Grammar.simple) }
+    ensures { result
+        ≡ begins_with shell (whats tokens.now) (first_set shell.list_first Grammar.simple) }
 {
     opens(
         tokens,
@@ -284,7 +295,8 @@ pub fn opens_simple(tokens: &[Lexeme]) -> bool
 
 /// Whether a redirection begins here.
 pub fn opens_redirect(tokens: &[Lexeme]) -> bool
-    ensures { result ≡ begins_with shell (whats tokens.now) (first_set shell.list_first Grammar.redirect) }
+    ensures { result
+        ≡ begins_with shell (whats tokens.now) (first_set shell.list_first Grammar.redirect) }
 {
     opens(
         tokens,
@@ -300,7 +312,8 @@ pub fn opens_redirect(tokens: &[Lexeme]) -> bool
 
 /// Whether an assignment or a redirection begins here.
 pub fn opens_prefix(tokens: &[Lexeme]) -> bool
-    ensures { result ≡ begins_with shell (whats tokens.now) (first_set shell.list_first Grammar.prefix) }
+    ensures { result
+        ≡ begins_with shell (whats tokens.now) (first_set shell.list_first Grammar.prefix) }
 {
     opens(
         tokens,
@@ -347,7 +360,8 @@ pub fn opens_word(tokens: &[Lexeme]) -> bool
 
 /// Whether a word or a redirection begins here.
 pub fn opens_argument(tokens: &[Lexeme]) -> bool
-    ensures { result ≡ begins_with shell (whats tokens.now) (first_set shell.list_first Grammar.argument) }
+    ensures { result
+        ≡ begins_with shell (whats tokens.now) (first_set shell.list_first Grammar.argument) }
 {
     opens(
         tokens,
@@ -411,7 +425,8 @@ pub fn opens_command_word(tokens: &[Lexeme]) -> bool
 
 /// Whether an item of a `case` begins here.
 pub fn opens_item(tokens: &[Lexeme]) -> bool
-    ensures { result ≡ begins_with shell (whats tokens.now) (first_set shell.list_first Grammar.item) }
+    ensures { result
+        ≡ begins_with shell (whats tokens.now) (first_set shell.list_first Grammar.item) }
 {
     opens(
         tokens,

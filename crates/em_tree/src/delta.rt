@@ -155,9 +155,14 @@ impl Delta {
 }
 
 impl PartialEq for Delta {
-    ghost eq = { λ d e. pointwise (λ p q. pointwise nat_eq p.0 q.0 && option_eq nodes.ghosts.eq p.1 q.1) (map.entries d) (map.entries e) };
+    ghost eq = { λ d e. pointwise
+        (λ p q. pointwise nat_eq p.0 q.0 && option_eq nodes.ghosts.eq p.1 q.1)
+        (map.entries d) (map.entries e) };
 
-    ghost laws = { partial_equiv_from_equiv (on_equiv map.entries (lists_equiv (and_equiv (on_equiv (λ p. p.0) nat_list_eq_equiv) (on_equiv (λ p. p.1) (options_equiv node_eq_laws.laws-law))))) };
+    ghost laws = { partial_equiv_from_equiv
+        (on_equiv map.entries
+        (lists_equiv (and_equiv (on_equiv (λ p. p.0) nat_list_eq_equiv)
+        (on_equiv (λ p. p.1) (options_equiv node_eq_laws.laws-law))))) };
 
     fn eq(&self, other: &Self) -> bool {
         self.named == other.named
@@ -165,5 +170,7 @@ impl PartialEq for Delta {
 }
 
 impl Eq for Delta {
-    ghost laws = { on_equiv map.entries (lists_equiv (and_equiv (on_equiv (λ p. p.0) nat_list_eq_equiv) (on_equiv (λ p. p.1) (options_equiv node_eq_laws.laws-law)))) };
+    ghost laws = { on_equiv map.entries
+        (lists_equiv (and_equiv (on_equiv (λ p. p.0) nat_list_eq_equiv)
+        (on_equiv (λ p. p.1) (options_equiv node_eq_laws.laws-law)))) };
 }

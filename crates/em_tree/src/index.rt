@@ -17,8 +17,14 @@ pub(crate) type Children = BTreeMap<Path, BTreeSet<Path>>;
 
 /// Adds a child.
 fn add(children: &mut Children, alloc: Global, parent: Path, child: Path) -> Result<(), NoMemory>
-    ensures ok { OnOk result ((p k : List ℕ) → has_child children.new p k ≡ (has_child children.old p k || (eq_by_cmp (slice_cmp nat_cmp) p parent && eq_by_cmp (slice_cmp nat_cmp) k child))) }
-    ensures err { OnErr result ((p k : List ℕ) → has_child children.new p k ≡ has_child children.old p k) }
+    ensures ok { OnOk result
+        ((p k : List ℕ)
+        → has_child children.new p k
+        ≡ (has_child children.old p k
+        || (eq_by_cmp (slice_cmp nat_cmp) p parent
+        && eq_by_cmp (slice_cmp nat_cmp) k child))) }
+    ensures err { OnErr result
+        ((p k : List ℕ) → has_child children.new p k ≡ has_child children.old p k) }
 {
     if let Some(paths) = children.get_mut(&parent) {
         paths.insert(child)?;
@@ -32,7 +38,11 @@ fn add(children: &mut Children, alloc: Global, parent: Path, child: Path) -> Res
 
 /// Takes a child out.
 fn take(children: &mut Children, parent: &Path, child: &Path)
-    ensures { (p k : List ℕ) → has_child children.new p k ≡ (has_child children.old p k && not (eq_by_cmp (slice_cmp nat_cmp) p parent.now && eq_by_cmp (slice_cmp nat_cmp) k child.now)) }
+    ensures { (p k : List ℕ)
+        → has_child children.new p k
+        ≡ (has_child children.old p k
+        && not (eq_by_cmp (slice_cmp nat_cmp) p parent.now
+        && eq_by_cmp (slice_cmp nat_cmp) k child.now)) }
 {
     if let Some(paths) = children.get_mut(parent) {
         paths.remove(child);
@@ -67,8 +77,14 @@ impl Place {
 
 /// Lists a path under its parent.
 fn list(children: &mut Children, alloc: Global, place: &Place) -> Result<(), NoMemory>
-    ensures ok { OnOk result ((p k : List ℕ) → has_child children.new p k ≡ (has_child children.old p k || (is_parent p place.now.path && eq_by_cmp (slice_cmp nat_cmp) k place.now.path))) }
-    ensures err { OnErr result ((p k : List ℕ) → has_child children.new p k ≡ has_child children.old p k) }
+    ensures ok { OnOk result
+        ((p k : List ℕ)
+        → has_child children.new p k
+        ≡ (has_child children.old p k
+        || (is_parent p place.now.path
+        && eq_by_cmp (slice_cmp nat_cmp) k place.now.path))) }
+    ensures err { OnErr result
+        ((p k : List ℕ) → has_child children.new p k ≡ has_child children.old p k) }
 {
     if let Some(parent) = &place.above {
         add(children, alloc, parent.copy()?, place.path.copy()?)?;
@@ -78,7 +94,11 @@ fn list(children: &mut Children, alloc: Global, place: &Place) -> Result<(), NoM
 
 /// Takes a path from its parent's list.
 fn unlist(children: &mut Children, place: &Place)
-    ensures { (p k : List ℕ) → has_child children.new p k ≡ (has_child children.old p k && not (is_parent p place.now.path && eq_by_cmp (slice_cmp nat_cmp) k place.now.path)) }
+    ensures { (p k : List ℕ)
+        → has_child children.new p k
+        ≡ (has_child children.old p k
+        && not (is_parent p place.now.path
+        && eq_by_cmp (slice_cmp nat_cmp) k place.now.path)) }
 {
     if let Some(parent) = &place.above {
         take(children, parent, &place.path);

@@ -13,12 +13,14 @@ ghost use Rattle.em_tree.specs.Answers.{answer, answer_on};
 
 /// A path that a delta names becomes what it says.
 pub fn law_named_paths()
-    ensures { (d : Changes) (t : Table) (p : List ℕ) (c : Option Node) → map.get d p ≡ Some c → map.get (laid_over d t) p ≡ c }
+    ensures { (d : Changes) (t : Table) (p : List ℕ) (c : Option Node) → map.get d p ≡ Some c
+        → map.get (laid_over d t) p ≡ c }
 {}
 
 /// Laying a delta changes no other path.
 pub fn law_other_paths()
-    ensures { (d : Changes) (t : Table) (p : List ℕ) → map.get d p ≡ None → map.get (laid_over d t) p ≡ map.get t p }
+    ensures { (d : Changes) (t : Table) (p : List ℕ) → map.get d p ≡ None
+        → map.get (laid_over d t) p ≡ map.get t p }
 {}
 
 /// A delta laid twice is as once.
@@ -30,9 +32,11 @@ pub fn law_laid_twice()
 pub fn law_one_path()
     ensures kind { (s t : Table) (a b : ℕ → Option Outcome) (p : List ℕ) → map.get s p ≡ map.get t p
         → answer_on s a (ask.Kind p) ≡ answer_on t b (ask.Kind p) }
-    ensures stamp { (s t : Table) (a b : ℕ → Option Outcome) (p : List ℕ) → map.get s p ≡ map.get t p
+    ensures stamp { (s t : Table) (a b : ℕ → Option Outcome) (p : List ℕ)
+        → map.get s p ≡ map.get t p
         → answer_on s a (ask.Stamp p) ≡ answer_on t b (ask.Stamp p) }
-    ensures content { (s t : Table) (a b : ℕ → Option Outcome) (p : List ℕ) → map.get s p ≡ map.get t p
+    ensures content { (s t : Table) (a b : ℕ → Option Outcome) (p : List ℕ)
+        → map.get s p ≡ map.get t p
         → answer_on s a (ask.Content p) ≡ answer_on t b (ask.Content p) }
     ensures outcome { (s t : Table) (a b : ℕ → Option Outcome) (k : ℕ) → a k ≡ b k
         → answer_on s a (ask.Outcome k) ≡ answer_on t b (ask.Outcome k) }
@@ -40,7 +44,8 @@ pub fn law_one_path()
 
 /// The names of a directory depend on its kind and on which children there are.
 pub fn law_children()
-    ensures { (s t : Table) (a b : ℕ → Option Outcome) (p : List ℕ) → kind_of (map.get s p) ≡ kind_of (map.get t p)
+    ensures { (s t : Table) (a b : ℕ → Option Outcome) (p : List ℕ)
+        → kind_of (map.get s p) ≡ kind_of (map.get t p)
         → ((k : List ℕ) → parent_text k ≡ Some p → map.contains_key s k ≡ map.contains_key t k)
         → answer_on s a (ask.Names p) ≡ answer_on t b (ask.Names p) }
 {}
@@ -52,13 +57,16 @@ pub fn law_all_answers()
 
 /// A tree stays a tree where a node is put into a directory; a directory that is there must stay one.
 pub fn law_put()
-    ensures { (t : Table) (p above : List ℕ) (n : Node) → IsTree t → IsPath p → parent_text p ≡ Some above → kind_of (map.get t above) ≡ kind.Dir
-        → (kind_of (map.get t p) ≡ kind.Dir → kind_of (Some n) ≡ kind.Dir) → IsTree (map.insert t p n) }
+    ensures { (t : Table) (p above : List ℕ) (n : Node) → IsTree t → IsPath p
+        → parent_text p ≡ Some above → kind_of (map.get t above) ≡ kind.Dir
+        → (kind_of (map.get t p) ≡ kind.Dir → kind_of (Some n) ≡ kind.Dir)
+        → IsTree (map.insert t p n) }
 {}
 
 /// A tree stays a tree where the root's node is replaced by a directory.
 pub fn law_put_root()
-    ensures { (t : Table) (p : List ℕ) (n : Node) → IsTree t → parent_text p ≡ None → IsSome (map.get t p) → kind_of (Some n) ≡ kind.Dir → IsTree (map.insert t p n) }
+    ensures { (t : Table) (p : List ℕ) (n : Node) → IsTree t → parent_text p ≡ None
+        → IsSome (map.get t p) → kind_of (Some n) ≡ kind.Dir → IsTree (map.insert t p n) }
 {}
 
 /// A tree stays a tree where a path goes that isn't the root and under which nothing stands.

@@ -57,9 +57,12 @@ fn add_room<'a>(
 ) -> Result<(), NoMemory>
     requires index { IsIndex children.old nodes.old }
     ensures index { IsIndex children.new nodes.new }
-    ensures undo { changed_all (removals added.new.items) nodes.new ≡ changed_all (removals added.old.items) nodes.old }
-    ensures room { OnOk result (IsSome step.now.becomes → IsSome (map.get nodes.new step.now.place.path)) }
-    ensures others { (q : List ℕ) → eq_by_cmp (slice_cmp nat_cmp) q step.now.place.path ≡ false → map.get nodes.new q ≡ map.get nodes.old q }
+    ensures undo { changed_all (removals added.new.items) nodes.new
+        ≡ changed_all (removals added.old.items) nodes.old }
+    ensures room { OnOk result
+        (IsSome step.now.becomes → IsSome (map.get nodes.new step.now.place.path)) }
+    ensures others { (q : List ℕ) → eq_by_cmp (slice_cmp nat_cmp) q step.now.place.path ≡ false
+        → map.get nodes.new q ≡ map.get nodes.old q }
     ensures stays { (q : List ℕ) → IsSome (map.get nodes.old q) → IsSome (map.get nodes.new q) }
 {
     if step.becomes.is_none() {
@@ -120,9 +123,11 @@ fn make_room<'a>(
 ) -> Result<(), NoMemory>
     requires index { IsIndex children.old nodes.old }
     ensures index { IsIndex children.new nodes.new }
-    ensures undo { changed_all (removals added.new.items) nodes.new ≡ changed_all (removals added.old.items) nodes.old }
+    ensures undo { changed_all (removals added.new.items) nodes.new
+        ≡ changed_all (removals added.old.items) nodes.old }
     ensures room { OnOk result (HasRoom (changes_of steps.now) nodes.new) }
-    ensures others { (q : List ℕ) → find (slice_cmp nat_cmp) q (changes_of steps.now) ≡ None → map.get nodes.new q ≡ map.get nodes.old q }
+    ensures others { (q : List ℕ) → find (slice_cmp nat_cmp) q (changes_of steps.now) ≡ None
+        → map.get nodes.new q ≡ map.get nodes.old q }
 {
     for step in steps {
         add_room(nodes, children, alloc, added, step)?;

@@ -98,9 +98,12 @@ impl<V: Clone> Clone for PathMap<V> {
 }
 
 impl<V: PartialEq> PartialEq for PathMap<V> {
-    ghost eq = { λ m n. pointwise (λ p q. pointwise nat_eq p.0 q.0 && V.eq p.1 q.1) (map.entries m) (map.entries n) };
+    ghost eq = { λ m n. pointwise
+        (λ p q. pointwise nat_eq p.0 q.0 && V.eq p.1 q.1) (map.entries m) (map.entries n) };
 
-    ghost laws = { on_per map.entries (lists_per (and_per (on_per (λ p. p.0) (partial_equiv_from_equiv nat_list_eq_equiv)) (on_per (λ p. p.1) V.laws))) };
+    ghost laws = { on_per map.entries
+        (lists_per (and_per (on_per (λ p. p.0) (partial_equiv_from_equiv nat_list_eq_equiv))
+        (on_per (λ p. p.1) V.laws))) };
 
     fn eq(&self, other: &Self) -> bool {
         self.held == other.held
@@ -108,5 +111,7 @@ impl<V: PartialEq> PartialEq for PathMap<V> {
 }
 
 impl<V: Eq> Eq for PathMap<V> {
-    ghost laws = { on_equiv map.entries (lists_equiv (and_equiv (on_equiv (λ p. p.0) nat_list_eq_equiv) (on_equiv (λ p. p.1) V.Eq.laws))) };
+    ghost laws = { on_equiv map.entries
+        (lists_equiv (and_equiv (on_equiv (λ p. p.0) nat_list_eq_equiv)
+        (on_equiv (λ p. p.1) V.Eq.laws))) };
 }

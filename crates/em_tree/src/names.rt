@@ -43,7 +43,8 @@ impl NameList {
     /// Appends a name, which must be one component and greater than the last name.
     pub fn add(&mut self, name: Text) -> Result<(), NoMemory>
         requires component { IsComponent name }
-        requires greater { IfSome (last_name self.old) (λ last. slice_cmp nat_cmp last name ≡ Less) }
+        requires greater { IfSome (last_name self.old)
+            (λ last. slice_cmp nat_cmp last name ≡ Less) }
         ensures ok { OnOk result (self.new ≡ self.old ++ name ∷ []) }
         ensures err { OnErr result (self.new ≡ self.old) }
     {

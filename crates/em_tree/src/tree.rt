@@ -225,9 +225,13 @@ impl Tree {
 }
 
 impl PartialEq for Tree {
-    ghost eq = { λ s t. pointwise (λ p q. pointwise nat_eq p.0 q.0 && nodes.ghosts.eq p.1 q.1) (map.entries s) (map.entries t) };
+    ghost eq = { λ s t. pointwise
+        (λ p q. pointwise nat_eq p.0 q.0 && nodes.ghosts.eq p.1 q.1)
+        (map.entries s) (map.entries t) };
 
-    ghost laws = { on_per map.entries (lists_per (and_per (on_per (λ p. p.0) (partial_equiv_from_equiv nat_list_eq_equiv)) (on_per (λ p. p.1) node_laws.laws-law))) };
+    ghost laws = { on_per map.entries
+        (lists_per (and_per (on_per (λ p. p.0) (partial_equiv_from_equiv nat_list_eq_equiv))
+        (on_per (λ p. p.1) node_laws.laws-law))) };
 
     fn eq(&self, other: &Self) -> bool {
         self.nodes == other.nodes
@@ -235,5 +239,7 @@ impl PartialEq for Tree {
 }
 
 impl Eq for Tree {
-    ghost laws = { on_equiv map.entries (lists_equiv (and_equiv (on_equiv (λ p. p.0) nat_list_eq_equiv) (on_equiv (λ p. p.1) node_eq_laws.laws-law))) };
+    ghost laws = { on_equiv map.entries
+        (lists_equiv (and_equiv (on_equiv (λ p. p.0) nat_list_eq_equiv)
+        (on_equiv (λ p. p.1) node_eq_laws.laws-law))) };
 }

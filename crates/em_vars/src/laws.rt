@@ -43,6 +43,7 @@ pub fn law_undefine()
 
 /// Each name stands once, also after these changes.
 pub fn law_distinct()
-    ensures set { (es : Entries) (n : List ℕ) (v : Var) → AreDistinct es → AreDistinct (with_value es n v) }
+    ensures set { (es : Entries) (n : List ℕ) (v : Var) → AreDistinct es
+        → AreDistinct (with_value es n v) }
     ensures undefined { (es : Entries) (n : List ℕ) → AreDistinct es → AreDistinct (without es n) }
 {}

@@ -143,7 +143,9 @@ impl Vars {
 impl PartialEq for Vars {
     ghost eq = { pointwise (λ p q. pointwise nat_eq p.0 q.0 && var_eq.ghosts.eq p.1 q.1) };
 
-    ghost laws = { partial_equiv_from_equiv (lists_equiv (and_equiv (on_equiv (λ p. p.0) nat_list_eq_equiv) (on_equiv (λ p. p.1) var_eq_laws.laws-law))) };
+    ghost laws = { partial_equiv_from_equiv
+        (lists_equiv (and_equiv (on_equiv (λ p. p.0) nat_list_eq_equiv)
+        (on_equiv (λ p. p.1) var_eq_laws.laws-law))) };
 
     fn eq(&self, other: &Self) -> bool {
         self.held.as_slice() == other.held.as_slice()
@@ -151,5 +153,7 @@ impl PartialEq for Vars {
 }
 
 impl Eq for Vars {
-    ghost laws = { lists_equiv (and_equiv (on_equiv (λ p. p.0) nat_list_eq_equiv) (on_equiv (λ p. p.1) var_eq_laws.laws-law)) };
+    ghost laws = { lists_equiv
+        (and_equiv (on_equiv (λ p. p.0) nat_list_eq_equiv)
+        (on_equiv (λ p. p.1) var_eq_laws.laws-law)) };
 }

@@ -45,7 +45,19 @@ impl<V> Model for Desk<V> {
 
     ghost coded = { desk_code V.code };
 
-    ghost view = { λ d. record { view = d.view; usage = d.usage.items; work = record { base = d.base; job = d.job; given = d.given; fuel = d.fuel; count = d.count; changes = d.changes; asked = map (λ e. e.question) d.usage.items } } };
+    ghost view = { λ d. record {
+      view = d.view;
+      usage = d.usage.items;
+      work = record {
+        base = d.base;
+        job = d.job;
+        given = d.given;
+        fuel = d.fuel;
+        count = d.count;
+        changes = d.changes;
+        asked = map (λ e. e.question) d.usage.items;
+      };
+    } };
 
     ghost invariant = { λ d. IsSound d.base d.given d.fuel d.count d.usage.items d.changes };
 }
@@ -71,7 +83,20 @@ impl<V: View> Desk<V> {
     pub fn new(alloc: Global, view: V, base: u64, job: u32, fuel: Fuel) -> Desk<V>
         requires base { base ≤ 2 ^ 62 }
         requires fuel { fuel ≤ 10000000 }
-        ensures { result ≡ record { view = view; usage = []; work = record { base = base; job = job; given = fuel; fuel = fuel; count = 0; changes = map.empty; asked = [] } } }
+        ensures { result
+            ≡ record {
+              view = view;
+              usage = [];
+              work = record {
+                base = base;
+                job = job;
+                given = fuel;
+                fuel = fuel;
+                count = 0;
+                changes = map.empty;
+                asked = [];
+              };
+            } }
     {
         Desk {
             alloc,
@@ -97,7 +122,10 @@ impl<V: View> Desk<V> {
     /// Takes n units. `Spent` comes exactly where fewer than n are left, and then nothing is taken.
     pub fn spend(&mut self, n: u64) -> Result<(), Spent>
         ensures spent { IsErr result ↔ (self.old.work.fuel < n) }
-        ensures ok { OnOk result ((self.new ≡ record self.old { work = record self.old.work { fuel = self.new.work.fuel } }) × (self.new.work.fuel + n ≡ self.old.work.fuel)) }
+        ensures ok { OnOk result
+            ((self.new
+            ≡ record self.old { work = record self.old.work { fuel = self.new.work.fuel } })
+            × (self.new.work.fuel + n ≡ self.old.work.fuel)) }
         ensures err { OnErr result (self.new ≡ self.old) }
     {
         self.fuel.spend(n)
@@ -118,7 +146,10 @@ impl<V: View> Desk<V> {
     #[tactic(auto, unfolding(crate::specs::Actions::spend))]
     pub fn take(&mut self, n: u64) -> Result<(), DeskNo>
         ensures performs { Acts V.tells self.old self.new result (spend n) }
-        ensures ok { OnOk result ((self.new ≡ record self.old { work = record self.old.work { fuel = self.new.work.fuel } }) × (self.new.work.fuel + n ≡ self.old.work.fuel)) }
+        ensures ok { OnOk result
+            ((self.new
+            ≡ record self.old { work = record self.old.work { fuel = self.new.work.fuel } })
+            × (self.new.work.fuel + n ≡ self.old.work.fuel)) }
         ensures err { OnErr result (self.new ≡ self.old) }
         ensures only { IfErr result (λ e. e ≡ no.Spent) }
         ensures small { self.old.work.fuel ≤ 10000000 }
@@ -130,7 +161,10 @@ impl<V: View> Desk<V> {
     /// Takes a unit and n blocks, or is spent, where the unit may stay taken.
     pub(crate) fn pay(&mut self, n: u64) -> Result<(), DeskNo>
         ensures performs { Acts V.tells self.old self.new result (pay n) }
-        ensures ok { OnOk result ((self.new ≡ record self.old { work = record self.old.work { fuel = self.new.work.fuel } }) × (self.new.work.fuel + (1 + n) ≡ self.old.work.fuel)) }
+        ensures ok { OnOk result
+            ((self.new
+            ≡ record self.old { work = record self.old.work { fuel = self.new.work.fuel } })
+            × (self.new.work.fuel + (1 + n) ≡ self.old.work.fuel)) }
         ensures err { OnErr result (Keeps 1 self.old.work self.new.work) }
         ensures still { self.new.work.changes ≡ self.old.work.changes }
     {
@@ -162,7 +196,8 @@ impl<V: View> Desk<V> {
 
     /// The number of the next change, which the nodes that it makes get as their stamp.
     pub(crate) fn number(&self) -> u64
-        ensures { result ≡ change_number self.now.work.base self.now.work.job (self.now.work.count + 1) }
+        ensures { result
+            ≡ change_number self.now.work.base self.now.work.job (self.now.work.count + 1) }
     {
         self.base + u64::from(self.job) * 1_048_576 + (self.count + 1)
     }
@@ -178,7 +213,8 @@ impl<V: View> Desk<V> {
         requires room { self.old.work.count + 1 + self.old.work.fuel ≤ self.old.work.given }
         requires fits { Fits self.old.usage (after_change p node above self.old.work).changes }
         requires paths { NamesPaths (after_change p node above self.old.work).changes }
-        ensures ok { OnOk result (self.new ≡ record self.old { work = after_change p node above self.old.work }) }
+        ensures ok { OnOk result
+            (self.new ≡ record self.old { work = after_change p node above self.old.work }) }
         ensures err { OnErr result (self.new ≡ self.old) }
         ensures only { IfErr result (λ e. e ≡ no.NoMemory) }
     {

@@ -50,7 +50,8 @@ impl<V: View> Desk<V> {
     /// anything is asked; `Absent`; `NotEmpty`. A directory of which the view tells no list of names is empty. It costs 1.
     pub fn remove(&mut self, p: &Path) -> Result<(), DeskNo>
         ensures performs { Acts V.tells self.old self.new result (remove p.now) }
-        ensures root { parent_text p.now ≡ None → 1 ≤ self.old.work.fuel → IsErrOf result (no.File file.Root) }
+        ensures root { parent_text p.now ≡ None → 1 ≤ self.old.work.fuel
+            → IsErrOf result (no.File file.Root) }
         ensures spent { self.old.work.fuel < 1 → IsErrOf result no.Spent }
         ensures err { OnErr result (Keeps 1 self.old.work self.new.work) }
     {

@@ -41,7 +41,8 @@ fn amend(
     path: &Path,
 ) -> Result<(), NoMemory>
     requires named { IsNameList set.old.keys }
-    ensures ok { OnOk result (set.new.keys ≡ amended (option_copied becomes.entry) (last_of path.now) set.old.keys) }
+    ensures ok { OnOk result
+        (set.new.keys ≡ amended (option_copied becomes.entry) (last_of path.now) set.old.keys) }
     ensures named { OnOk result (IsNameList set.new.keys) }
 {
     let _text = path.text();

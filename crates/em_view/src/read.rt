@@ -15,7 +15,8 @@ impl<V: View> Desk<V> {
     /// What kind of node stands at a path. It costs 1.
     pub fn kind(&mut self, p: &Path) -> Result<Kind, DeskNo>
         ensures performs { Acts V.tells self.old self.new result (kind_at p.now) }
-        ensures still { self.new.work ≡ record self.old.work { fuel = self.new.work.fuel; asked = self.new.work.asked } }
+        ensures still { self.new.work
+            ≡ record self.old.work { fuel = self.new.work.fuel; asked = self.new.work.asked } }
         ensures err { OnErr result (self.old.work.fuel ≤ self.new.work.fuel + 1) }
         ensures spent { self.old.work.fuel < 1 → IsErrOf result no.Spent }
         ensures unrefused { IfErr result (λ e. is_refusal e ≡ false) }
@@ -27,7 +28,8 @@ impl<V: View> Desk<V> {
     /// The stamp of the node at a path, if one is there. It costs 1.
     pub fn stamp(&mut self, p: &Path) -> Result<Option<u64>, DeskNo>
         ensures performs { Acts V.tells self.old self.new result (stamp_at p.now) }
-        ensures still { self.new.work ≡ record self.old.work { fuel = self.new.work.fuel; asked = self.new.work.asked } }
+        ensures still { self.new.work
+            ≡ record self.old.work { fuel = self.new.work.fuel; asked = self.new.work.asked } }
         ensures err { OnErr result (self.old.work.fuel ≤ self.new.work.fuel + 1) }
         ensures spent { self.old.work.fuel < 1 → IsErrOf result no.Spent }
         ensures unrefused { IfErr result (λ e. is_refusal e ≡ false) }
@@ -39,7 +41,8 @@ impl<V: View> Desk<V> {
     /// The bytes of the file at a path; `None` where no file is there. It costs 1 and the blocks of the bytes.
     pub fn content(&mut self, p: &Path) -> Result<Option<Body>, DeskNo>
         ensures performs { Acts V.tells self.old self.new result (content p.now) }
-        ensures still { self.new.work ≡ record self.old.work { fuel = self.new.work.fuel; asked = self.new.work.asked } }
+        ensures still { self.new.work
+            ≡ record self.old.work { fuel = self.new.work.fuel; asked = self.new.work.asked } }
         ensures err { OnErr result (self.old.work.fuel ≤ self.new.work.fuel + 1) }
         ensures spent { self.old.work.fuel < 1 → IsErrOf result no.Spent }
         ensures unrefused { IfErr result (λ e. is_refusal e ≡ false) }
@@ -54,7 +57,8 @@ impl<V: View> Desk<V> {
     /// the names' bytes.
     pub fn names(&mut self, p: &Path) -> Result<Option<NameList>, DeskNo>
         ensures performs { Acts V.tells self.old self.new result (names p.now) }
-        ensures still { self.new.work ≡ record self.old.work { fuel = self.new.work.fuel; asked = self.new.work.asked } }
+        ensures still { self.new.work
+            ≡ record self.old.work { fuel = self.new.work.fuel; asked = self.new.work.asked } }
         ensures err { OnErr result (self.old.work.fuel ≤ self.new.work.fuel + 1) }
         ensures spent { self.old.work.fuel < 1 → IsErrOf result no.Spent }
         ensures unrefused { IfErr result (λ e. is_refusal e ≡ false) }
@@ -68,7 +72,8 @@ impl<V: View> Desk<V> {
     /// How job j ended, if it has ended. It costs 1.
     pub fn outcome(&mut self, j: u32) -> Result<Option<Outcome>, DeskNo>
         ensures performs { Acts V.tells self.old self.new result (outcome j) }
-        ensures still { self.new.work ≡ record self.old.work { fuel = self.new.work.fuel; asked = self.new.work.asked } }
+        ensures still { self.new.work
+            ≡ record self.old.work { fuel = self.new.work.fuel; asked = self.new.work.asked } }
         ensures err { OnErr result (self.old.work.fuel ≤ self.new.work.fuel + 1) }
         ensures spent { self.old.work.fuel < 1 → IsErrOf result no.Spent }
         ensures unrefused { IfErr result (λ e. is_refusal e ≡ false) }

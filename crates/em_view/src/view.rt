@@ -19,8 +19,10 @@ pub trait View: Drop {
     fn ask(&mut self, alloc: Global, q: &Question) -> Result<Answer, NoMemory>
         ensures kind { IfOk result (λ a. IsAnswerTo q.now a) }
         ensures told { IfOk result (λ a. IsTold (tells self.old 0 q.now) a) }
-        ensures ahead { OnOk result ((i : ℕ) (r : Question) → tells self.new i r ≡ tells self.old (i + 1) r) }
-        ensures lost { OnErr result ((i : ℕ) (r : Question) → tells self.new i r ≡ tells self.old i r) };
+        ensures ahead { OnOk result
+            ((i : ℕ) (r : Question) → tells self.new i r ≡ tells self.old (i + 1) r) }
+        ensures lost { OnErr result
+            ((i : ℕ) (r : Question) → tells self.new i r ≡ tells self.old i r) };
 }
 
 /// The answers of one state, which is what contracts see of it.

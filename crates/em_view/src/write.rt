@@ -18,7 +18,8 @@ impl<V: View> Desk<V> {
     pub fn put(&mut self, p: &Path, bytes: &[u8]) -> Result<(), DeskNo>
         ensures performs { Acts V.tells self.old self.new result (put p.now bytes.now) }
         ensures spent { self.old.work.fuel < 1 → IsErrOf result no.Spent }
-        ensures err { OnErr result (Keeps (1 + blocks (length bytes.now)) self.old.work self.new.work) }
+        ensures err { OnErr result
+            (Keeps (1 + blocks (length bytes.now)) self.old.work self.new.work) }
     {
         let _text = p.text();
         self.ready()?;
@@ -41,7 +42,8 @@ impl<V: View> Desk<V> {
     pub fn place(&mut self, p: &Path, bytes: &[u8], stamp: u64) -> Result<(), DeskNo>
         ensures performs { Acts V.tells self.old self.new result (place p.now bytes.now stamp) }
         ensures spent { self.old.work.fuel < 1 → IsErrOf result no.Spent }
-        ensures err { OnErr result (Keeps (1 + blocks (length bytes.now)) self.old.work self.new.work) }
+        ensures err { OnErr result
+            (Keeps (1 + blocks (length bytes.now)) self.old.work self.new.work) }
     {
         let _text = p.text();
         self.ready()?;

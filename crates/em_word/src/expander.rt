@@ -106,8 +106,10 @@ impl<'a> Expander<'a> {
     ) -> Result<(), WordFault>
         requires { IsSteady self.old }
         ensures goes { MatchResult result
-            (λ u. GoesOn V.tells (mode_of self.old) shell.now desk.old desk.new (with_piece (taken quoted output.now) self.old) self.new)
-            (Failed V.tells (mode_of self.old) shell.now desk.old desk.new (with_piece (taken quoted output.now) self.old)) }
+            (λ u. GoesOn V.tells (mode_of self.old) shell.now desk.old desk.new
+            (with_piece (taken quoted output.now) self.old) self.new)
+            (Failed V.tells (mode_of self.old) shell.now desk.old desk.new
+            (with_piece (taken quoted output.now) self.old)) }
         ensures same { IsSame self.old self.new }
     {
         let output = without_newlines(output);
@@ -120,7 +122,8 @@ impl<'a> Expander<'a> {
     fn take_output<V: View>(&mut self, shell: &Shell, desk: &mut Desk<V>) -> Result<(), WordFault>
         requires { IsReady self.old }
         ensures goes { MatchResult result
-            (λ u. GoesOn V.tells (mode_of self.old) shell.now desk.old desk.new (plan_of self.old) self.new)
+            (λ u. GoesOn V.tells (mode_of self.old) shell.now desk.old desk.new
+            (plan_of self.old) self.new)
             (Failed V.tells (mode_of self.old) shell.now desk.old desk.new (plan_of self.old)) }
         ensures same { IsSame self.old self.new }
     {
@@ -141,7 +144,8 @@ impl<'a> Expander<'a> {
         desk: &mut Desk<V>,
     ) -> Result<WordTurn, WordFault>
         requires { IsReady self.old }
-        ensures turn { Performs is_want V.tells desk.old desk.new (seen self.new result) (turn (mode_of self.old) (plan_of self.old) shell.now) }
+        ensures turn { Performs is_want V.tells desk.old desk.new (seen self.new result)
+            (turn (mode_of self.old) (plan_of self.old) shell.now) }
         ensures stands { IfOk result (λ t. StandsAfter self.new t) }
         ensures same { IfOk result (λ t. IsSame self.old self.new) }
     {
@@ -157,7 +161,8 @@ impl<'a> Expander<'a> {
         desk: &mut Desk<V>,
     ) -> Result<WordTurn, WordFault>
         requires { IsSteady self.old }
-        ensures turn { Performs is_want V.tells desk.old desk.new (seen self.new result) (turn (mode_of self.old) (plan_of self.old) shell.now) }
+        ensures turn { Performs is_want V.tells desk.old desk.new (seen self.new result)
+            (turn (mode_of self.old) (plan_of self.old) shell.now) }
         ensures stands { IfOk result (λ t. StandsAfter self.new t) }
         ensures same { IfOk result (λ t. IsSame self.old self.new) }
     {
@@ -178,7 +183,8 @@ impl<'a> Expander<'a> {
         shell: &Shell,
         desk: &mut Desk<V>,
     ) -> Result<WordTurn, WordFault>
-        ensures turn { Performs is_want V.tells desk.old desk.new (seen self.new result) (turns.finish (mode_of self.old) shell.now.cwd self.old.parts) }
+        ensures turn { Performs is_want V.tells desk.old desk.new (seen self.new result)
+            (turns.finish (mode_of self.old) shell.now.cwd self.old.parts) }
         ensures stands { IfOk result (λ t. StandsAfter self.new t) }
         ensures same { self.new ≡ self.old }
     {

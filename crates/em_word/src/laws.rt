@@ -9,7 +9,8 @@ ghost use Rattle.em_word.specs.declared.turn.Mode.TheVariants as mode;
 
 /// A word that is one quoted text comes to one field, this text, and asks nothing.
 pub fn law_quoted()
-    ensures { (cwd text : List ℕ) → finish mode.Fields cwd (marked true text) ≡ done (Finished (text ∷ [])) }
+    ensures { (cwd text : List ℕ)
+        → finish mode.Fields cwd (marked true text) ≡ done (Finished (text ∷ [])) }
 {
     em_glob::laws::law_quoted();
     em_fields::laws::law_quoted();

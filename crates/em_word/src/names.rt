@@ -64,7 +64,8 @@ pub(crate) fn names_of_each<V: View>(
     cwd: &Path,
     desk: &mut Desk<V>,
 ) -> Result<Seq<Text>, WordFault>
-    ensures { Performs is_want V.tells desk.old desk.new result (turns.names_of_each cwd.now [] fields.now) }
+    ensures { Performs is_want V.tells desk.old desk.new result
+        (turns.names_of_each cwd.now [] fields.now) }
 {
     let mut all = Seq::new(alloc);
     for field in fields {

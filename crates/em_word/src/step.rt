@@ -51,7 +51,8 @@ struct Closed<'a> {
 
 /// Takes the blocks of so many bytes.
 pub(crate) fn charge<V: View>(desk: &mut Desk<V>, bytes: usize) -> Result<(), WordFault>
-    ensures { Performs is_want V.tells desk.old desk.new result (lift of_desk (spend (blocks bytes))) }
+    ensures { Performs is_want V.tells desk.old desk.new result
+        (lift of_desk (spend (blocks bytes))) }
 {
     desk.take(blocks(bytes as u64))?;
     Ok(())
@@ -122,7 +123,9 @@ impl<'a> Expander<'a> {
     /// Asks for the output of the next substitution.
     fn ask(&mut self, quoted: bool) -> Result<Step, NoMemory>
         ensures turn { IfOk result (λ s. s ≡ step.Turn (turn.Output self.old.before)) }
-        ensures new { IfOk result (λ s. self.new ≡ record self.old { before = self.old.before + 1; stage = stage.Waiting quoted }) }
+        ensures new { IfOk result
+            (λ s. self.new
+            ≡ record self.old { before = self.old.before + 1; stage = stage.Waiting quoted }) }
     {
         let number = self.before;
         self.before = number.checked_add(1).ok_or(NoMemory)?;
@@ -153,7 +156,12 @@ impl<'a> Expander<'a> {
 
     /// Adds a value whose argument isn't expanded.
     fn add_value(&mut self, quoted: bool, text: &[u8], value: &Value) -> Result<(), NoMemory>
-        ensures { IfOk result (λ u. self.new ≡ record self.old { parts = self.old.parts ++ marked quoted text.now; before = self.old.before + length (value_scripts value.now) }) }
+        ensures { IfOk result
+            (λ u. self.new
+            ≡ record self.old {
+              parts = self.old.parts ++ marked quoted text.now;
+              before = self.old.before + length (value_scripts value.now);
+            }) }
     {
         self.before = count_behind(self.before, value)?;
         add_bytes(&mut self.parts, quoted, text)
@@ -172,8 +180,10 @@ impl<'a> Expander<'a> {
         requires between { IsBetween self.old }
         requires counted { IsBehind (value_scripts value.now) self.old }
         ensures steps { MatchResult result
-            (Stepped V.tells (mode_of self.old) shell.now desk.old desk.new (with_piece (charged (marked quoted text.now)) self.old) self.new)
-            (Failed V.tells (mode_of self.old) shell.now desk.old desk.new (with_piece (charged (marked quoted text.now)) self.old)) }
+            (Stepped V.tells (mode_of self.old) shell.now desk.old desk.new
+            (with_piece (charged (marked quoted text.now)) self.old) self.new)
+            (Failed V.tells (mode_of self.old) shell.now desk.old desk.new
+            (with_piece (charged (marked quoted text.now)) self.old)) }
         ensures same { IfOk result (λ s. IsSame self.old self.new) }
     {
         charge(desk, text.len())?;
@@ -194,8 +204,10 @@ impl<'a> Expander<'a> {
         requires between { IsBetween self.old }
         requires counted { IsBehind (value_scripts value.now) self.old }
         ensures steps { MatchResult result
-            (Stepped V.tells (mode_of self.old) shell.now desk.old desk.new (with_piece (value_plan value.now quoted) self.old) self.new)
-            (Failed V.tells (mode_of self.old) shell.now desk.old desk.new (with_piece (value_plan value.now quoted) self.old)) }
+            (Stepped V.tells (mode_of self.old) shell.now desk.old desk.new
+            (with_piece (value_plan value.now quoted) self.old) self.new)
+            (Failed V.tells (mode_of self.old) shell.now desk.old desk.new
+            (with_piece (value_plan value.now quoted) self.old)) }
         ensures same { IfOk result (λ s. IsSame self.old self.new) }
     {
         charge_unit(desk)?;
@@ -226,8 +238,10 @@ impl<'a> Expander<'a> {
     ) -> Result<Step, WordFault>
         requires { IsSteady self.old }
         ensures steps { MatchResult result
-            (Stepped V.tells (mode_of self.old) shell.now desk.old desk.new (with_piece (closed value.now) self.old) self.new)
-            (Failed V.tells (mode_of self.old) shell.now desk.old desk.new (with_piece (closed value.now) self.old)) }
+            (Stepped V.tells (mode_of self.old) shell.now desk.old desk.new
+            (with_piece (closed value.now) self.old) self.new)
+            (Failed V.tells (mode_of self.old) shell.now desk.old desk.new
+            (with_piece (closed value.now) self.old)) }
         ensures same { IfOk result (λ s. IsSame self.old self.new) }
     {
         let argument = value.argument.items();
@@ -269,7 +283,8 @@ impl<'a> Expander<'a> {
         requires steady { IsSteady self.old }
         requires empty { self.old.rest.now ≡ [] }
         ensures steps { MatchResult result
-            (Stepped V.tells (mode_of self.old) shell.now desk.old desk.new (plan_of self.old) self.new)
+            (Stepped V.tells (mode_of self.old) shell.now desk.old desk.new
+            (plan_of self.old) self.new)
             (Failed V.tells (mode_of self.old) shell.now desk.old desk.new (plan_of self.old)) }
         ensures same { IfOk result (λ s. IsSame self.old self.new) }
     {
@@ -304,7 +319,8 @@ impl<'a> Expander<'a> {
     ) -> Result<Step, WordFault>
         requires { IsSteady self.old }
         ensures steps { MatchResult result
-            (Stepped V.tells (mode_of self.old) shell.now desk.old desk.new (plan_of self.old) self.new)
+            (Stepped V.tells (mode_of self.old) shell.now desk.old desk.new
+            (plan_of self.old) self.new)
             (Failed V.tells (mode_of self.old) shell.now desk.old desk.new (plan_of self.old)) }
         ensures same { IfOk result (λ s. IsSame self.old self.new) }
     {

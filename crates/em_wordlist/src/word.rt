@@ -28,7 +28,8 @@ fn next_word(text: &[u8], at: usize) -> Option<Span>
     requires apart { IsApart text.now at }
     ensures { MatchOption result
         ((i : ℕ) → at ≤ i → i < length text.now → is_blank (slice_index text.now i) ≡ true)
-        (λ s. IsWord text.now s × (at ≤ s.start) × ((i : ℕ) → at ≤ i → i < s.start → is_blank (slice_index text.now i) ≡ true)) }
+        (λ s. IsWord text.now s × (at ≤ s.start)
+        × ((i : ℕ) → at ≤ i → i < s.start → is_blank (slice_index text.now i) ≡ true)) }
 {
     let Some(blanks) = plain_at(&text[at..]) else {
         return None;
@@ -68,7 +69,8 @@ pub fn texts<'a>(alloc: Global, text: &'a [u8]) -> Result<Vec<&'a [u8]>, NoMemor
 
 /// Appends a text behind so many others that are joined: with a space before it, unless it is the first.
 fn add_next(joined: &mut Text, before: usize, next: &[u8]) -> Result<(), NoMemory>
-    ensures { OnOk result (joined.new ≡ joined.old ++ (if before == 0 then next.now else 32 ∷ next.now)) }
+    ensures { OnOk result
+        (joined.new ≡ joined.old ++ (if before == 0 then next.now else 32 ∷ next.now)) }
 {
     if before > 0 {
         joined.add(b" ")?;

@@ -42,7 +42,8 @@ fn commit_beside<R: Wait, S: Spec, W: Work<S>, G: Gate, H: Host>(
     gate: &G,
     host: &mut H,
 ) -> Result<Seq<Note>, BuildNo>
-    ensures commits { Commits S.job_of S.eq S.makes S.ends_after (notes_in result) result front.old front.new
+    ensures commits { Commits S.job_of S.eq S.makes S.ends_after
+        (notes_in result) result front.old front.new
         None None (H.told host.old) (H.told host.new) }
     ensures last { OnOk result (next_of front.new ≡ None) }
     ensures faults { H.faults host.new ≡ faults_after result (H.faults host.old) }
@@ -101,7 +102,8 @@ fn commit_with<
     gate: &G,
     host: &mut H,
 ) -> Result<Seq<Note>, BuildNo>
-    ensures commits { Commits S.job_of S.eq S.makes S.ends_after (notes_in result) result front.old front.new
+    ensures commits { Commits S.job_of S.eq S.makes S.ends_after
+        (notes_in result) result front.old front.new
         None None (H.told host.old) (H.told host.new) }
     ensures last { OnOk result (next_of front.new ≡ None) }
     ensures faults { H.faults host.new ≡ faults_after result (H.faults host.old) }
@@ -111,9 +113,11 @@ fn commit_with<
         &mut || crew(rt, alloc, shared, specs, 1, count, w, gate),
         &mut || -> Result<Seq<Note>, BuildNo>
             ensures commits { Commits S.job_of S.eq S.makes S.ends_after (notes_in result) result
-                front.entry.now front.exit.now None None (H.told host.entry.now) (H.told host.exit.now) }
+                front.entry.now front.exit.now None None (H.told host.entry.now)
+                (H.told host.exit.now) }
             ensures last { OnOk result (next_of front.exit.now ≡ None) }
-            ensures faults { H.faults host.exit.now ≡ faults_after result (H.faults host.entry.now) }
+            ensures faults { H.faults host.exit.now
+                ≡ faults_after result (H.faults host.entry.now) }
         { commit_beside(rt, alloc, shared, front, w, gate, host) },
     );
     notes
@@ -140,7 +144,8 @@ fn build_alone<S: Spec, W: Work<S>, G: Gate, H: Host>(
     requires bare { start.outcomes ≡ [] }
     requires few { length specs < 2 ^ 32 }
     requires numbered { AreNumbered S.job_of specs }
-    ensures builds { Builds S.makes S.ends_after start specs 1 result (H.told host.old) (H.told host.new) }
+    ensures builds { Builds S.makes S.ends_after start specs 1 result (H.told host.old)
+        (H.told host.new) }
     ensures faults { H.faults host.new ≡ faults_after result (H.faults host.old) }
 {
     let mut front = Front::new(alloc, start, specs)?;
@@ -174,7 +179,8 @@ fn build_beside<
     requires few { length specs < 2 ^ 32 }
     requires waits { length waits ≡ length specs }
     requires lower { (j : ℕ) → All (λ k. k < j) (slice_index_or waits j []) }
-    ensures builds { Builds S.makes S.ends_after start specs workers result (H.told host.old) (H.told host.new) }
+    ensures builds { Builds S.makes S.ends_after start specs workers result (H.told host.old)
+        (H.told host.new) }
     ensures faults { H.faults host.new ≡ faults_after result (H.faults host.old) }
 {
     let theirs = copies(alloc, specs.items())?;
@@ -229,7 +235,8 @@ pub fn build<
     requires few { length specs < 2 ^ 32 }
     requires waits { length waits ≡ length specs }
     requires lower { (j : ℕ) → All (λ k. k < j) (slice_index_or waits j []) }
-    ensures builds { Builds S.makes S.ends_after start specs workers result (H.told host.old) (H.told host.new) }
+    ensures builds { Builds S.makes S.ends_after start specs workers result (H.told host.old)
+        (H.told host.new) }
     ensures faults { H.faults host.new ≡ faults_after result (H.faults host.old) }
 {
     if workers == 1 {

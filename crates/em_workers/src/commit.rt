@@ -26,9 +26,15 @@ fn deliver<S: Spec, L: Lender<S>, H: Host>(
     committed: Committed,
     host: &mut H,
 ) -> Result<(), BuildNo>
-    ensures served { Both (Delivers (record { job = job; delta = committed.delta; outcome = committed.outcome }) result)
+    ensures served { Both
+        (Delivers (record {
+          job = job;
+          delta = committed.delta;
+          outcome = committed.outcome;
+        }) result)
         (L.told lender.old) (L.told lender.new) }
-    ensures printed { Tells (Says (print committed.output) result) (H.told host.old) (H.told host.new) }
+    ensures printed { Tells (Says (print committed.output) result) (H.told host.old)
+        (H.told host.new) }
     ensures faults { H.faults host.new ≡ faults_after result (H.faults host.old) }
 {
     let Committed {
@@ -77,7 +83,8 @@ fn commit_next<S: Spec, L: Lender<S>, W: Work<S>, G: Gate, H: Host>(
     gate: &G,
     host: &mut H,
 ) -> Result<Option<Note>, BuildNo>
-    ensures commits { Commits S.job_of S.eq S.makes S.ends_after (note_in result) result front.old front.new
+    ensures commits { Commits S.job_of S.eq S.makes S.ends_after
+        (note_in result) result front.old front.new
         (L.told lender.old) (L.told lender.new) (H.told host.old) (H.told host.new) }
     ensures last { IfOk result (λ n. n ≡ None → next_of front.new ≡ None) }
     ensures faults { H.faults host.new ≡ faults_after result (H.faults host.old) }
@@ -101,7 +108,8 @@ fn commit_each<S: Spec, L: Lender<S>, W: Work<S>, G: Gate, H: Host>(
     gate: &G,
     host: &mut H,
 ) -> Result<Seq<Note>, BuildNo>
-    ensures commits { Commits S.job_of S.eq S.makes S.ends_after (notes_in result) result front.old front.new
+    ensures commits { Commits S.job_of S.eq S.makes S.ends_after
+        (notes_in result) result front.old front.new
         (L.told lender.old) (L.told lender.new) (H.told host.old) (H.told host.new) }
     ensures last { OnOk result (next_of front.new ≡ None) }
     ensures faults { H.faults host.new ≡ faults_after result (H.faults host.old) }
@@ -126,7 +134,8 @@ pub fn commit_all<S: Spec, L: Lender<S>, W: Work<S>, G: Gate, H: Host>(
     gate: &G,
     host: &mut H,
 ) -> Result<Seq<Note>, BuildNo>
-    ensures commits { Commits S.job_of S.eq S.makes S.ends_after (notes_in result) result front.old front.new
+    ensures commits { Commits S.job_of S.eq S.makes S.ends_after
+        (notes_in result) result front.old front.new
         (L.told lender.old) (L.told lender.new) (H.told host.old) (H.told host.new) }
     ensures last { OnOk result (next_of front.new ≡ None) }
     ensures stopped { Both (λ a b. b.stopped ≡ true) (L.told lender.old) (L.told lender.new) }
@@ -145,7 +154,8 @@ fn rerun_next<S: Spec, W: Work<S>, G: Gate, H: Host>(
     gate: &G,
     host: &mut H,
 ) -> Result<Option<Note>, BuildNo>
-    ensures commits { Commits S.job_of S.eq S.makes S.ends_after (note_in result) result front.old front.new
+    ensures commits { Commits S.job_of S.eq S.makes S.ends_after
+        (note_in result) result front.old front.new
         None None (H.told host.old) (H.told host.new) }
     ensures once { All IsOnce (note_in result) }
     ensures last { IfOk result (λ n. n ≡ None → next_of front.new ≡ None) }
@@ -173,7 +183,8 @@ pub(crate) fn rerun_each<S: Spec, W: Work<S>, G: Gate, H: Host>(
     gate: &G,
     host: &mut H,
 ) -> Result<Seq<Note>, BuildNo>
-    ensures commits { Commits S.job_of S.eq S.makes S.ends_after (notes_in result) result front.old front.new
+    ensures commits { Commits S.job_of S.eq S.makes S.ends_after
+        (notes_in result) result front.old front.new
         None None (H.told host.old) (H.told host.new) }
     ensures once { All IsOnce (notes_in result) }
     ensures last { OnOk result (next_of front.new ≡ None) }

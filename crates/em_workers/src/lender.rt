@@ -27,7 +27,8 @@ pub trait Lender<S: Spec>: Drop {
 
     /// Settles the next job.
     fn settle(&mut self, job: u32, delta: Delta, outcome: Outcome) -> Result<(), SettleNo>
-        ensures told { Both (Settles (record { job = job; delta = delta; outcome = outcome }) result)
+        ensures told { Both (Settles
+            (record { job = job; delta = delta; outcome = outcome }) result)
             (told self.old) (told self.new) };
 
     /// No more is asked of it, and workers end.

@@ -78,7 +78,8 @@ fn differ<S: Spec>(
     place: usize,
     entry: &Entry,
 ) -> Result<Cause, NoMemory>
-    ensures { IfOk result (λ cause. cause ≡ turns.differ front.now.state front.now.deltas place entry.now) }
+    ensures { IfOk result
+        (λ cause. cause ≡ turns.differ front.now.state front.now.deltas place entry.now) }
 {
     Ok(Cause::Differ {
         place,

@@ -25,7 +25,8 @@ use std::thread::Threads;
 /// new tree has, and the status.
 fn summary(alloc: Global, finished: &Finished, printed: usize) -> Result<Text, NoMemory>
     ensures { IfOk result (λ t. t ≡
-        messages.summary finished.now.jobs printed finished.now.nodes (code_of finished.now.verdict)) }
+        messages.summary finished.now.jobs printed finished.now.nodes
+        (code_of finished.now.verdict)) }
 {
     let mut buffer = Buffer::new();
     let mut out = Text::from_slice(alloc, b"jobs ")?;

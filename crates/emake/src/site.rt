@@ -89,7 +89,8 @@ fn pairs_of(alloc: Global, found: &Option<Text>) -> Result<History, NoMemory>
 }
 
 fn recalled_from<H: Host>(alloc: Global, name: &Option<Text>, host: &mut H) -> Result<History, Stop>
-    ensures told { Follows (projects.recalled_from name.now) result (H.told host.old) (H.told host.new) }
+    ensures told { Follows (projects.recalled_from name.now) result (H.told host.old)
+        (H.told host.new) }
     ensures faults { H.faults host.new ≡ faults_after result (H.faults host.old) }
 {
     match name {

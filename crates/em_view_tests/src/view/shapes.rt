@@ -58,7 +58,8 @@ fn show_first<V: View>(
     p: &Path,
     outputs: &mut (Text, Text),
 ) -> Result<(), DeskNo>
-    ensures { Does is_memory V.tells desk.old desk.new outputs.old outputs.new result (show_first p.now) }
+    ensures { Does is_memory V.tells desk.old desk.new outputs.old outputs.new result
+        (show_first p.now) }
 {
     match show(desk, p, &mut outputs.0) {
         Ok(()) => Ok(()),
