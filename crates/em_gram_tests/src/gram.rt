@@ -1,4 +1,5 @@
-use em_base::{Construct, NoMemory, Text};
+use super::names::name_of;
+use em_base::{NoMemory, Text};
 use em_gram::{Command, GramNo, Script, Word, parse};
 use std::alloc::Global;
 use std::test::Fail;
@@ -11,7 +12,7 @@ mod tables;
 fn is_tree(alloc: Global, line: &str, wanted: &str) -> Result<bool, NoMemory> {
     let mut text = Text::new(alloc);
     match parse(alloc, line.as_bytes()) {
-        Ok(script) => render::script(&mut text, &script)?,
+        Ok(script) => render::script(&mut text, &script),
         Err(_) => text.add(b"fault")?,
     }
     Ok(text.bytes() == wanted.as_bytes())
@@ -57,21 +58,6 @@ fn lists_end_with_their_substitution(rt: HostRuntime) -> Result<(), Fail> {
         )?
     );
     Ok(())
-}
-
-/// A construct's mark, or its name.
-fn name_of(construct: &Construct) -> &'static str {
-    match construct {
-        Construct::Background => "&",
-        Construct::Function => "function",
-        Construct::HereDocument => "<<",
-        Construct::Arithmetic => "$((",
-        Construct::Positional => "positional",
-        Construct::Descriptor => "descriptor",
-        Construct::Redirection => "redirection",
-        Construct::Depth => "depth",
-        _ => "",
-    }
 }
 
 /// What a fault is, and its place.
@@ -232,26 +218,34 @@ fn numbered(alloc: Global, script: &Script, n: usize) -> Result<Text, NoMemory> 
         None => None,
     };
     match found {
-        Some(of) => render::script(&mut text, of)?,
+        Some(of) => render::script(&mut text, of),
         None => text.add(b"none")?,
     }
     Ok(text)
 }
 
-/// The substitutions of a word, by number.
+/// The substitutions of the word below, by number.
+static NUMBERED: [(usize, &[u8]); 6] = [
+    (0, b"|[ b];"),
+    (1, b"|[ c];"),
+    (2, b"|[ d -$(|[ e];)];"),
+    (3, b""),
+    (4, b"|[ f];"),
+    (5, b"none"),
+];
+
+/// Whether the substitution of this number is this text.
+fn is_numbered(alloc: Global, script: &Script, n: usize, wanted: &[u8]) -> Result<bool, NoMemory> {
+    Ok(numbered(alloc, script, n)?.bytes() == wanted)
+}
+
 #[test]
 fn substitutions_have_numbers(rt: HostRuntime) -> Result<(), Fail> {
+    let alloc = rt.alloc();
     let line = b"a$(b)\"${x-$(c)y`d $(e)`}\"$()${z}$(f)";
-    let script = parse(rt.alloc(), line)?;
-    for (n, wanted) in [
-        (0, b"|[ b];".as_slice()),
-        (1, b"|[ c];"),
-        (2, b"|[ d -$(|[ e];)];"),
-        (3, b""),
-        (4, b"|[ f];"),
-        (5, b"none"),
-    ] {
-        assert!(rt; numbered(rt.alloc(), &script, n)?.bytes() == wanted);
+    let script = parse(alloc, line)?;
+    for (n, wanted) in &NUMBERED {
+        assert!(rt; is_numbered(alloc, &script, *n, wanted)?);
     }
     Ok(())
 }

@@ -5,3 +5,5 @@
 mod gram;
 #[cfg(test)]
 mod lex;
+#[cfg(test)]
+mod names;

@@ -71,7 +71,7 @@ laid_append (l ∷ ls) ys a m e e' k k' h more = (h.0, h.1, laid_append ls ys l.
 
 -- what opens stands at an opener, and what isn't in a word is in no backquotes
 abbrev pub SpotFits : List ℕ → Spot → Type 0
-SpotFits t (Duplicate at) = at < length t
+SpotFits t (Duplicate at closed) = at < length t
 SpotFits t _ = Unit {0}
 
 abbrev pub FrameFits : List ℕ → Frame → Type 0

@@ -10,10 +10,10 @@ use Rattle.em_lexeme.specs.declared.lexeme.What.TheVariants.{Semicolon, CaseEnd,
 use Rattle.em_lexeme.specs.declared.frame.Frame.{Frame}
 use Rattle.em_lexeme.specs.declared.frame.Frame.TheVariants.{Round, Cases, InWord, Argument, Substitution}
 use Rattle.em_lexeme.specs.declared.spot.Spot.{Spot}
-use Rattle.em_lexeme.specs.declared.spot.Spot.TheVariants.{Command, Operand, Duplicate, Subject, Inside, Item, Pattern}
+use Rattle.em_lexeme.specs.declared.spot.Spot.TheVariants.{Command, Closed, Operand, Target, Duplicate, Subject, Inside, Item, Pattern}
 use Rattle.em_lexeme.specs.Frames.{is_cases, without_cases, is_quoted, is_quoting}
 use Rattle.em_lexeme.specs.Operators.{pair, single, zero_in, zero_at}
-use Rattle.em_lexeme.specs.Spots.{is_item, is_pattern, spot_past, spot_behind, joins, is_case, is_esac, is_in, spot_in, cases_in, opens_cases, closes_cases}
+use Rattle.em_lexeme.specs.Spots.{is_item, is_pattern, is_closed, spot_past, target_of, behind_target, spot_behind, ends, joins, is_case, is_esac, is_in, spot_in, spot_in_command, cases_in, opens_cases, closes_cases}
 use Rattle.em_lexeme.specs.Words.{reserved, whole_start, front_start, is_assigning, assignment_length, descriptor, is_number, is_dash}
 use Rattle.em_lex.specs.declared.state.Byte.{Byte}
 use Rattle.em_lex.specs.declared.state.Lexer.{Lexer}
@@ -119,23 +119,36 @@ spot_past_fits t Item = tt
 spot_past_fits t Pattern = tt
 spot_past_fits t _ = tt
 
+target_fits : (t : List ℕ) (closed : Bool) → SpotFits t (target_of closed)
+target_fits t closed = either (SpotFits t) closed Target Operand tt tt
+
+behind_target_fits : (t : List ℕ) (closed : Bool) → SpotFits t (behind_target closed)
+behind_target_fits t closed = either (SpotFits t) closed Closed Operand tt tt
+
 pub spot_behind_fits : (t : List ℕ) (what : What) (f : Option Frame) (spot : Spot) (at : ℕ) → at < length t → SpotFits t (spot_behind what f spot at)
 spot_behind_fits t CaseEnd f spot at h = either (SpotFits t) (is_cases f) Item Command tt tt
 spot_behind_fits t Pipe f spot at h = either (SpotFits t) (is_pattern spot) Pattern Command tt tt
-spot_behind_fits t Less f spot at h = tt
-spot_behind_fits t Great f spot at h = tt
-spot_behind_fits t DoubleGreat f spot at h = tt
+spot_behind_fits t Less f spot at h = target_fits t (is_closed spot)
+spot_behind_fits t Great f spot at h = target_fits t (is_closed spot)
+spot_behind_fits t DoubleGreat f spot at h = target_fits t (is_closed spot)
 spot_behind_fits t GreatAnd f spot at h = h
 spot_behind_fits t Newline f spot at h = spot_past_fits t spot
 spot_behind_fits t _ f spot at h = tt
 
+spot_in_command_fits : (t : List ℕ) (w : Start) → SpotFits t (spot_in_command w)
+spot_in_command_fits t w =
+    either (SpotFits t) (ends w) Closed _ tt (either (SpotFits t) (joins w) Command _ tt
+    (either (SpotFits t) (is_case w) Subject Operand tt tt))
+
 spot_in_fits : (t : List ℕ) (spot : Spot) (w : Start) → SpotFits t (spot_in spot w)
-spot_in_fits t Command w = either (SpotFits t) (joins w) Command _ tt (either (SpotFits t) (is_case w) Subject Operand tt tt)
+spot_in_fits t Command w = spot_in_command_fits t w
+spot_in_fits t Closed w = spot_in_command_fits t w
 spot_in_fits t Operand w = tt
-spot_in_fits t (Duplicate at) w = tt
+spot_in_fits t Target w = tt
+spot_in_fits t (Duplicate at closed) w = behind_target_fits t closed
 spot_in_fits t Subject w = tt
 spot_in_fits t Inside w = either (SpotFits t) (is_in w) Item Operand tt tt
-spot_in_fits t Item w = either (SpotFits t) (is_esac w) Command Pattern tt tt
+spot_in_fits t Item w = either (SpotFits t) (is_esac w) Closed Pattern tt tt
 spot_in_fits t Pattern w = tt
 
 cases_fit : (t : List ℕ) (spot : Spot) (w : Start) (fs : List Frame) → AllByRecursion (FrameFits t) fs → AllByRecursion (FrameFits t) (cases_in spot w fs)
@@ -182,7 +195,7 @@ round_opened_fits {t} {s} b here h =
 
 closed_by_fits : {t : List ℕ} {s : Lexer} (o : Option Frame) (b : Byte) → In t b → IfSome o (FrameFits t) → Fit t b.at b.at Ready s → Fit t b.end b.end Ready (closed_by o s b)
 closed_by_fits (Some (Substitution at spot)) b here is h = at_spot spot (pop (emit_plain b.at b.end SubstitutionEnd substitution_end h (omega arith) (omega arith) (omega arith))) is.1
-closed_by_fits (Some Round) b here is h = at_spot Command (pop (emit_plain b.at b.end RightParen right_paren h (omega arith) (omega arith) (omega arith))) tt
+closed_by_fits (Some Round) b here is h = at_spot Closed (pop (emit_plain b.at b.end RightParen right_paren h (omega arith) (omega arith) (omega arith))) tt
 closed_by_fits _ b here is h = at_spot Command (emit_plain b.at b.end RightParen right_paren h (omega arith) (omega arith) (omega arith)) tt
 
 pub round_closed_fits : {t : List ℕ} {s : Lexer} (b : Byte) → In t b → Fit t b.at b.at Ready s → Fit t b.end b.end Ready (round_closed s b)
@@ -244,21 +257,21 @@ pub worded_fits : {t : List ℕ} {p : ℕ} {m : Mode} {s : Lexer} (to : ℕ) →
 unfolding worded
 worded_fits {t} {p} {m} {s} to h near = emit_end to (headed_fits (whole_start (reserved s.text) s.text) to h near) (omega arith) (omega arith)
 
-duplicated_fits : {t : List ℕ} {p : ℕ} {m : Mode} {s : Lexer} (at to : ℕ) → at < length t → Heading t p m s → p ≤ to → Fit t to to Ready (duplicated at s to)
+duplicated_fits : {t : List ℕ} {p : ℕ} {m : Mode} {s : Lexer} (at : ℕ) (closed : Bool) (to : ℕ) → at < length t → Heading t p m s → p ≤ to → Fit t to to Ready (duplicated at closed s to)
 unfolding duplicated
-duplicated_fits {t} {p} {m} {s} at to here h near =
+duplicated_fits {t} {p} {m} {s} at closed to here h near =
     let before = h.held.before in
     either (Fit t to to Ready) (is_number s.text) _ _
-    (at_spot Operand (numbered_fits (descriptor 1 s.text) to h.held near) tt)
+    (at_spot (behind_target closed) (numbered_fits (descriptor 1 s.text) to h.held near) (behind_target_fits t closed))
     (either (Fit t to to Ready) (is_dash s.text) _ _
-    (at_spot Operand (spend (refuse Redirection at (widen to to h.held.fit (omega arith) (omega arith)) here)) tt)
+    (at_spot (behind_target closed) (spend (refuse Redirection at (widen to to h.held.fit (omega arith) (omega arith)) here)) (behind_target_fits t closed))
     (worded_fits to h near))
 
 told_at_rest : {t : List ℕ} {p : ℕ} {m : Mode} {s : Lexer} (next to : ℕ) → Heading t p m s → p ≤ to → Fit t to to Ready (cond (is_number s.text && ((next == 60) || (next == 62))) (numbered (descriptor 0 s.text) to s) (worded s to))
 told_at_rest {t} {p} {m} {s} next to h near = either (Fit t to to Ready) _ _ _ (numbered_fits (descriptor 0 s.text) to h.held near) (worded_fits to h near)
 
 told_at_fits : {t : List ℕ} {p : ℕ} {m : Mode} {s : Lexer} (spot : Spot) (next to : ℕ) → SpotFits t spot → Heading t p m s → p ≤ to → Fit t to to Ready (told_at spot s next to)
-told_at_fits (Duplicate from) next to here h near = duplicated_fits from to here h near
+told_at_fits (Duplicate from closed) next to here h near = duplicated_fits from closed to here h near
 told_at_fits _ next to here h near = told_at_rest next to h near
 
 pub told_fits : {t : List ℕ} {p : ℕ} {m : Mode} {s : Lexer} (next to : ℕ) → Heading t p m s → p ≤ to → Fit t to to Ready (told s next to)

@@ -9,7 +9,7 @@ use Rattle.em_lexeme.specs.declared.frame.Frame.TheVariants.{Round, Substitution
 use Rattle.em_lexeme.specs.declared.frame.Frame.{Frame}
 use Rattle.em_lexeme.specs.declared.lexeme.What.TheVariants.{LeftParen, RightParen, GreatAnd, SubstitutionEnd}
 use Rattle.em_lexeme.specs.declared.lexeme.What.{What}
-use Rattle.em_lexeme.specs.declared.spot.Spot.TheVariants.{Command, Pattern}
+use Rattle.em_lexeme.specs.declared.spot.Spot.TheVariants.{Command, Closed, Pattern}
 use Rattle.em_lexeme.specs.Operators.{zero_at}
 use Rattle.em_lexeme.specs.Spots.{is_item, is_pattern, spot_behind}
 
@@ -36,7 +36,7 @@ round_opened s b =
 -- the innermost bracket is closed: that of a substitution, that of commands, or none
 abbrev pub closed_by : Option Frame → Lexer → Byte → Lexer
 closed_by (Some (Substitution at spot)) s b = record (popped (emitted s b.at b.end SubstitutionEnd)) { spot = spot }
-closed_by (Some Round) s b = record (popped (emitted s b.at b.end RightParen)) { spot = Command }
+closed_by (Some Round) s b = record (popped (emitted s b.at b.end RightParen)) { spot = Closed }
 closed_by _ s b = record (emitted s b.at b.end RightParen) { spot = Command }
 
 -- `)`, which ends the patterns of an item, or else the list in the innermost bracket with what of

@@ -1,5 +1,5 @@
 -- The unquoted bytes at a word's begin, and descriptors, as they are put.
-use Rattle.std.specs.Prelude.{ℕ, ◌==◌, ◌&&◌, ◌||◌, false, List, ◌∷◌, drop, Option, Some, None, if◌then◌else◌, ◌+◌, min, [], take}
+use Rattle.std.specs.Prelude.{ℕ, Bool, ◌==◌, ◌&&◌, ◌||◌, false, List, ◌∷◌, drop, Option, Some, None, if◌then◌else◌, ◌+◌, min, [], take}
 use Rattle.em_base.specs.declared.construct.Construct.TheVariants.{Redirection, Descriptor}
 use Rattle.em_lex.specs.Steps.{emitted, refused, pushed, spent}
 use Rattle.em_lex.specs.declared.state.Lexer.{Lexer}
@@ -7,9 +7,9 @@ use Rattle.em_lexeme.specs.declared.frame.Frame.TheVariants.{InWord}
 use Rattle.em_lexeme.specs.declared.lexeme.Start.TheVariants.{Plain}
 use Rattle.em_lexeme.specs.declared.lexeme.Start.{Start}
 use Rattle.em_lexeme.specs.declared.lexeme.What.TheVariants.{Number, WordStart, WordEnd, Bytes}
-use Rattle.em_lexeme.specs.declared.spot.Spot.TheVariants.{Operand, Duplicate}
+use Rattle.em_lexeme.specs.declared.spot.Spot.TheVariants.{Duplicate}
 use Rattle.em_lexeme.specs.declared.spot.Spot.{Spot}
-use Rattle.em_lexeme.specs.Spots.{spot_in, cases_in}
+use Rattle.em_lexeme.specs.Spots.{behind_target, spot_in, cases_in}
 use Rattle.em_lexeme.specs.Words.{reserved, assignment_length, front_start, whole_start, is_assigning, descriptor, is_number, is_dash}
 
 -- the word's begin at `at`
@@ -43,17 +43,20 @@ numbered None to s = spent (emitted (refused s Descriptor s.start) s.start to (N
 unfoldable pub worded : Lexer → ℕ → Lexer
 worded s to = emitted (headed (whole_start (reserved s.text) s.text) to s) to to WordEnd
 
--- behind a `>&` at `at`: a descriptor, or `-`, or a word, which is no redirection
-unfoldable pub duplicated : ℕ → Lexer → ℕ → Lexer
-duplicated at s to =
-    if is_number s.text then record (numbered (descriptor 1 s.text) to s) { spot = Operand }
-    else if is_dash s.text then record (spent (refused s Redirection at)) { spot = Operand }
+-- behind a `>&` at `at`, of a compound command or not: a descriptor, or `-`, or a word, which is no
+-- redirection
+unfoldable pub duplicated : ℕ → Bool → Lexer → ℕ → Lexer
+duplicated at closed s to =
+    if is_number s.text
+    then record (numbered (descriptor 1 s.text) to s) { spot = behind_target closed }
+    else if is_dash s.text
+    then record (spent (refused s Redirection at)) { spot = behind_target closed }
     else worded s to
 
 -- unquoted bytes that end at `at`, before the byte `next`: digits right before `<` or `>` are a
 -- descriptor
 abbrev pub told_at : Spot → Lexer → ℕ → ℕ → Lexer
-told_at (Duplicate from) s next at = duplicated from s at
+told_at (Duplicate from closed) s next at = duplicated from closed s at
 told_at _ s next at = if is_number s.text && ((next == 60) || (next == 62)) then numbered (descriptor 0 s.text) at s else worded s at
 
 unfoldable pub told : Lexer → ℕ → ℕ → Lexer

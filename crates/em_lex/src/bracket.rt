@@ -86,7 +86,7 @@ impl Lexer {
             }
             Some(Frame::Round) => {
                 self.pop();
-                self.spot = Spot::Command;
+                self.spot = Spot::Closed;
                 self.emit(b.at, b.end, What::RightParen)
             }
             _ => {

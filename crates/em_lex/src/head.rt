@@ -6,7 +6,7 @@ use crate::state::Lexer;
 use em_base::{Construct, NoMemory, Text};
 use em_lexeme::frame::Frame;
 use em_lexeme::place::place_behind;
-use em_lexeme::spot::{Spot, spot_in};
+use em_lexeme::spot::{Spot, behind_target, spot_in};
 use em_lexeme::word::{
     assignment_length, descriptor, front_start, is_assigning, is_dash, is_number, whole_start,
 };
@@ -93,20 +93,26 @@ impl Lexer {
         self.emit(to, to, What::WordEnd)
     }
 
-    /// Puts what stands behind a `>&` at `at`: a descriptor, or `-`, or a word.
+    /// Puts what stands behind a `>&` at `at`, which is a compound command's or not: a descriptor, or `-`, or a word.
     #[tactic(auto, unfolding(crate::specs::Heads::duplicated))]
-    fn put_duplicate(&mut self, alloc: Global, at: usize, to: usize) -> Result<(), NoMemory>
-        ensures { OnOk result (self.new ≡ heads.duplicated at self.old to) }
+    fn put_duplicate(
+        &mut self,
+        alloc: Global,
+        at: usize,
+        closed: bool,
+        to: usize,
+    ) -> Result<(), NoMemory>
+        ensures { OnOk result (self.new ≡ heads.duplicated at closed self.old to) }
     {
         if is_number(self.text.bytes()) {
             let number = descriptor(1, self.text.bytes());
-            self.spot = Spot::Operand;
+            self.spot = behind_target(closed);
             return self.put_number(alloc, number, to);
         }
         if is_dash(self.text.bytes()) {
             self.refuse(Construct::Redirection, at);
             self.spend(alloc);
-            self.spot = Spot::Operand;
+            self.spot = behind_target(closed);
             return Ok(());
         }
         self.put_word(alloc, to)
@@ -117,8 +123,8 @@ impl Lexer {
     pub(crate) fn tell(&mut self, alloc: Global, next: u8, at: usize) -> Result<(), NoMemory>
         ensures { OnOk result (self.new ≡ heads.told self.old next at) }
     {
-        if let Spot::Duplicate(from) = self.spot {
-            return self.put_duplicate(alloc, from, at);
+        if let Spot::Duplicate(from, closed) = self.spot {
+            return self.put_duplicate(alloc, from, closed, at);
         }
         if is_number(self.text.bytes()) && (next == b'<' || next == b'>') {
             let number = descriptor(0, self.text.bytes());

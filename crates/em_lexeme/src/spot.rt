@@ -8,12 +8,16 @@ use crate::lexeme::{Start, What};
 /// Where in a list the next word or operator stands, as far as it bears on the brackets of `case`.
 #[derive(Clone, Copy)]
 pub enum Spot {
-    /// Where a command may begin, or a reserved word may follow another.
+    /// Where a command may begin.
     Command,
+    /// Behind a compound command and its redirections, where a reserved word may stand.
+    Closed,
     /// Within a simple command, or where the grammar has no place.
     Operand,
-    /// Behind the `>&` that stands there.
-    Duplicate(usize),
+    /// Where the word of a compound command's redirection stands.
+    Target,
+    /// Behind the `>&` that stands there, and whether it is a compound command's.
+    Duplicate(usize, bool),
     /// Behind `case`.
     Subject,
     /// Behind the word of a `case`, where `in` comes.
@@ -38,6 +42,27 @@ pub fn is_pattern(spot: Spot) -> bool
     matches!(spot, Spot::Pattern)
 }
 
+/// Whether it is behind a compound command.
+fn is_closed(spot: Spot) -> bool
+    ensures { result ≡ spots.is_closed spot }
+{
+    matches!(spot, Spot::Closed)
+}
+
+/// Where the word of a redirection stands.
+fn target_of(closed: bool) -> Spot
+    ensures { result ≡ spots.target_of closed }
+{
+    if closed { Spot::Target } else { Spot::Operand }
+}
+
+/// The spot behind the word of a redirection.
+pub fn behind_target(closed: bool) -> Spot
+    ensures { result ≡ spots.behind_target closed }
+{
+    if closed { Spot::Closed } else { Spot::Operand }
+}
+
 /// The spot behind an operator that began at `at`.
 pub fn spot_behind(what: &What, frame: Option<Frame>, spot: Spot, at: usize) -> Spot
     ensures { result ≡ spots.spot_behind what.now frame spot at }
@@ -45,10 +70,10 @@ pub fn spot_behind(what: &What, frame: Option<Frame>, spot: Spot, at: usize) -> 
     match what {
         What::CaseEnd => item_or_command(is_cases(frame)),
         What::Pipe => pattern_or_command(is_pattern(spot)),
-        What::Less => Spot::Operand,
-        What::Great => Spot::Operand,
-        What::DoubleGreat => Spot::Operand,
-        What::GreatAnd => Spot::Duplicate(at),
+        What::Less => target_of(is_closed(spot)),
+        What::Great => target_of(is_closed(spot)),
+        What::DoubleGreat => target_of(is_closed(spot)),
+        What::GreatAnd => Spot::Duplicate(at, is_closed(spot)),
         What::Newline => spot_past(spot),
         _ => Spot::Command,
     }
@@ -59,8 +84,7 @@ fn spot_past(spot: Spot) -> Spot
     ensures { result ≡ spots.spot_past spot }
 {
     match spot {
-        Spot::Item => Spot::Item,
-        Spot::Pattern => Spot::Pattern,
+        Spot::Item | Spot::Pattern => spot,
         _ => Spot::Command,
     }
 }
@@ -81,7 +105,7 @@ fn pattern_or_command(pattern: bool) -> Spot
     }
 }
 
-/// Whether another reserved word or a command may stand behind the word.
+/// Whether a command begins behind the word.
 fn joins(start: Start) -> bool
     ensures { result ≡ spots.joins start }
 {
@@ -92,14 +116,20 @@ fn joins(start: Start) -> bool
             | Start::Then
             | Start::Elif
             | Start::Else
-            | Start::Fi
             | Start::While
             | Start::Until
             | Start::Do
-            | Start::Done
-            | Start::Esac
             | Start::LeftBrace
-            | Start::RightBrace
+    )
+}
+
+/// Whether the word ends a compound command.
+fn ends(start: Start) -> bool
+    ensures { result ≡ spots.ends start }
+{
+    matches!(
+        start,
+        Start::Fi | Start::Done | Start::Esac | Start::RightBrace
     )
 }
 
@@ -121,7 +151,9 @@ fn is_esac(start: Start) -> bool
 fn spot_in_command(start: Start) -> Spot
     ensures { result ≡ spots.spot_in_command start }
 {
-    if joins(start) {
+    if ends(start) {
+        Spot::Closed
+    } else if joins(start) {
         Spot::Command
     } else if is_case(start) {
         Spot::Subject
@@ -146,7 +178,7 @@ fn spot_in_item(start: Start) -> Spot
     ensures { result ≡ spots.spot_in_item start }
 {
     if is_esac(start) {
-        Spot::Command
+        Spot::Closed
     } else {
         Spot::Pattern
     }
@@ -157,9 +189,10 @@ pub fn spot_in(spot: Spot, start: Start) -> Spot
     ensures { result ≡ spots.spot_in spot start }
 {
     match spot {
-        Spot::Command => spot_in_command(start),
+        Spot::Command | Spot::Closed => spot_in_command(start),
         Spot::Operand => Spot::Operand,
-        Spot::Duplicate(_) => Spot::Operand,
+        Spot::Target => Spot::Closed,
+        Spot::Duplicate(_, closed) => behind_target(closed),
         Spot::Subject => Spot::Inside,
         Spot::Inside => spot_in_inside(start),
         Spot::Item => spot_in_item(start),
@@ -171,12 +204,12 @@ pub fn spot_in(spot: Spot, start: Start) -> Spot
 pub fn opens_cases(spot: Spot, start: Start) -> bool
     ensures { result ≡ spots.opens_cases spot start }
 {
-    matches!(spot, Spot::Command) && is_case(start)
+    matches!(spot, Spot::Command | Spot::Closed) && is_case(start)
 }
 
 /// Whether the word is `esac` as a reserved word.
 pub fn closes_cases(spot: Spot, start: Start) -> bool
     ensures { result ≡ spots.closes_cases spot start }
 {
-    matches!(spot, Spot::Command | Spot::Item) && is_esac(start)
+    matches!(spot, Spot::Command | Spot::Closed | Spot::Item) && is_esac(start)
 }

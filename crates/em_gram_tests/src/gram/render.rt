@@ -1,75 +1,76 @@
 //! A tree as a text. An item of a list ends with `;`, a stage begins with `|`, a word with a blank, an assignment with `.` and a
 //! redirection with `,`. What is quoted stands between `'`, or behind `=`.
 
-use em_base::{NoMemory, Text};
+use em_base::Text;
 use em_gram::{
     AndOr, Case, Command, Compound, If, Pipeline, Redirect, RedirectKind, Script, Simple, Value,
     Word, WordPiece, WordWhat,
 };
 
+/// Appends. Where memory lacks nothing is appended, and the text isn't what is expected.
+fn put(to: &mut Text, bytes: &[u8]) {
+    let _ = to.add(bytes);
+}
+
 #[cycle(shown)]
-pub fn script(to: &mut Text, script: &Script) -> Result<(), NoMemory> {
+pub fn script(to: &mut Text, script: &Script) {
     for item in &script.list {
-        and_or(to, item)?;
-        to.add(b";")?;
+        and_or(to, item);
+        put(to, b";");
     }
-    Ok(())
 }
 
 #[cycle(shown)]
-fn and_or(to: &mut Text, item: &AndOr) -> Result<(), NoMemory> {
-    pipeline(to, &item.first)?;
+fn and_or(to: &mut Text, item: &AndOr) {
+    pipeline(to, &item.first);
     for joined in &item.rest {
-        to.add(if joined.and { b" && " } else { b" || " })?;
-        pipeline(to, &joined.next)?;
+        put(to, if joined.and { b" && " } else { b" || " });
+        pipeline(to, &joined.next);
     }
-    Ok(())
 }
 
 #[cycle(shown)]
-fn pipeline(to: &mut Text, pipeline: &Pipeline) -> Result<(), NoMemory> {
+fn pipeline(to: &mut Text, pipeline: &Pipeline) {
     if pipeline.not {
-        to.add(b"!")?;
+        put(to, b"!");
     }
     for stage in &pipeline.stages {
-        to.add(b"|")?;
-        command(to, stage)?;
+        put(to, b"|");
+        command(to, stage);
     }
-    Ok(())
 }
 
 #[cycle(shown)]
-fn command(to: &mut Text, command: &Command) -> Result<(), NoMemory> {
+fn command(to: &mut Text, command: &Command) {
     match command {
         Command::Simple(of) => simple(to, of),
         Command::Compound(of, behind) => {
-            compound(to, of)?;
-            redirects(to, behind)
+            compound(to, of);
+            redirects(to, behind);
         }
     }
 }
 
 #[cycle(shown)]
-fn simple(to: &mut Text, simple: &Simple) -> Result<(), NoMemory> {
-    to.add(b"[")?;
+fn simple(to: &mut Text, simple: &Simple) {
+    put(to, b"[");
     for assigned in &simple.assigned {
-        to.add(b".")?;
-        to.add(assigned.name.bytes())?;
-        to.add(b"=")?;
-        word(to, &assigned.value)?;
+        put(to, b".");
+        put(to, assigned.name.bytes());
+        put(to, b"=");
+        word(to, &assigned.value);
     }
-    words(to, &simple.words)?;
-    redirects(to, &simple.redirects)?;
-    to.add(b"]")
+    words(to, &simple.words);
+    redirects(to, &simple.redirects);
+    put(to, b"]");
 }
 
 #[cycle(shown)]
-fn words(to: &mut Text, words: &[Word]) -> Result<(), NoMemory> {
+fn words(to: &mut Text, words: &[Word]) {
     for next in words {
-        to.add(b" ")?;
-        word(to, next)?;
+        put(to, b" ");
+        word(to, next);
     }
-    Ok(())
 }
 
 fn mark(kind: RedirectKind) -> &'static [u8] {
@@ -82,114 +83,111 @@ fn mark(kind: RedirectKind) -> &'static [u8] {
 }
 
 #[cycle(shown)]
-fn redirects(to: &mut Text, redirects: &[Redirect]) -> Result<(), NoMemory> {
+fn redirects(to: &mut Text, redirects: &[Redirect]) {
     for redirect in redirects {
-        to.add(&[b',', b'0' | redirect.fd])?;
-        to.add(mark(redirect.kind))?;
-        word(to, &redirect.target)?;
+        put(to, &[b',', b'0' | redirect.fd]);
+        put(to, mark(redirect.kind));
+        word(to, &redirect.target);
     }
-    Ok(())
 }
 
 /// Between brackets.
 #[cycle(shown)]
-fn block(to: &mut Text, of: &Script) -> Result<(), NoMemory> {
-    to.add(b"(")?;
-    script(to, of)?;
-    to.add(b")")
+fn block(to: &mut Text, of: &Script) {
+    put(to, b"(");
+    script(to, of);
+    put(to, b")");
 }
 
 #[cycle(shown)]
-fn compound(to: &mut Text, compound: &Compound) -> Result<(), NoMemory> {
+fn compound(to: &mut Text, compound: &Compound) {
     match compound {
         Compound::Subshell(of) => block(to, of),
         Compound::Group(of) => {
-            to.add(b"{")?;
-            script(to, of)?;
-            to.add(b"}")
+            put(to, b"{");
+            script(to, of);
+            put(to, b"}");
         }
         Compound::If(of) => conditional(to, of),
         Compound::Loop(of) => {
-            to.add(if of.until { b"until" } else { b"while" })?;
-            block(to, &of.test)?;
-            block(to, &of.body)
+            put(to, if of.until { b"until" } else { b"while" });
+            block(to, &of.test);
+            block(to, &of.body);
         }
         Compound::For(of) => {
-            to.add(b"for ")?;
-            to.add(of.name.bytes())?;
-            words(to, &of.words)?;
-            block(to, &of.body)
+            put(to, b"for ");
+            put(to, of.name.bytes());
+            words(to, &of.words);
+            block(to, &of.body);
         }
         Compound::Case(of) => case(to, of),
     }
 }
 
 #[cycle(shown)]
-fn conditional(to: &mut Text, of: &If) -> Result<(), NoMemory> {
-    to.add(b"if")?;
+fn conditional(to: &mut Text, of: &If) {
+    put(to, b"if");
     for branch in &of.branches {
-        block(to, &branch.test)?;
-        block(to, &branch.body)?;
+        block(to, &branch.test);
+        block(to, &branch.body);
     }
     if let Some(other) = &of.other {
-        to.add(b"else")?;
-        block(to, other)?;
+        put(to, b"else");
+        block(to, other);
     }
-    to.add(b"fi")
+    put(to, b"fi");
 }
 
 #[cycle(shown)]
-fn case(to: &mut Text, of: &Case) -> Result<(), NoMemory> {
-    to.add(b"case ")?;
-    word(to, &of.word)?;
+fn case(to: &mut Text, of: &Case) {
+    put(to, b"case ");
+    word(to, &of.word);
     for item in &of.items {
-        to.add(b"<")?;
-        words(to, &item.patterns)?;
-        to.add(b">")?;
+        put(to, b"<");
+        words(to, &item.patterns);
+        put(to, b">");
         if let Some(body) = &item.body {
-            block(to, body)?;
+            block(to, body);
         }
     }
-    Ok(())
 }
 
 #[cycle(shown)]
-fn word(to: &mut Text, word: &Word) -> Result<(), NoMemory> {
+fn word(to: &mut Text, word: &Word) {
     for next in &word.pieces {
-        piece(to, next)?;
+        piece(to, next);
     }
-    Ok(())
 }
 
 #[cycle(shown)]
-fn piece(to: &mut Text, piece: &WordPiece) -> Result<(), NoMemory> {
+fn piece(to: &mut Text, piece: &WordPiece) {
     match &piece.what {
         WordWhat::Bytes(text) => {
             let side: &[u8] = if piece.quoted { b"'" } else { b"" };
-            to.add(side)?;
-            to.add(text.bytes())?;
-            to.add(side)
+            put(to, side);
+            put(to, text.bytes());
+            put(to, side);
         }
         WordWhat::Value(of) => {
-            to.add(if piece.quoted { b"=$" } else { b"-$" })?;
+            put(to, if piece.quoted { b"=$" } else { b"-$" });
             value(to, of)
         }
         WordWhat::Output(of) => {
-            to.add(if piece.quoted { b"=$" } else { b"-$" })?;
+            put(to, if piece.quoted { b"=$" } else { b"-$" });
             block(to, of)
         }
     }
 }
 
 #[cycle(shown)]
-fn value(to: &mut Text, value: &Value) -> Result<(), NoMemory> {
-    to.add(b"{")?;
-    to.add(value.name.bytes())?;
-    to.add(b" ")?;
-    to.add(value.form.bytes())?;
+fn value(to: &mut Text, value: &Value) {
+    put(to, b"{");
+    put(to, value.name.bytes());
+    put(to, b" ");
+    put(to, value.form.bytes());
     if let Some(arg) = &value.arg {
-        to.add(b" ")?;
-        word(to, arg)?;
+        put(to, b" ");
+        word(to, arg);
     }
-    to.add(b"}")
+    put(to, b"}");
 }

@@ -1,7 +1,7 @@
 //! Lines with their trees, and lines with their faults. Expected is what docs/FORMATS.md says of the shell.
 
 /// Each line with its tree as a text.
-pub static TREES: [(&str, &str); 82] = [
+pub static TREES: [(&str, &str); 85] = [
     // lists, pipelines, simple commands
     ("", ""),
     ("a", "|[ a];"),
@@ -75,6 +75,16 @@ pub static TREES: [(&str, &str); 82] = [
         "|case x< a b>(|[ c];)< d>(|[ e];);",
     ),
     ("$(case x in a) b;; esac)", "|[ -$(|case x< a>(|[ b];);)];"),
+    // a reserved word right behind a compound command's redirection
+    ("if { a;} >f then b;fi", "|if(|{|[ a];},1>f;)(|[ b];)fi;"),
+    (
+        "if { a;} >f then case x in y) b;;esac fi",
+        "|if(|{|[ a];},1>f;)(|case x< y>(|[ b];);)fi;",
+    ),
+    (
+        "while (a)2>&1 <i do case x in y) b;;esac done",
+        "|while(|(|[ a];),2>&1,0<i;)(|case x< y>(|[ b];););",
+    ),
     // newlines
     ("\n\n", ""),
     ("\n\na;\n\nb\n\n\nc\n\n", "|[ a];|[ b];|[ c];"),
