@@ -38,8 +38,9 @@ fn add_unescaped(text: &mut Text, plain: &[u8]) -> Result<(), NoMemory>
     Ok(())
 }
 
-/// Appends a reference as it was written: `$` and its byte, or its name in its brackets.
-fn add_reference(text: &mut Text, bytes: &[u8], span: Span) -> Result<(), NoMemory>
+/// Appends a reference of the bytes as it was written: `$` and its byte, or its name in its brackets. `span` is that of the byte or the
+/// name. Steps for each byte.
+pub fn add_reference(text: &mut Text, bytes: &[u8], span: Span) -> Result<(), NoMemory>
     ensures { OnOk result (text.new ≡ text.old ++ source bytes.now (Ref span)) }
 {
     text.add(b"$")?;

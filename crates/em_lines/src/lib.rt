@@ -8,7 +8,7 @@ mod line;
 mod no;
 mod read;
 
-pub use comment::{bare, comment_start};
+pub use comment::{add_reference, bare, comment_start};
 pub use line::{Line, Lines};
 pub use no::LinesNo;
 pub use read::{joined, logical, logical_before};

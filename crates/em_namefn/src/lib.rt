@@ -8,4 +8,4 @@ mod name;
 mod wild;
 
 pub use function::name_function;
-pub use wild::wildcard;
+pub use wild::{glyphs_of, wildcard};

@@ -12,8 +12,8 @@ use em_view::{Desk, DeskNo, View};
 use em_wordlist::{join_texts, texts};
 use std::alloc::Global;
 
-/// The bytes as glyphs that aren't quoted.
-fn glyphs_of(alloc: Global, bytes: &[u8]) -> Result<Vec<Glyph>, NoMemory>
+/// The bytes as glyphs that aren't quoted. Steps for each byte.
+pub fn glyphs_of(alloc: Global, bytes: &[u8]) -> Result<Vec<Glyph>, NoMemory>
     ensures { IfOk result (λ v. v.items ≡ glyphs_of bytes.now) }
 {
     Ok(

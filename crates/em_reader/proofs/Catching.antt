@@ -1,9 +1,9 @@
 -- The expansion of a text, whose refusals of a function are values.
-use Rattle.std.proofs.Common.{◌≡◌, Bool, true, false, List, ℕ, Result, Ok, Err, refl, sym, ap, subst, ◌∙◌}
+use Rattle.std.proofs.Common.{◌≡◌, false, List, ℕ, Result, Ok, Err, refl, sym, ap, ◌∙◌}
 use Rattle.em_base.specs.declared.place.Place.{Place}
 use Rattle.em_view.specs.Actions.{Workspace}
 use Rattle.em_view.specs.Performs.{DeskState, Told, is_free}
-use Rattle.em_view.specs.Steps.{Steps, Does, with_state, with_part, within}
+use Rattle.em_view.specs.Steps.{Does, with_state, with_part, within}
 use Rattle.em_expand.specs.declared.no.ExpandNo.{ExpandNo}
 use Rattle.em_expand.specs.declared.no.ExpandNo.TheVariants as no
 use Rattle.em_expand.specs.declared.spoken.Spoken.{Spoken}

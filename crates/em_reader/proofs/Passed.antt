@@ -1,8 +1,8 @@
 -- Nothing is done: a text without lines, and lines of a branch that isn't read.
-use Rattle.std.proofs.Common.{◌≡◌, ◌∙◌, Bool, true, false, ℕ, suc, List, [], ◌∷◌, Option, None, Some, Result, Ok, Err, refl, sym, ap}
+use Rattle.std.proofs.Common.{◌≡◌, Bool, true, false, ℕ, suc, List, [], ◌∷◌, None, Result, Ok, refl, sym, ap}
 use Rattle.std.proofs.lemmas.List.Elements.{recursion_from_All}
 use Rattle.std.specs.List.{AllByRecursion}
-use Rattle.std.specs.Prelude.{All, ◌||◌, not, if◌then◌else◌}
+use Rattle.std.specs.Prelude.{All, ◌||◌, not}
 use Rattle.em_base.specs.declared.place.Place.{Place}
 use Rattle.em_lines.specs.declared.line.Line.{Line}
 use Rattle.em_view.specs.Actions.{Oracle, Workspace, ◌>>=◌}
@@ -12,9 +12,9 @@ use Rattle.em_statement.specs.declared.statement.Statement.TheVariants as statem
 use Rattle.em_statement.specs.Statements.{statement_of}
 use Rattle.em_reading.specs.declared.no.ReadNo.{ReadNo}
 use Rattle.em_reading.specs.declared.reading.Reading.{Reading}
-use Rattle.em_reading.specs.Changes.{Change, is_read, end_text, recipe, recipe_by, good, take_define, unended}
+use Rattle.em_reading.specs.Changes.{is_read}
 use Rattle.em_reader.specs.Passing.{is_conditional, is_passed}
-use Rattle.em_reader.specs.Reading.{Deeper, read_lines, read_text, read_line, by_body, by_statement, active_line, statement_line}
+use Rattle.em_reader.specs.Reading.{Deeper, read_lines, read_text, read_line, by_body, by_statement, active_line}
 
 abbrev Nothing : Reading → Workspace → Result (Unit {0} × Reading) (ReadNo × Reading) × Workspace
 Nothing r w = (Ok (tt, r), w)

@@ -1,5 +1,5 @@
 -- The pieces of a rule's head, one after another.
-use Rattle.std.proofs.Common.{◌≡◌, Bool, true, false, List, ◌++◌, ℕ, Option, Some, None, Ok, refl, sym, ap, ◌∙◌}
+use Rattle.std.proofs.Common.{◌≡◌, true, false, List, ◌++◌, ℕ, Option, Some, None, Ok, refl, sym, ap, ◌∙◌}
 use Rattle.std.specs.Prelude.{is_some}
 use Rattle.em_base.specs.declared.place.Place.{Place}
 use Rattle.em_view.specs.Performs.{DeskState, Told}

@@ -1,5 +1,5 @@
 -- The book and what was said, from what was read.
-use Rattle.std.proofs.Common.{◌≡◌, List, ℕ, Option, Result, Ok, Err, refl, ap}
+use Rattle.std.proofs.Common.{List, ℕ, Option, Result, Ok, Err, refl, ap}
 use Rattle.em_rules.specs.declared.book.Book.{Book}
 use Rattle.em_vars.specs.Entries.{Entries}
 use Rattle.em_view.specs.Actions.{Workspace}

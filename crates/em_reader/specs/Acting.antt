@@ -2,11 +2,12 @@
 --     holds vars c h        whether a condition holds; none where it isn't of the form
 --     matched ..            names, each with a wildcard replaced by its matches in the tree, if it has some
 --     act_alone p s h       what any other statement than an `include` does
-use Rattle.std.specs.Prelude.{ℕ, ◌==◌, ◌&&◌, not, Bool, true, false, List, [], ◌∷◌, ◌++◌, length, map, Option, Some, None, is_none, is_some, option_map, codes, if◌then◌else◌}
+use Rattle.std.specs.Prelude.{ℕ, ◌-◌, ◌==◌, ◌&&◌, ◌||◌, slice_get, not, Bool, true, false, List, [], ◌∷◌, ◌++◌, length, map, Option, Some, None, is_none, is_some, option_map, codes, if◌then◌else◌}
 use Rattle.std.specs.List.{list_any}
 use Rattle.std.specs.Option.{option_or}
 use Rattle.std.specs.Str.{bytes_eq}
 use Rattle.em_base.specs.declared.place.Place.{Place}
+use Rattle.em_base.specs.Blanks.{is_blank}
 use Rattle.em_wordlist.specs.Words.{words_of}
 use Rattle.em_wordlist.specs.Stems.{is_percent}
 use Rattle.em_glob.specs.declared.glyph.Glyph.{Glyph}
@@ -108,10 +109,23 @@ abbrev pub unless_refused : Option (List ℕ) → Place → Reads (Unit {0}) →
 unless_refused None p m = m
 unless_refused (Some name) p m = refuse (at_place p (fault.Refused name))
 
+-- a text in front of a function that is refused: where the function stands right behind a word, the
+-- word goes on with what isn't known, so it is none of the names that are refused as a whole
+abbrev pub ends_word : Option ℕ → Bool
+ends_word None = false
+ends_word (Some b) = not (is_blank b || (b == 58))
+
+abbrev pub goes_on : List ℕ → Bool
+goes_on text = ends_word (slice_get text (length text - 1))
+
+abbrev pub known : Option (List ℕ) → List ℕ → List ℕ
+known None text = text
+known (Some name) text = if goes_on text then text ++ 120 ∷ [] else text
+
 -- what is refused in the head, from the left; what stands behind a function that is refused isn't known
 abbrev pub rule_line : Place → RuleLine → Heard → Reads (Unit {0})
 rule_line p l h =
-    unless_refused (refusal_of l.assigns h.first.text) p
+    unless_refused (refusal_of l.assigns (known h.first.refused h.first.text)) p
     (unless_refused h.first.refused p (rule_by p l h.first.text (head_of h.first.text)))
 
 -- ---- a statement

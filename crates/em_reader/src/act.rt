@@ -1,37 +1,23 @@
 //! What a statement does when its texts are expanded.
-ghost use Rattle.std.specs.Prelude.{◌≡◌, ◌++◌, ◌∷◌, [], IfOk, option_map};
+ghost use Rattle.std.specs.Prelude.{◌≡◌, ◌++◌, ◌∷◌, [], IfOk};
 ghost use Rattle.std.specs.List.{list_any};
 ghost use Rattle.em_reader.specs.Acting as acting;
-ghost use Rattle.em_reader.specs.Acting.{is_pattern_rule, matched, or_itself, rule_of};
+ghost use Rattle.em_reader.specs.Acting.{is_pattern_rule, known, matched, or_itself, rule_of};
 ghost use Rattle.em_namefn.specs.Wildcards.{glyphs_of};
 ghost use Rattle.em_reading.specs.Faults.{is_free};
-ghost use Rattle.em_statement.specs.Heads.{head_of};
+ghost use Rattle.em_statement.specs.Heads.{head_of, refusal_of};
 ghost use Rattle.em_view.specs.Steps.{Does};
 ghost use Rattle.em_wordlist.specs.Stems.{is_percent};
 
-use em_base::{NoMemory, Place, Seq, Text};
+use em_base::{NoMemory, Place, Seq, Text, is_blank};
 use em_glob::{Glyph, is_pattern};
+use em_namefn::glyphs_of;
 use em_pathname::matching_names;
-use em_reading::{Fault, Heard, ReadNo, Reading, at, desk_fault, refused};
+use em_reading::{Expanded, Fault, Heard, ReadNo, Reading, at, desk_fault, refused};
 use em_rules::{RecipeLine, Rule};
 use em_statement::{Head, RuleLine, Statement, is_empty, read_head, refused_in_head};
 use em_view::{Desk, View};
 use std::alloc::Global;
-
-/// The bytes as glyphs that aren't quoted.
-fn glyphs_of(alloc: Global, bytes: &[u8]) -> Result<Vec<Glyph>, NoMemory>
-    ensures { IfOk result (λ v. v.items ≡ glyphs_of bytes.now) }
-{
-    Ok(
-        bytes
-            .iter()
-            .map(|b| Glyph {
-                byte: *b,
-                quoted: false,
-            })
-            .collect(alloc)?,
-    )
-}
 
 /// The names, or the word itself where there are none.
 fn or_itself(word: Text, names: Seq<Text>) -> Result<Seq<Text>, NoMemory>
@@ -246,6 +232,29 @@ fn rule_by<V: View>(
     }
 }
 
+/// Whether a word ends where the text ends.
+fn goes_on(text: &[u8]) -> bool
+    ensures { result ≡ acting.goes_on text.now }
+{
+    match text.last() {
+        Some(byte) => !(is_blank(*byte) || *byte == b':'),
+        None => false,
+    }
+}
+
+/// The first thing that is refused in a rule's head, of which what stands behind a refused function isn't known.
+fn refused_in_known(alloc: Global, assigns: bool, head: &Expanded) -> Result<Option<Text>, NoMemory>
+    ensures { IfOk result (λ r. r ≡ refusal_of assigns (known head.now.refused head.now.text)) }
+{
+    let text = head.text.bytes();
+    if head.refused.is_none() || !goes_on(text) {
+        return refused_in_head(alloc, assigns, text);
+    }
+    let mut longer = Text::from_slice(alloc, text)?;
+    longer.add(b"x")?;
+    refused_in_head(alloc, assigns, longer.bytes())
+}
+
 /// The line of a rule.
 fn rule_line<V: View>(
     alloc: Global,
@@ -258,14 +267,13 @@ fn rule_line<V: View>(
     ensures { Does is_free V.tells desk.old desk.new reading.old reading.new result
         (acting.rule_line place.now line.now heard.now) }
 {
-    let text = heard.first.text.bytes();
-    if let Some(name) = refused_in_head(alloc, line.assigns, text)? {
+    if let Some(name) = refused_in_known(alloc, line.assigns, &heard.first)? {
         return Err(refused(alloc, place, name.bytes()));
     }
     if let Some(name) = &heard.first.refused {
         return Err(refused(alloc, place, name.bytes()));
     }
-    rule_by(alloc, desk, reading, place, line, text)
+    rule_by(alloc, desk, reading, place, line, heard.first.text.bytes())
 }
 
 /// What a statement does, if it puts no text in.

@@ -1,5 +1,4 @@
 //! The default goal.
-ghost use Rattle.std.specs.Prelude.{◌≡◌};
 ghost use Rattle.em_reading.specs.Faults.{is_free};
 ghost use Rattle.em_reader.specs.Makefiles as makefiles;
 ghost use Rattle.em_view.specs.Steps.{Does};

@@ -1,6 +1,5 @@
 //! The expansion of a statement's texts.
-ghost use Rattle.std.specs.Prelude.{◌≡◌, ◌++◌, [], false, IfOk, OnOk, map};
-ghost use Rattle.em_refs.specs.declared.part.Part.TheVariants.{Ref};
+ghost use Rattle.std.specs.Prelude.{◌≡◌, [], false, IfOk, map};
 ghost use Rattle.em_refs.specs.Parts.{source};
 ghost use Rattle.em_reading.specs.Faults.{is_free};
 ghost use Rattle.em_reader.specs.Hearing as hearing;
@@ -10,8 +9,9 @@ ghost use Rattle.em_view.specs.Steps.{Does};
 
 use em_base::{NoMemory, Place, Seq, Span, Text};
 use em_expand::{ExpandNo, expand};
+use em_lines::add_reference;
 use em_reading::{Expanded, Heard, ReadNo, Reading, expand_fault, is_expanded};
-use em_refs::{Bracket, Part, Parted, parts_before};
+use em_refs::{Part, Parted, parts_before};
 use em_statement::{Assignment, Condition, Sides, Statement};
 use em_view::{Desk, View};
 use std::alloc::Global;
@@ -85,20 +85,6 @@ pub(crate) fn heard<V: View>(
         Ok(text) => Ok(plain(text)),
         Err(e) => caught(alloc, place, e),
     }
-}
-
-/// Appends a reference as it was written.
-fn add_reference(text: &mut Text, bytes: &[u8], span: Span) -> Result<(), NoMemory>
-    ensures { OnOk result (text.new ≡ text.old ++ source bytes.now (Ref span)) }
-{
-    text.add(b"$")?;
-    let name = span.of(bytes);
-    let Some(bracket) = Bracket::before(bytes, span) else {
-        return text.add(name);
-    };
-    text.add(&[bracket.opening()])?;
-    text.add(name)?;
-    text.add(&[bracket.closing()])
 }
 
 /// A part of a text as it was written.

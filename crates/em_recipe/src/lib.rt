@@ -12,6 +12,6 @@ pub use automatic::with_automatic;
 pub use command::{Command, commands};
 pub use mark::{Marks, bare, marks_of};
 pub use message::{
-    fault_text, put_deleted, put_failed, put_halted, put_ignored, put_no_rule, put_refused,
-    put_spent, put_spent_early,
+    fault_text, put_deleted, put_failed, put_halted, put_ignored, put_no_rule, put_quoted,
+    put_refused, put_spent, put_spent_early,
 };

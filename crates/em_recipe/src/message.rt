@@ -7,7 +7,8 @@ use em_expand::ExpandNo;
 use itoa::Buffer;
 use std::alloc::Global;
 
-fn put_quoted(out: &mut Text, name: &[u8]) -> Result<(), NoMemory>
+/// Appends a name in single quotes, as messages have it.
+pub fn put_quoted(out: &mut Text, name: &[u8]) -> Result<(), NoMemory>
     ensures { OnOk result (out.new ≡ out.old ++ messages.quoted name.now) }
 {
     out.add(b"'")?;

@@ -1,5 +1,5 @@
 //! How a build ends.
-ghost use Rattle.std.specs.Prelude.{◌≡◌, ◌++◌, ◌<◌, ◌^◌, Some, IfOk, OnOk, slice_get, take, drop};
+ghost use Rattle.std.specs.Prelude.{◌≡◌, ◌++◌, ◌<◌, ◌^◌, Some, IfOk, OnOk, take, drop};
 ghost use Rattle.std.specs.List.{list_any};
 ghost use Rattle.em_job.specs.Making.{ends_after, flags_of};
 ghost use Rattle.emake.specs.Closing as closing;

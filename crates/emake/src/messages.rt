@@ -8,21 +8,13 @@ use em_cmdline::WordNo;
 use em_image::{ImageNo, Which};
 use em_plan::PlanNo;
 use em_reader::{Fault, RuleNo};
-use em_recipe::{fault_text, put_halted};
+use em_recipe::{fault_text, put_halted, put_quoted};
 use itoa::Buffer;
 use std::alloc::Global;
 
 pub const BAD_WORDS: &[u8] = b"emake: *** bad words.  Stop.\n";
 
 pub const NO_IMAGE: &[u8] = b"emake: *** image: absent.  Stop.\n";
-
-fn put_quoted(out: &mut Text, name: &[u8]) -> Result<(), NoMemory>
-    ensures { OnOk result (out.new ≡ out.old ++ quoted name.now) }
-{
-    out.add(b"'")?;
-    out.add(name)?;
-    out.add(b"'")
-}
 
 /// A text with a name in quotes behind it.
 fn of_name(alloc: Global, text: &[u8], name: &[u8]) -> Result<Text, NoMemory>

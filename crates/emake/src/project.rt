@@ -2,7 +2,7 @@
 ghost use Rattle.std.specs.Prelude.{◌≡◌, ◌≤◌, None, IfOk, IsErr, length};
 ghost use Rattle.em_learning.specs.Waits.{ArePlanned};
 ghost use Rattle.em_path.specs.Paths.{root_text};
-ghost use Rattle.em_path.specs.Reading.{read_fault, resolved_text};
+ghost use Rattle.em_path.specs.Reading.{read_fault};
 ghost use Rattle.emake.specs.Course.{Follows, faults_after};
 ghost use Rattle.emake.specs.Projects as projects;
 ghost use Rattle.emake.specs.Projects.{IsReady, IsSite};

@@ -1,5 +1,5 @@
 //! Where a build takes place: the order, the tree from which it starts, and the history.
-ghost use Rattle.std.specs.Prelude.{◌≡◌, ◌≤◌, ◌^◌, [], IfOk};
+ghost use Rattle.std.specs.Prelude.{◌≡◌, ◌≤◌, ◌^◌, IfOk};
 ghost use Rattle.em_cmdline.specs.Words.{HasRanges};
 ghost use Rattle.em_tree.specs.Trees.{base_of};
 ghost use Rattle.emake.specs.Course.{Follows, faults_after};

@@ -1,5 +1,4 @@
-use Rattle.std.proofs.Common.{◌≡◌, ◌∙◌, ◌+◌, drop, refl, sym, ap, Ok, Err}
-use Rattle.em_view.proofs.Doing.{then_s, leave_s, finish_s, out_s, owned_s, refused_s, gave_s}
+use Rattle.em_view.proofs.Doing.{finish_s, owned_s, refused_s}
 use Rattle.em_reader.proofs.act.act_alone.Goals as goal
 
 pub returns-in-Assign : goal.returns-in-Assign

@@ -1,5 +1,5 @@
-use Rattle.std.proofs.Common.{◌≡◌, ◌∙◌, ◌+◌, drop, refl, sym, ap, Ok, Err}
-use Rattle.em_view.proofs.Doing.{then_s, leave_s, finish_s, out_s, owned_s, refused_s, gave_s, below_ok, below_err, more_s, stop_s, end_s}
+use Rattle.std.proofs.Common.{refl}
+use Rattle.em_view.proofs.Doing.{then_s, finish_s, out_s, more_s, stop_s, end_s}
 use Rattle.em_base.proofs.Lemmas.{left_at, none_at}
 use Rattle.em_reader.proofs.act.matched.Goals as goal
 

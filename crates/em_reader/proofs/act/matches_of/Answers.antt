@@ -1,5 +1,5 @@
-use Rattle.std.proofs.Common.{◌≡◌, ◌∙◌, ◌+◌, drop, refl, sym, ap, Ok, Err}
-use Rattle.em_view.proofs.Doing.{then_s, leave_s, finish_s, out_s, owned_s, refused_s, gave_s, below_ok, below_err, more_s, stop_s, end_s}
+use Rattle.std.proofs.Common.{refl}
+use Rattle.em_view.proofs.Doing.{then_s, leave_s, finish_s, out_s}
 use Rattle.em_reader.specs.Acting.{matches_of}
 use Rattle.em_reader.proofs.act.matches_of.Goals as goal
 

@@ -1,5 +1,5 @@
-use Rattle.std.proofs.Common.{◌≡◌, ◌∙◌, refl, sym, Ok, Err}
-use Rattle.em_view.proofs.Doing.{then_s, leave_s, finish_s, out_s, owned_s, refused_s, gave_s}
+use Rattle.std.proofs.Common.{◌∙◌, refl, sym}
+use Rattle.em_view.proofs.Doing.{finish_s, out_s, refused_s}
 use Rattle.em_reader.proofs.act.rule_by.Goals as goal
 
 pub returns-in_err-head : goal.returns-in_err-head

@@ -1,5 +1,4 @@
-use Rattle.std.proofs.Common.{◌≡◌, ◌∙◌, ◌+◌, drop, refl, sym, ap, Ok, Err}
-use Rattle.em_view.proofs.Doing.{then_s, leave_s, finish_s, out_s, owned_s, refused_s, gave_s, below_ok, below_err, more_s, stop_s, end_s}
+use Rattle.em_view.proofs.Doing.{below_ok, below_err}
 use Rattle.em_reader.specs.Acting.{wildcard_glyphs}
 use Rattle.em_pathname.specs.Walking.{matching_names}
 use Rattle.em_view.specs.Steps.{below}

@@ -1,8 +1,6 @@
-use Rattle.std.proofs.Common.{◌≡◌, ◌∙◌, refl, sym, Ok, Err}
-use Rattle.em_view.proofs.Doing.{then_s, leave_s, finish_s, out_s, owned_s, refused_s, gave_s, below_ok, below_err}
+use Rattle.em_view.proofs.Doing.{below_ok, below_err}
 use Rattle.em_reading.specs.Faults.{of_desk}
-use Rattle.em_reader.specs.Reading.{content_by, content_of, path_of}
-use Rattle.em_reader.proofs.States.{on_state, free_of_desk}
+use Rattle.em_reader.proofs.States.{free_of_desk}
 use Rattle.em_reader.proofs.files.bytes_at.Goals as goal
 
 pub returns-in-Ok : goal.returns-in-Ok

@@ -1,8 +1,7 @@
-use Rattle.std.proofs.Common.{◌≡◌, ◌∙◌, refl, sym, Ok, Err}
-use Rattle.em_view.proofs.Doing.{then_s, leave_s, finish_s, out_s, owned_s, refused_s, gave_s, below_ok, below_err}
-use Rattle.em_reading.specs.Faults.{of_desk}
+use Rattle.std.proofs.Common.{◌∙◌, refl, sym}
+use Rattle.em_view.proofs.Doing.{finish_s, out_s}
 use Rattle.em_reader.specs.Reading.{content_by, content_of, path_of}
-use Rattle.em_reader.proofs.States.{on_state, free_of_desk}
+use Rattle.em_reader.proofs.States.{on_state}
 use Rattle.em_reader.proofs.files.content_of.Goals as goal
 
 pub returns-in_err-path : goal.returns-in_err-path

@@ -1,5 +1,5 @@
-use Rattle.std.proofs.Common.{◌≡◌, ◌∙◌, refl, sym, ap, Ok, Err}
-use Rattle.em_view.proofs.Doing.{then_s, leave_s, finish_s, out_s, owned_s, refused_s, gave_s}
+use Rattle.std.proofs.Common.{◌∙◌, refl, sym, ap}
+use Rattle.em_view.proofs.Doing.{out_s, owned_s}
 use Rattle.std.specs.Prelude.{codes, option_copied}
 use Rattle.em_vars.specs.Entries.{value_of}
 use Rattle.em_reading.specs.declared.reading.Reading.{Reading}

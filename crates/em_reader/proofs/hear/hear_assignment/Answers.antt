@@ -1,5 +1,4 @@
-use Rattle.std.proofs.Common.{◌≡◌, ◌∙◌, refl, sym, ap, Ok, Err}
-use Rattle.em_view.proofs.Doing.{then_s, leave_s, finish_s, out_s, owned_s, refused_s, gave_s}
+use Rattle.em_view.proofs.Doing.{then_s, leave_s, finish_s}
 use Rattle.em_reader.specs.Hearing.{hear_assignment}
 use Rattle.em_reader.proofs.hear.hear_assignment.Goals as goal
 

@@ -1,4 +1,3 @@
-use Rattle.std.proofs.Common.{◌≡◌, refl, Ok}
 use Rattle.em_view.proofs.Doing.{finish_s}
 use Rattle.em_reader.proofs.hear.hear_condition.Goals as goal
 

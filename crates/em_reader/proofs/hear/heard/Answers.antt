@@ -1,4 +1,3 @@
-use Rattle.std.proofs.Common.{refl}
 use Rattle.em_reader.proofs.Catching.{heard_ok, heard_err}
 use Rattle.em_reader.proofs.hear.heard.Goals as goal
 

@@ -1,5 +1,5 @@
-use Rattle.std.proofs.Common.{◌≡◌, ◌∙◌, refl, sym, ap, Ok, Err}
-use Rattle.em_view.proofs.Doing.{then_s, leave_s, finish_s, out_s, owned_s, refused_s, gave_s}
+use Rattle.std.proofs.Common.{refl}
+use Rattle.em_view.proofs.Doing.{out_s}
 use Rattle.em_reader.specs.Hearing.{heard_head}
 use Rattle.em_reader.proofs.hear.heard_head.Goals as goal
 

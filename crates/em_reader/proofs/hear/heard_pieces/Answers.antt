@@ -1,6 +1,6 @@
-use Rattle.std.proofs.Common.{◌≡◌, ◌+◌, ◌∙◌, drop, sym, ap, refl}
+use Rattle.std.proofs.Common.{◌+◌, ◌∙◌, drop, sym}
 use Rattle.em_base.proofs.Lemmas.{left_at, none_at}
-use Rattle.em_view.proofs.Doing.{more_s, stop_s, end_s, then_s, out_s}
+use Rattle.em_view.proofs.Doing.{more_s, stop_s, end_s, then_s}
 use Rattle.em_reader.specs.Hearing.{heard_pieces}
 use Rattle.em_reader.proofs.Pieces.{unrefused, cut, goes, whole}
 use Rattle.em_reader.proofs.hear.heard_pieces.Goals as goal

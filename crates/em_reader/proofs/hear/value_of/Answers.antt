@@ -1,4 +1,4 @@
-use Rattle.std.proofs.Common.{◌≡◌, ◌∙◌, refl, sym, ap, Ok, Err}
+use Rattle.std.proofs.Common.{◌∙◌, refl, sym}
 use Rattle.em_vars.specs.Entries.{value_of}
 use Rattle.em_view.proofs.Doing.{finish_s, out_s}
 use Rattle.em_reading.specs.Variables.{is_expanded}

@@ -1,5 +1,5 @@
 use Rattle.std.proofs.Common.{◌≡◌, ◌+◌, ◌<◌, ◌∷◌, [], List, ℕ, Bor, length, drop, get_or, refl, add-one, drop-cons}
-use Rattle.em_view.proofs.Doing.{then_s, leave_s, finish_s, out_s, owned_s, refused_s, gave_s, more_s, stop_s, end_s}
+use Rattle.em_view.proofs.Doing.{then_s, finish_s, out_s, more_s, stop_s, end_s}
 use Rattle.em_base.proofs.Lemmas.{none_at}
 use Rattle.em_reader.proofs.makefiles.first_file.Goals as goal
 

@@ -1,4 +1,4 @@
-use Rattle.std.proofs.Common.{[], ◌-◌, drop, map}
+use Rattle.std.proofs.Common.{drop, map}
 use Rattle.em_view.proofs.Doing.{Goes}
 use Rattle.em_reading.specs.Faults.{is_free}
 use Rattle.em_reader.specs.Makefiles.{first_file}

@@ -1,5 +1,5 @@
-use Rattle.std.proofs.Common.{◌≡◌, ◌∙◌, ◌+◌, drop, map, true, refl, sym, ap, Ok, Err}
-use Rattle.em_view.proofs.Doing.{then_s, leave_s, finish_s, out_s, owned_s, refused_s, gave_s, more_s, stop_s, end_s}
+use Rattle.std.proofs.Common.{true, refl, Ok}
+use Rattle.em_view.proofs.Doing.{then_s, out_s, owned_s}
 use Rattle.em_reader.specs.Makefiles.{read_file, found}
 use Rattle.em_reader.proofs.makefiles.read_file.Goals as goal
 

@@ -1,4 +1,4 @@
-use Rattle.std.proofs.Common.{◌≡◌, ◌∙◌, sym, ap, refl, List, ℕ, [], Some, Result, Ok}
+use Rattle.std.proofs.Common.{◌≡◌, ◌∙◌, sym, ap, List, ℕ, [], Some, Result, Ok}
 use Rattle.std.specs.FinMap.{empty}
 use Rattle.em_base.specs.declared.memory.NoMemory.{NoMemory}
 use Rattle.em_vars.specs.Entries.{Entries}

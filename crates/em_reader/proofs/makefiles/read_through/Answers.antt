@@ -1,5 +1,5 @@
-use Rattle.std.proofs.Common.{◌≡◌, ◌∙◌, ◌+◌, drop, map, refl, sym, ap, Ok, Err}
-use Rattle.em_view.proofs.Doing.{then_s, leave_s, finish_s, out_s, owned_s, refused_s, gave_s, more_s, stop_s, end_s}
+use Rattle.std.proofs.Common.{refl}
+use Rattle.em_view.proofs.Doing.{out_s}
 use Rattle.em_reader.proofs.makefiles.read_through.Goals as goal
 
 pub returns-in_err-vars : goal.returns-in_err-vars

@@ -1,7 +1,7 @@
-use Rattle.std.proofs.Common.{◌≡◌, ◌∙◌, ◌+◌, ◌-◌, ◌*◌, drop, refl, sym, ap, Ok, Err, Some, None}
+use Rattle.std.proofs.Common.{◌∙◌, refl, sym, ap, Ok, Some}
 use Rattle.em_base.proofs.Lemmas.{left_at, none_at}
-use Rattle.em_view.proofs.Doing.{then_s, leave_s, finish_s, out_s, owned_s, refused_s, gave_s, more_s, stop_s, end_s}
-use Rattle.std.specs.Prelude.{Bool, true, false, option_copied, if◌then◌else◌}
+use Rattle.em_view.proofs.Doing.{then_s, leave_s, finish_s, out_s, owned_s, refused_s, more_s, stop_s, end_s}
+use Rattle.std.specs.Prelude.{true, false, option_copied, if◌then◌else◌}
 use Rattle.em_cond.specs.Nests.{may_turn}
 use Rattle.em_view.specs.Steps.{done, own}
 use Rattle.em_reading.specs.declared.reading.Reading.{Reading}

@@ -1,4 +1,4 @@
-use Rattle.std.proofs.Common.{◌≡◌, ◌+◌, ◌-◌, ◌*◌, drop}
+use Rattle.std.proofs.Common.{◌+◌, ◌-◌, ◌*◌, drop}
 use Rattle.em_view.proofs.Doing.{Goes}
 use Rattle.em_reading.specs.Faults.{is_free}
 use Rattle.em_reader.specs.Reading.{read_text, read_lines, read_evals, include_all}
