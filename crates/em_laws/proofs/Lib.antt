@@ -1,0 +1,11 @@
+mod Matching
+mod Parting
+mod Splitting
+mod Lining
+mod Commenting
+mod Joining
+mod Naming
+mod Expanding
+mod Changing
+mod Filing
+mod Shortening

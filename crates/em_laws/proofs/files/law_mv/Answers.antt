@@ -1,0 +1,14 @@
+use Rattle.em_laws.proofs.Filing.{mv_bytes, mv_gone, mv_others, mv_stamp}
+use Rattle.em_laws.proofs.files.law_mv.Goals as goal
+
+pub returns-clause-bytes : goal.returns-clause-bytes
+returns-clause-bytes c = mv_bytes
+
+pub returns-clause-stamp : goal.returns-clause-stamp
+returns-clause-stamp c = mv_stamp
+
+pub returns-clause-gone : goal.returns-clause-gone
+returns-clause-gone c = mv_gone
+
+pub returns-clause-others : goal.returns-clause-others
+returns-clause-others c = mv_others
