@@ -7,11 +7,11 @@ use em_engine::{Cause, Note};
 use em_host::{Host, MemHost};
 use em_run::Work;
 use em_testing::{
-    Counter, Link, Linker, Plan, THREE, are_lower, are_numbered, links_of, root, show_notes,
-    waits_of,
+    Counter, Link, Linker, Plan, THREE, are_lower, are_numbered, links_of, root, show_bytes,
+    show_notes, waits_of,
 };
 use em_workers::{BuildNo, Built, Gate, OpenGate, build};
-use std::alloc::Global;
+use std::alloc::{AllocError, Global};
 use std::sync::Wait;
 use std::sync::atomic::AtomicBool;
 use std::test::Fail;
@@ -74,57 +74,72 @@ static APART: [(&str, &str); 5] = [
 /// Three jobs, the second of which can't make its file and so ends the run.
 static ENDING: [(&str, &str); 3] = [("/z", "/a"), ("/a", "/q/b"), ("/b", "/c")];
 
-/// Builds the plan over a root alone.
-fn build_plan<R: Threads + Wait + Sync, W: Work<Link> + Sync, G: Gate + Sync, H: Host>(
+/// The jobs of a plan, and for each those that it waits for.
+#[derive(Drop)]
+struct Jobs {
+    links: Seq<Link>,
+    waits: Seq<Seq<u32>>,
+}
+
+fn jobs_of(alloc: Global, plan: Plan<'_>, is_declared: bool) -> Result<Jobs, Fail> {
+    let links = links_of(alloc, plan)?;
+    let waits = waits_of(alloc, plan, is_declared)?;
+    Ok(Jobs { links, waits })
+}
+
+/// Builds the jobs over a root alone. What can't be built, as no plan here, is told as want of memory.
+fn build_jobs<R: Threads + Wait + Sync, W: Work<Link> + Sync, G: Gate + Sync, H: Host>(
     rt: &R,
     alloc: Global,
-    plan: Plan<'_>,
-    way: Way,
+    jobs: Jobs,
+    workers: u32,
     w: &W,
     gate: &G,
     host: &mut H,
-) -> Result<Result<Built, BuildNo>, Fail> {
-    let (workers, is_declared) = way;
-    let links = links_of(alloc, plan)?;
-    let waits = waits_of(alloc, plan, is_declared)?;
+) -> Result<Built, BuildNo> {
+    let Jobs { links, waits } = jobs;
     let count = links.len();
-    if count > 100 || waits.len() != count || !are_numbered(links.items()) {
-        return Err("jobs".into());
-    }
-    if workers == 0 || workers > 64 || !are_lower(waits.items()) {
-        return Err("workers or waits".into());
+    if count > 100
+        || waits.len() != count
+        || workers == 0
+        || workers > 64
+        || !are_numbered(links.items())
+        || !are_lower(waits.items())
+    {
+        return Err(BuildNo::NoMemory);
     }
     let start = root(alloc)?;
-    Ok(build(rt, alloc, start, links, waits, workers, w, gate, host))
+    build(rt, alloc, start, links, waits, workers, w, gate, host)
 }
 
-/// The notes of the plan's build, and what it comes to.
-fn built<R: Threads + Wait + Sync, W: Work<Link> + Sync, G: Gate + Sync>(
+/// Builds the plan over a root alone, shows what it comes to, and gives the notes.
+fn show_plan<R: Threads + Wait + Sync, W: Work<Link> + Sync, G: Gate + Sync>(
     rt: &R,
     alloc: Global,
     plan: Plan<'_>,
     way: Way,
     w: &W,
     gate: &G,
-) -> Result<(Seq<Note>, String), Fail> {
+    log: &mut String,
+) -> Result<Seq<Note>, Fail> {
+    let jobs = jobs_of(alloc, plan, way.1)?;
     let mut host = MemHost::new(alloc);
-    let built = build_plan(rt, alloc, plan, way, w, gate, &mut host)??;
-    let mut text = String::new(alloc);
-    show_built(&mut text, host.printed(), &built)?;
-    Ok((built.notes, text))
+    let built = build_jobs(rt, alloc, jobs, way.0, w, gate, &mut host)?;
+    show_built(log, host.printed(), &built)?;
+    Ok(built.notes)
 }
 
 /// What the plan's build comes to, and the notes.
-fn built_text<R: Threads + Wait + Sync, G: Gate + Sync>(
+fn show_noted<R: Threads + Wait + Sync, G: Gate + Sync>(
     rt: &R,
     alloc: Global,
     plan: Plan<'_>,
     way: Way,
     gate: &G,
-) -> Result<String, Fail> {
-    let (notes, mut text) = built(rt, alloc, plan, way, &Linker, gate)?;
-    show_notes(&mut text, notes.items())?;
-    Ok(text)
+    log: &mut String,
+) -> Result<(), Fail> {
+    let notes = show_plan(rt, alloc, plan, way, &Linker, gate, log)?;
+    Ok(show_notes(log, notes.items())?)
 }
 
 /// Whether the job was run once, or twice since its first run was answered otherwise.
@@ -138,13 +153,21 @@ fn is_due(note: &Note) -> bool {
 
 /// Whether these are the notes of the jobs from 0 on, each with as many runs as were counted.
 fn are_counted(notes: &[Note], counter: &Counter<Linker>) -> bool {
-    (0..=u32::MAX).zip(notes).all(|(job, note)| {
-        note.job == job && u32::from(note.runs) == counter.runs(job) && is_due(note)
-    })
+    for (job, note) in (0..=u32::MAX).zip(notes) {
+        if note.job != job || u32::from(note.runs) != counter.runs(job) || !is_due(note) {
+            return false;
+        }
+    }
+    true
 }
 
 fn are_single(notes: &[Note]) -> bool {
-    notes.iter().all(|note| note.runs == 1)
+    for note in notes {
+        if note.runs != 1 {
+            return false;
+        }
+    }
+    true
 }
 
 /// What is wrong with a build of the ten jobs, if anything is.
@@ -167,7 +190,8 @@ fn fault_of<R: Threads + Wait + Sync>(
     way: Way,
 ) -> Result<&'static str, Fail> {
     let counter = Counter::new(alloc, Linker, 10)?;
-    let (notes, text) = built(rt, alloc, &TEN, way, &counter, &OpenGate)?;
+    let mut text = String::new(alloc);
+    let notes = show_plan(rt, alloc, &TEN, way, &counter, &OpenGate, &mut text)?;
     Ok(fault_in(way.0, notes.items(), text.as_str(), &counter))
 }
 
@@ -181,90 +205,155 @@ fn a_build_comes_to_the_same_with_more_workers(rt: HostRuntime) -> Result<(), Fa
     Ok(())
 }
 
-/// What the two jobs come to.
-static TWO_BUILT: &str = "/a/b /a=/a /b=/b made made 3 3 0 in 1; 1 in 1; ";
+/// What a gate says: whether all came that it holds threads for.
+fn show_met(log: &mut String, is_met: bool) -> Result<(), AllocError> {
+    log.push_str(if is_met { "met" } else { "missed" })
+}
+
+fn meet<R: Threads + Wait + Sync>(rt: &R, alloc: Global, log: &mut String) -> Result<(), Fail> {
+    let gate = Meeting::new();
+    show_noted(rt, alloc, &TWO, (3, false), &gate, log)?;
+    Ok(show_met(log, gate.is_met())?)
+}
 
 #[test]
 fn workers_run_two_jobs_at_a_time(rt: HostRuntime) -> Result<(), Fail> {
-    let gate = Meeting::new();
-    let text = built_text(&rt, rt.alloc(), &TWO, (3, false), &gate)?;
-    assert_eq!(rt; text.as_str(), TWO_BUILT);
-    assert!(rt; gate.is_met());
+    let mut log = String::new(rt.alloc());
+    meet(&rt, rt.alloc(), &mut log)?;
+    assert_eq!(rt;
+        log.as_str(),
+        "/a/b /a=/a /b=/b made made 3 3 0 in 1; 1 in 1; met"
+    );
     Ok(())
 }
 
 #[test]
 fn one_worker_runs_two_jobs(rt: HostRuntime) -> Result<(), Fail> {
-    let text = built_text(&rt, rt.alloc(), &TWO, (1, false), &OpenGate)?;
-    assert_eq!(rt; text.as_str(), TWO_BUILT);
+    let mut log = String::new(rt.alloc());
+    show_noted(&rt, rt.alloc(), &TWO, (1, false), &OpenGate, &mut log)?;
+    assert_eq!(rt;
+        log.as_str(),
+        "/a/b /a=/a /b=/b made made 3 3 0 in 1; 1 in 1; "
+    );
     Ok(())
+}
+
+fn call_roll<R: Threads + Wait + Sync>(
+    rt: &R,
+    alloc: Global,
+    log: &mut String,
+) -> Result<(), Fail> {
+    let gate = Roll::new(alloc, 4)?;
+    show_noted(rt, alloc, &APART, (5, false), &gate, log)?;
+    Ok(show_met(log, gate.is_whole())?)
 }
 
 #[test]
 fn each_worker_is_a_thread(rt: HostRuntime) -> Result<(), Fail> {
-    let gate = Roll::new(rt.alloc(), 4)?;
-    let text = built_text(&rt, rt.alloc(), &APART, (5, false), &gate)?;
+    let mut log = String::new(rt.alloc());
+    call_roll(&rt, rt.alloc(), &mut log)?;
     assert_eq!(rt;
-        text.as_str(),
+        log.as_str(),
         "/a/b/c/d/e /a=/a /b=/b /c=/c /d=/d /e=/e made made made made made 3 3 3 3 3 \
-         0 in 1; 1 in 1; 2 in 1; 3 in 1; 4 in 1; "
+         0 in 1; 1 in 1; 2 in 1; 3 in 1; 4 in 1; met"
     );
-    assert!(rt; gate.is_whole());
     Ok(())
+}
+
+/// Whether a build ended well whose first ask of job 1 is held until something is printed.
+fn is_printed<R: Threads + Wait + Sync>(rt: &R, alloc: Global, jobs: Jobs) -> bool {
+    let rung = AtomicBool::new(false);
+    let gate = Late::new(&rung);
+    let mut host = Bell { rung: &rung };
+    let end = build_jobs(rt, alloc, jobs, 3, &Linker, &gate, &mut host);
+    end.is_ok() && gate.is_met()
 }
 
 #[test]
 fn the_committer_prints_while_workers_run(rt: HostRuntime) -> Result<(), Fail> {
-    let rung = AtomicBool::new(false);
-    let gate = Late::new(&rung);
-    let mut host = Bell { rung: &rung };
-    let end = build_plan(&rt, rt.alloc(), &TWO, (3, false), &Linker, &gate, &mut host)?;
-    assert!(rt; end.is_ok());
-    assert!(rt; gate.is_met());
+    let jobs = jobs_of(rt.alloc(), &TWO, false)?;
+    assert!(rt; is_printed(&rt, rt.alloc(), jobs));
     Ok(())
 }
 
-/// What the plan comes to whose second job ends the run, and whether there are two notes.
-fn ended<R: Threads + Wait + Sync>(
+/// With how many workers the builds are made that end early.
+static FEW: [u32; 3] = [1, 2, 5];
+
+/// What the plan comes to whose second job ends the run, and how many notes there are.
+fn show_ending<R: Threads + Wait + Sync>(
     rt: &R,
     alloc: Global,
     workers: u32,
-) -> Result<(bool, String), Fail> {
-    let (notes, text) = built(rt, alloc, &ENDING, (workers, false), &Linker, &OpenGate)?;
-    Ok((notes.len() == 2, text))
+    log: &mut String,
+) -> Result<(), Fail> {
+    let way = (workers, false);
+    let notes = show_plan(rt, alloc, &ENDING, way, &Linker, &OpenGate, log)?;
+    let count = notes.len();
+    Ok(write!(log, "{count} notes; ")?)
+}
+
+fn show_endings<R: Threads + Wait + Sync>(
+    rt: &R,
+    alloc: Global,
+    log: &mut String,
+) -> Result<(), Fail> {
+    for workers in &FEW {
+        show_ending(rt, alloc, *workers, log)?;
+    }
+    Ok(())
 }
 
 #[test]
 fn a_build_ends_behind_the_job_that_ends_the_run(rt: HostRuntime) -> Result<(), Fail> {
-    for workers in [1, 2, 5] {
-        let (two, text) = ended(&rt, rt.alloc(), workers)?;
-        assert_eq!(rt; text.as_str(), "/a/a/q/b /a=/a made failed 1 3 2 ");
-        assert!(rt; two, "{workers} workers");
+    let mut log = String::new(rt.alloc());
+    show_endings(&rt, rt.alloc(), &mut log)?;
+    assert_eq!(rt;
+        log.as_str(),
+        "/a/a/q/b /a=/a made failed 1 3 2 2 notes; /a/a/q/b /a=/a made failed 1 3 2 2 notes; \
+         /a/a/q/b /a=/a made failed 1 3 2 2 notes; "
+    );
+    Ok(())
+}
+
+fn show_end(log: &mut String, end: Result<Built, BuildNo>) -> Result<(), AllocError> {
+    log.push_str(match end {
+        Ok(_) => "built ",
+        Err(BuildNo::Host) => "host ",
+        Err(BuildNo::NoMemory) => "memory ",
+    })
+}
+
+/// How a build ends whose host fails at the second print, and what was printed.
+fn show_failing<R: Threads + Wait + Sync>(
+    rt: &R,
+    alloc: Global,
+    workers: u32,
+    log: &mut String,
+) -> Result<(), Fail> {
+    let jobs = jobs_of(alloc, &THREE, true)?;
+    let mut host = MemHost::new(alloc);
+    host.fail_at(1)?;
+    let end = build_jobs(rt, alloc, jobs, workers, &Linker, &OpenGate, &mut host);
+    show_end(log, end)?;
+    Ok(show_bytes(log, host.printed())?)
+}
+
+fn show_all_failing<R: Threads + Wait + Sync>(
+    rt: &R,
+    alloc: Global,
+    log: &mut String,
+) -> Result<(), Fail> {
+    for workers in &FEW {
+        show_failing(rt, alloc, *workers, log)?;
+        log.push_str("; ")?;
     }
     Ok(())
 }
 
-/// Whether a build ends where the host fails.
-fn is_failed<R: Threads + Wait + Sync>(
-    rt: &R,
-    alloc: Global,
-    workers: u32,
-    host: &mut MemHost,
-) -> Result<bool, Fail> {
-    match build_plan(rt, alloc, &THREE, (workers, true), &Linker, &OpenGate, host)? {
-        Ok(_) => Ok(false),
-        Err(no) => Ok(no == BuildNo::Host),
-    }
-}
-
 #[test]
 fn a_build_ends_where_the_host_fails(rt: HostRuntime) -> Result<(), Fail> {
-    for workers in [1, 2, 5] {
-        let mut host = MemHost::new(rt.alloc());
-        host.fail_at(1)?;
-        let failed = is_failed(&rt, rt.alloc(), workers, &mut host)?;
-        let printed = host.printed() == b"/a".as_slice();
-        assert!(rt; failed && printed, "{workers} workers");
-    }
+    let mut log = String::new(rt.alloc());
+    show_all_failing(&rt, rt.alloc(), &mut log)?;
+    assert_eq!(rt; log.as_str(), "host /a; host /a; host /a; ");
     Ok(())
 }

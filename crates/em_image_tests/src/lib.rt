@@ -4,4 +4,6 @@
 #[cfg(test)]
 mod image;
 #[cfg(test)]
+mod nodes;
+#[cfg(test)]
 mod tree;

@@ -1,3 +1,4 @@
+use crate::trees::put_all;
 use em_base::Text;
 use em_cmdline::{HistoryMode, Order, WordNo, read_words};
 use std::alloc::Global;
@@ -6,90 +7,120 @@ use std::test::Fail;
 
 /// What is read of the words, in one line: the fields that aren't as without options, or the refusal.
 fn read(alloc: Global, words: &[Text]) -> Result<Text, Fail> {
+    let given = read_words(alloc, words);
     let mut out = Text::new(alloc);
-    match read_words(alloc, words) {
-        Ok(order) => {
-            put_names(&mut out, &order)?;
-            put_flags(&mut out, &order)?;
-            put_numbers(alloc, &mut out, &order)?;
-            put_words(&mut out, &order)?;
-        }
-        Err(WordNo::Unknown) => out.add(b" Unknown")?,
-        Err(WordNo::Missing) => out.add(b" Missing")?,
-        Err(WordNo::BadNumber(text)) => put(&mut out, b" BadNumber:", text.bytes())?,
-        Err(WordNo::BadName(word)) => put(&mut out, b" BadName:", word.bytes())?,
-        Err(WordNo::SameName(name)) => put(&mut out, b" SameName:", name.bytes())?,
-        Err(WordNo::NoMemory) => out.add(b" NoMemory")?,
-    }
+    show(alloc, &mut out, &given)?;
     Ok(out)
 }
 
-fn put(out: &mut Text, name: &[u8], value: &[u8]) -> Result<(), Fail> {
-    out.add(name)?;
-    out.add(value)?;
+fn show(alloc: Global, out: &mut Text, given: &Result<Order, WordNo>) -> Result<(), Fail> {
+    match given {
+        Ok(order) => show_order(alloc, out, order),
+        Err(no) => {
+            show_no(out, no);
+            Ok(())
+        }
+    }
+}
+
+fn show_order(alloc: Global, out: &mut Text, order: &Order) -> Result<(), Fail> {
+    put_names(out, order);
+    put_flags(out, order);
+    put_numbers(alloc, out, order)?;
+    put_words(out, order);
     Ok(())
 }
 
-fn put_some(out: &mut Text, name: &[u8], value: &Option<Text>) -> Result<(), Fail> {
+fn show_no(out: &mut Text, no: &WordNo) {
+    match no {
+        WordNo::Unknown => put(out, b" Unknown", b""),
+        WordNo::Missing => put(out, b" Missing", b""),
+        WordNo::BadNumber(text) => put(out, b" BadNumber:", text.bytes()),
+        WordNo::BadName(word) => put(out, b" BadName:", word.bytes()),
+        WordNo::SameName(name) => put(out, b" SameName:", name.bytes()),
+        WordNo::NoMemory => put(out, b" NoMemory", b""),
+    }
+}
+
+fn put(out: &mut Text, name: &[u8], value: &[u8]) {
+    put_all(out, &[name, value]);
+}
+
+fn put_some(out: &mut Text, name: &[u8], value: &Option<Text>) {
     match value {
         Some(value) => put(out, name, value.bytes()),
-        None => Ok(()),
+        None => {}
     }
 }
 
-fn put_names(out: &mut Text, order: &Order) -> Result<(), Fail> {
-    put_some(out, b" I:", &order.image)?;
-    put_some(out, b" f:", &order.makefile)?;
+fn put_names(out: &mut Text, order: &Order) {
+    put_some(out, b" I:", &order.image);
+    put_some(out, b" f:", &order.makefile);
     if order.dir.bytes() != b"/".as_slice() {
-        put(out, b" C:", order.dir.bytes())?;
+        put(out, b" C:", order.dir.bytes());
     }
-    put_some(out, b" history:", &order.history)?;
-    put_some(out, b" report:", &order.report)
+    put_some(out, b" history:", &order.history);
+    put_some(out, b" report:", &order.report);
 }
 
-fn put_flags(out: &mut Text, order: &Order) -> Result<(), Fail> {
-    for (name, set) in [
-        (b" k", order.keep_going),
-        (b" n", order.dry),
-        (b" q", order.question),
-        (b" s", order.silent),
-        (b" i", order.ignore),
-        (b" B", order.always),
-    ] {
-        if set {
-            out.add(name)?;
-        }
+fn put_flag(out: &mut Text, name: &[u8], set: bool) {
+    if set {
+        put(out, name, b"");
     }
+}
+
+fn put_flags(out: &mut Text, order: &Order) {
+    put_flag(out, b" k", order.keep_going);
+    put_flag(out, b" n", order.dry);
+    put_flag(out, b" q", order.question);
+    put_flag(out, b" s", order.silent);
+    put_flag(out, b" i", order.ignore);
+    put_flag(out, b" B", order.always);
+}
+
+fn put_number(alloc: Global, out: &mut Text, name: &[u8], n: u64) -> Result<(), Fail> {
+    let digits = format!(in alloc; "{n}")?;
+    put(out, name, digits.as_bytes());
     Ok(())
 }
 
 fn put_numbers(alloc: Global, out: &mut Text, order: &Order) -> Result<(), Fail> {
     if order.workers != 1 {
-        out.add(format!(in alloc; " j:{}", order.workers)?.as_bytes())?;
+        put_number(alloc, out, b" j:", u64::from(order.workers))?;
     }
     if order.fuel != 1_000_000 {
-        out.add(format!(in alloc; " fuel:{}", order.fuel)?.as_bytes())?;
+        put_number(alloc, out, b" fuel:", order.fuel)?;
     }
-    if let Some(n) = order.generate {
-        out.add(format!(in alloc; " gen:{n}")?.as_bytes())?;
+    match order.generate {
+        Some(n) => put_number(alloc, out, b" gen:", u64::from(n)),
+        None => Ok(()),
     }
-    Ok(())
 }
 
-fn put_words(out: &mut Text, order: &Order) -> Result<(), Fail> {
-    match order.mode {
-        HistoryMode::Create => out.add(b" create")?,
-        HistoryMode::Merge => {}
-        HistoryMode::Read => out.add(b" read")?,
+fn put_goals(out: &mut Text, goals: &[Text]) {
+    for goal in goals {
+        put(out, b" goal:", goal.bytes());
     }
-    for goal in order.goals.items() {
-        put(out, b" goal:", goal.bytes())?;
+}
+
+fn put_assigned(out: &mut Text, assigned: &[(Text, Text)]) {
+    for (name, value) in assigned {
+        put_all(out, &[b" set:", name.bytes(), b":", value.bytes()]);
     }
-    for (name, value) in order.assigned.items() {
-        put(out, b" set:", name.bytes())?;
-        put(out, b":", value.bytes())?;
+}
+
+fn mode_name(mode: &HistoryMode) -> &'static [u8] {
+    match mode {
+        HistoryMode::Create => b" create",
+        HistoryMode::Merge => b"",
+        HistoryMode::Read => b" read",
     }
-    Ok(())
+}
+
+fn put_words(out: &mut Text, order: &Order) {
+    put(out, mode_name(&order.mode), b"");
+    put_goals(out, order.goals.items());
+    put_assigned(out, order.assigned.items());
 }
 
 /// The words between bars.
@@ -101,11 +132,17 @@ fn words(alloc: Global, line: &[u8]) -> Result<Vec<Text>, Fail> {
     Ok(words)
 }
 
+/// Whether this is read of a line.
+fn is_read(alloc: Global, line: &[u8], wanted: &[u8]) -> Result<bool, Fail> {
+    let words = words(alloc, line)?;
+    Ok(read(alloc, words.as_slice())?.bytes() == wanted)
+}
+
 /// Reads each line, and compares.
 fn compare(rt: &impl Abort, alloc: Global, lines: &[(&str, &str)]) -> Result<(), Fail> {
     for (line, want) in lines {
-        let found = read(alloc, words(alloc, line.as_bytes())?.as_slice())?;
-        assert!(rt; found.bytes() == want.as_bytes(), "at {line}");
+        let is_read = is_read(alloc, line.as_bytes(), want.as_bytes())?;
+        assert!(rt; is_read, "at {line}");
     }
     Ok(())
 }
@@ -117,18 +154,19 @@ fn no_words(rt: HostRuntime) -> Result<(), Fail> {
     Ok(())
 }
 
+static NOT_UTF8: [&[u8]; 6] = [
+    b"\xff",
+    b"-I|i|\xff",
+    b"-I|\xc3",
+    b"-I|i|--|\x80",
+    b"-I|i|A=\xed\xa0\x80",
+    b"-x|\xff",
+];
+
 #[test]
 fn words_that_are_not_utf8(rt: HostRuntime) -> Result<(), Fail> {
-    for line in [
-        b"\xff".as_slice(),
-        b"-I|i|\xff".as_slice(),
-        b"-I|\xc3".as_slice(),
-        b"-I|i|--|\x80".as_slice(),
-        b"-I|i|A=\xed\xa0\x80".as_slice(),
-        b"-x|\xff".as_slice(),
-    ] {
-        let found = read(rt.alloc(), words(rt.alloc(), line)?.as_slice())?;
-        assert_eq!(rt; found.bytes(), b" Unknown".as_slice());
+    for line in &NOT_UTF8 {
+        assert!(rt; is_read(rt.alloc(), line, b" Unknown")?);
     }
     Ok(())
 }

@@ -11,3 +11,5 @@ mod namefn;
 mod pathname;
 #[cfg(test)]
 mod recipe;
+#[cfg(test)]
+mod trees;

@@ -1,3 +1,4 @@
+use crate::trees::{put_all, put_part};
 use em_base::{Construct, NoMemory, Place, Seq, Text};
 use em_expand::ExpandNo;
 use em_plan::{PlanJob, Pre};
@@ -29,105 +30,120 @@ fn pres(alloc: Global, text: &[u8]) -> Result<Seq<Pre>, NoMemory> {
 }
 
 /// A target, its normal prerequisites, its order-only ones, its stem.
-type Written<'a> = (&'a [u8], &'a [u8], &'a [u8], &'a [u8]);
+type Written = (&'static [u8], &'static [u8], &'static [u8], &'static [u8]);
 
-fn job(alloc: Global, written: Written) -> Result<PlanJob, NoMemory> {
-    Ok(PlanJob {
-        target: Text::from_slice(alloc, written.0)?,
-        normal: pres(alloc, written.1)?,
-        order: pres(alloc, written.2)?,
-        stem: Text::from_slice(alloc, written.3)?,
+/// A job with a target and a stem.
+fn bare_job(alloc: Global, target: Text, stem: Text) -> PlanJob {
+    PlanJob {
+        target,
+        normal: Seq::new(alloc),
+        order: Seq::new(alloc),
+        stem,
         recipe: None,
         ruled: true,
         phony: false,
         needed_by: None,
         waits: Seq::new(alloc),
-    })
+    }
 }
 
-fn set(alloc: Global, vars: &mut Vars, name: &[u8], origin: Origin) -> Result<(), NoMemory> {
-    let var = Var {
+fn named_job(alloc: Global, written: &Written) -> Result<PlanJob, NoMemory> {
+    let target = Text::from_slice(alloc, written.0)?;
+    let stem = Text::from_slice(alloc, written.3)?;
+    Ok(bare_job(alloc, target, stem))
+}
+
+fn job(alloc: Global, written: &Written) -> Result<PlanJob, NoMemory> {
+    let mut job = named_job(alloc, written)?;
+    job.normal = pres(alloc, written.1)?;
+    job.order = pres(alloc, written.2)?;
+    Ok(job)
+}
+
+fn old(alloc: Global, origin: Origin) -> Result<Var, NoMemory> {
+    Ok(Var {
         flavour: Flavour::Recursive,
         origin,
         text: Text::from_slice(alloc, b"old")?,
         exported: true,
-    };
+    })
+}
+
+fn set(alloc: Global, vars: &mut Vars, name: &[u8], origin: Origin) -> Result<(), NoMemory> {
+    let var = old(alloc, origin)?;
     vars.set(Text::from_slice(alloc, name)?, var)?;
     Ok(())
 }
 
 /// Each name with its text, as `name=text;`, in order.
-fn shown(alloc: Global, vars: &Vars) -> Result<Text, NoMemory> {
+fn shown(alloc: Global, vars: &Vars) -> Text {
     let mut text = Text::new(alloc);
     for (name, var) in vars.iter() {
-        text.add(name.as_slice())?;
-        text.add(b"=")?;
-        text.add(var.text.bytes())?;
-        text.add(b";")?;
+        put_all(&mut text, &[name.as_slice(), b"=", var.text.bytes(), b";"]);
     }
-    Ok(text)
+    text
 }
 
-/// Two variables, of which the second has the name of an automatic one, and the automatic ones.
-fn with_job(alloc: Global, written: Written, newer: &[u8]) -> Result<Text, NoMemory> {
+/// Two variables, of which the second has the name of an automatic one.
+fn variables(alloc: Global) -> Result<Vars, NoMemory> {
     let mut vars = Vars::new(alloc)?;
     set(alloc, &mut vars, b"A", Origin::File)?;
     set(alloc, &mut vars, b"^D", Origin::Override)?;
-    let newer = words(alloc, newer)?;
-    let all = with_automatic(alloc, &vars, &job(alloc, written)?, newer.items())?;
-    shown(alloc, &all)
+    Ok(vars)
 }
+
+/// The variables of a job with these newer prerequisites.
+fn with_newer(alloc: Global, job: &PlanJob, newer: &[Text]) -> Result<Text, NoMemory> {
+    let vars = variables(alloc)?;
+    let all = with_automatic(alloc, &vars, job, newer)?;
+    Ok(shown(alloc, &all))
+}
+
+/// Two variables, and the automatic ones.
+fn with_job(alloc: Global, written: &Written, newer: &[u8]) -> Result<Text, NoMemory> {
+    let job = job(alloc, written)?;
+    let newer = words(alloc, newer)?;
+    with_newer(alloc, &job, newer.items())
+}
+
+static FULL: Written = (b"d/x.o", b"a b a d/c", b"o p o", b"d/x");
 
 #[test]
 fn automatic_variables_tell_of_the_job(rt: HostRuntime) -> Result<(), Fail> {
-    let written = (
-        b"d/x.o".as_slice(),
-        b"a b a d/c".as_slice(),
-        b"o p o".as_slice(),
-        b"d/x".as_slice(),
-    );
+    let given = with_job(rt.alloc(), &FULL, b"d/c a d/c")?;
     let want = b"A=old;^D=. . d;@=d/x.o;@D=d;@F=x.o;<=a;<D=.;<F=a;^=a b d/c;^F=a b c;\
         +=a b a d/c;+D=. . . d;+F=a b a c;?=d/c a;?D=d .;?F=c a;*=d/x;*D=d;*F=x;|=o p o;";
-    assert_eq!(rt;
-        with_job(rt.alloc(), written, b"d/c a d/c")?.bytes(),
-        want.as_slice()
-    );
+    assert_eq!(rt; given.bytes(), want.as_slice());
     Ok(())
 }
+
+static EMPTY: Written = (b"/b", b"", b"", b"");
 
 #[test]
 fn what_is_not_there_is_empty(rt: HostRuntime) -> Result<(), Fail> {
-    let written = (
-        b"/b".as_slice(),
-        b"".as_slice(),
-        b"".as_slice(),
-        b"".as_slice(),
-    );
+    let given = with_job(rt.alloc(), &EMPTY, b"")?;
     let want = b"A=old;^D=;@=/b;@D=;@F=b;<=;<D=;<F=;^=;^F=;+=;+D=;+F=;?=;?D=;?F=;*=;*D=;*F=;|=;";
-    assert_eq!(rt;
-        with_job(rt.alloc(), written, b"")?.bytes(),
-        want.as_slice()
-    );
+    assert_eq!(rt; given.bytes(), want.as_slice());
     Ok(())
 }
 
-fn add_mark(text: &mut Text, there: bool, mark: &[u8]) -> Result<(), NoMemory> {
-    if there {
-        text.add(mark)?;
-    }
-    Ok(())
+/// The mark where it is there.
+fn if_there(there: bool, mark: &'static [u8]) -> &'static [u8] {
+    if there { mark } else { b"" }
+}
+
+fn show_line(to: &mut Text, marks: &Marks, line: &[u8]) {
+    put_part(to, if_there(marks.silent, b"@"));
+    put_part(to, if_there(marks.lenient, b"-"));
+    put_part(to, if_there(marks.forced, b"+"));
+    put_all(to, &[b">", line, b";"]);
 }
 
 /// The lines for the shell, each as its marks, `>`, its text and `;`.
 fn lines(alloc: Global, written: &[u8], expanded: &[u8]) -> Result<Text, NoMemory> {
     let mut text = Text::new(alloc);
     for command in commands(alloc, written, expanded)?.items() {
-        add_mark(&mut text, command.marks.silent, b"@")?;
-        add_mark(&mut text, command.marks.lenient, b"-")?;
-        add_mark(&mut text, command.marks.forced, b"+")?;
-        text.add(b">")?;
-        text.add(command.text.bytes())?;
-        text.add(b";")?;
+        show_line(&mut text, &command.marks, command.text.bytes());
     }
     Ok(text)
 }
@@ -153,7 +169,8 @@ static LINES: [(&[u8], &[u8], &[u8]); 10] = [
 #[test]
 fn a_line_becomes_lines_for_the_shell(rt: HostRuntime) -> Result<(), Fail> {
     for (written, expanded, want) in &LINES {
-        assert_eq!(rt; lines(rt.alloc(), written, expanded)?.bytes(), *want);
+        let given = lines(rt.alloc(), written, expanded)?;
+        assert_eq!(rt; given.bytes(), *want);
     }
     Ok(())
 }
@@ -165,17 +182,27 @@ fn place(alloc: Global) -> Result<Place, NoMemory> {
     })
 }
 
+/// How lines of the job `d/x` ended.
+fn put_ends(out: &mut Text, place: &Place) -> Result<(), NoMemory> {
+    put_failed(out, place, b"d/x", 2)?;
+    put_ignored(out, place, b"d/x", 255)?;
+    put_deleted(out, b"d/x")?;
+    put_spent(out, place, b"d/x")?;
+    put_spent_early(out, b"d/x")?;
+    put_halted(out, place, b"too deep")?;
+    put_refused(out, place, b"d/x", &Construct::Positional)
+}
+
+fn ends(alloc: Global) -> Result<Text, NoMemory> {
+    let place = place(alloc)?;
+    let mut out = Text::from_slice(alloc, b"before\n")?;
+    put_ends(&mut out, &place)?;
+    Ok(out)
+}
+
 #[test]
 fn it_is_said_how_a_line_ended(rt: HostRuntime) -> Result<(), Fail> {
-    let place = place(rt.alloc())?;
-    let mut out = Text::from_slice(rt.alloc(), b"before\n")?;
-    put_failed(&mut out, &place, b"d/x", 2)?;
-    put_ignored(&mut out, &place, b"d/x", 255)?;
-    put_deleted(&mut out, b"d/x")?;
-    put_spent(&mut out, &place, b"d/x")?;
-    put_spent_early(&mut out, b"d/x")?;
-    put_halted(&mut out, &place, b"too deep")?;
-    put_refused(&mut out, &place, b"d/x", &Construct::Positional)?;
+    let out = ends(rt.alloc())?;
     let want = b"before\n\
         emake: *** [Makefile:7: d/x] Error 2\n\
         emake: [Makefile:7: d/x] Error 255 (ignored)\n\
@@ -188,13 +215,22 @@ fn it_is_said_how_a_line_ended(rt: HostRuntime) -> Result<(), Fail> {
     Ok(())
 }
 
+fn put_lacks(out: &mut Text, by: &Option<Text>) -> Result<(), NoMemory> {
+    put_no_rule(out, b"x", by, false)?;
+    put_no_rule(out, b"x", by, true)?;
+    put_no_rule(out, b"y", &None, false)
+}
+
+fn lacks(alloc: Global) -> Result<Text, NoMemory> {
+    let by = Some(Text::from_slice(alloc, b"all")?);
+    let mut out = Text::new(alloc);
+    put_lacks(&mut out, &by)?;
+    Ok(out)
+}
+
 #[test]
 fn it_is_said_that_there_is_no_rule(rt: HostRuntime) -> Result<(), Fail> {
-    let by = Some(Text::from_slice(rt.alloc(), b"all")?);
-    let mut out = Text::new(rt.alloc());
-    put_no_rule(&mut out, b"x", &by, false)?;
-    put_no_rule(&mut out, b"x", &by, true)?;
-    put_no_rule(&mut out, b"y", &None, false)?;
+    let out = lacks(rt.alloc())?;
     let want = b"emake: *** No rule to make target 'x', needed by 'all'.  Stop.\n\
         emake: *** No rule to make target 'x', needed by 'all'.\n\
         emake: *** No rule to make target 'y'.  Stop.\n";
@@ -202,72 +238,103 @@ fn it_is_said_that_there_is_no_rule(rt: HostRuntime) -> Result<(), Fail> {
     Ok(())
 }
 
+/// The names of the constructs below, in order.
+static NAMES: [&[u8]; 14] = [
+    b"&",
+    b"function",
+    b"<<",
+    b"$((",
+    b"descriptor",
+    b"redirection",
+    b"depth",
+    b"eval",
+    b"emake",
+    b"eval",
+    b"ls -R",
+    b"printf %5",
+    b"printf %",
+    b"shell",
+];
+
+/// The construct of this number.
+fn construct(alloc: Global, number: usize) -> Result<Construct, NoMemory> {
+    Ok(match number {
+        0 => Construct::Background,
+        1 => Construct::Function,
+        2 => Construct::HereDocument,
+        3 => Construct::Arithmetic,
+        4 => Construct::Descriptor,
+        5 => Construct::Redirection,
+        6 => Construct::Depth,
+        7 => Construct::Eval,
+        8 => Construct::Submake,
+        9 => Construct::Command(Text::from_slice(alloc, b"eval")?),
+        10 => Construct::Letter(Text::from_slice(alloc, b"ls")?, b'R'),
+        11 => Construct::Format(Some(b'5')),
+        12 => Construct::Format(None),
+        _ => Construct::MakeName(Text::from_slice(alloc, b"shell")?),
+    })
+}
+
+/// What is said of the construct of this number.
+fn refusal(alloc: Global, number: usize) -> Result<Text, NoMemory> {
+    let construct = construct(alloc, number)?;
+    let place = place(alloc)?;
+    let mut out = Text::new(alloc);
+    put_refused(&mut out, &place, b"x", &construct)?;
+    Ok(out)
+}
+
+/// The line of a construct with this name.
+fn refused(alloc: Global, name: &[u8]) -> Text {
+    let mut line = Text::new(alloc);
+    let front = b"emake: *** [Makefile:7: x] Refused: ";
+    put_all(&mut line, &[front, name, b".  Stop.\n"]);
+    line
+}
+
+fn is_named(alloc: Global, number: usize, name: &[u8]) -> Result<bool, NoMemory> {
+    let given = refusal(alloc, number)?;
+    Ok(given.bytes() == refused(alloc, name).bytes())
+}
+
 #[test]
 fn constructs_have_names(rt: HostRuntime) -> Result<(), Fail> {
-    let place = place(rt.alloc())?;
-    let eval = Text::from_slice(rt.alloc(), b"eval")?;
-    let ls = Text::from_slice(rt.alloc(), b"ls")?;
-    let shell = Text::from_slice(rt.alloc(), b"shell")?;
-    let mut out = Text::new(rt.alloc());
-    for construct in &[
-        Construct::Background,
-        Construct::Function,
-        Construct::HereDocument,
-        Construct::Arithmetic,
-        Construct::Descriptor,
-        Construct::Redirection,
-        Construct::Depth,
-        Construct::Eval,
-        Construct::Submake,
-        Construct::Command(eval),
-        Construct::Letter(ls, b'R'),
-        Construct::Format(Some(b'5')),
-        Construct::Format(None),
-        Construct::MakeName(shell),
-    ] {
-        put_refused(&mut out, &place, b"x", construct)?;
+    for (number, name) in NAMES.iter().enumerate() {
+        assert!(rt; is_named(rt.alloc(), number, name)?, "construct {number}");
     }
-    let mut want = Text::new(rt.alloc());
-    for name in [
-        b"&".as_slice(),
-        b"function",
-        b"<<",
-        b"$((",
-        b"descriptor",
-        b"redirection",
-        b"depth",
-        b"eval",
-        b"emake",
-        b"eval",
-        b"ls -R",
-        b"printf %5",
-        b"printf %",
-        b"shell",
-    ] {
-        want.add(b"emake: *** [Makefile:7: x] Refused: ")?;
-        want.add(name)?;
-        want.add(b".  Stop.\n")?;
-    }
-    assert_eq!(rt; out.bytes(), want.bytes());
     Ok(())
+}
+
+/// The texts of the faults below, in order.
+static FAULTS: [&[u8]; 5] = [
+    b"Recursive variable 'A' references itself (eventually)",
+    b"no compiler",
+    b"bad argument of 'word'",
+    b"unterminated reference",
+    b"too deep",
+];
+
+/// The fault of this number.
+fn fault(alloc: Global, number: usize) -> Result<ExpandNo, NoMemory> {
+    Ok(match number {
+        0 => ExpandNo::SelfReference(Text::from_slice(alloc, b"A")?),
+        1 => ExpandNo::UserError(Text::from_slice(alloc, b"no compiler")?),
+        2 => ExpandNo::BadArgument(Text::from_slice(alloc, b"word")?),
+        3 => ExpandNo::Unclosed,
+        _ => ExpandNo::TooDeep,
+    })
+}
+
+fn is_said(alloc: Global, number: usize, want: &[u8]) -> Result<bool, NoMemory> {
+    let no = fault(alloc, number)?;
+    Ok(fault_text(alloc, &no)?.bytes() == want)
 }
 
 #[test]
 fn faults_have_texts(rt: HostRuntime) -> Result<(), Fail> {
-    let name = Text::from_slice(rt.alloc(), b"A")?;
-    let error = Text::from_slice(rt.alloc(), b"no compiler")?;
-    let word = Text::from_slice(rt.alloc(), b"word")?;
-    for (no, want) in &[
-        (
-            ExpandNo::SelfReference(name),
-            b"Recursive variable 'A' references itself (eventually)".as_slice(),
-        ),
-        (ExpandNo::UserError(error), b"no compiler"),
-        (ExpandNo::BadArgument(word), b"bad argument of 'word'"),
-        (ExpandNo::Unclosed, b"unterminated reference"),
-        (ExpandNo::TooDeep, b"too deep"),
-    ] {
-        assert_eq!(rt; fault_text(rt.alloc(), no)?.bytes(), *want);
+    for (number, want) in FAULTS.iter().enumerate() {
+        assert!(rt; is_said(rt.alloc(), number, want)?, "fault {number}");
     }
     Ok(())
 }

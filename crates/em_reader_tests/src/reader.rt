@@ -8,12 +8,12 @@ ghost use Rattle.em_path.specs.Reading.{read_fault};
 ghost use Rattle.em_tree.specs.declared.node.Kind.TheVariants as kind;
 ghost use Rattle.em_tree.specs.Trees.{IsTree, kind_of};
 
-use em_base::{NoMemory, Seq, Text};
+use em_base::{NoMemory, Place, Seq, Text};
 use em_cmdline::{HistoryMode, Order};
 use em_expand::ExpandNo;
 use em_path::Path;
 use em_reader::{Fault, ReadNo, RuleNo, read_makefiles};
-use em_rules::{Book, Rule};
+use em_rules::{Book, RecipeLine, Rule};
 use em_tree::{Body, Kind, Node, Outcomes, State, Tree};
 use em_wordlist::join_texts;
 use itoa::Buffer;
@@ -36,20 +36,25 @@ fn put(tree: &mut Tree, above: &Path, path: Path, node: Node) -> Result<(), NoMe
     tree.set(path, node)
 }
 
-/// Puts a file at an absent path of a directory that is there, and else does nothing.
+/// Puts a node at an absent path of a directory that is there, and else does nothing.
+fn put_new(alloc: Global, tree: &mut Tree, path: Path, node: Node) -> Result<(), NoMemory> {
+    let Ok(Some(above)) = path.parent(alloc) else {
+        return Ok(());
+    };
+    let _ = path.text();
+    if tree.kind(&above) == Kind::Dir && tree.kind(&path) == Kind::Absent {
+        return put(tree, &above, path, node);
+    }
+    Ok(())
+}
+
+/// Puts a file there.
 fn add(alloc: Global, tree: &mut Tree, path: &[u8], bytes: &[u8]) -> Result<(), Fail> {
     let Some(path) = Path::from_text(alloc, path)? else {
         return Ok(());
     };
-    let Some(above) = path.parent(alloc)? else {
-        return Ok(());
-    };
-    let _ = path.text();
     let body = Body::from_slice(alloc, bytes)?;
-    if tree.kind(&above) == Kind::Dir && tree.kind(&path) == Kind::Absent {
-        put(tree, &above, path, Node::File { body, stamp: 5 })?;
-    }
-    Ok(())
+    Ok(put_new(alloc, tree, path, Node::File { body, stamp: 5 })?)
 }
 
 /// The files beside the makefile.
@@ -68,13 +73,18 @@ const FILES: [(&[u8], &[u8]); 9] = [
     ),
 ];
 
+fn add_files(alloc: Global, tree: &mut Tree) -> Result<(), Fail> {
+    for (path, bytes) in &FILES {
+        add(alloc, tree, path, bytes)?;
+    }
+    Ok(())
+}
+
 /// A state with these files and a makefile of this name.
 fn state(alloc: Global, name: &[u8], makefile: &[u8]) -> Result<State, Fail> {
     let mut tree = Tree::new(alloc, 5)?;
     add(alloc, &mut tree, name, makefile)?;
-    for (path, bytes) in &FILES {
-        add(alloc, &mut tree, path, bytes)?;
-    }
+    add_files(alloc, &mut tree)?;
     Ok(State {
         tree,
         outcomes: Outcomes::new(alloc),
@@ -106,79 +116,130 @@ fn order(alloc: Global) -> Result<Order, NoMemory>
     })
 }
 
-/// Appends a rule.
-fn add_rule(alloc: Global, text: &mut Text, rule: &Rule) -> Result<(), NoMemory> {
-    text.add(join_texts(alloc, rule.targets.items())?.bytes())?;
-    text.add(b": ")?;
-    text.add(join_texts(alloc, rule.normal.items())?.bytes())?;
-    text.add(b"|")?;
-    text.add(join_texts(alloc, rule.order.items())?.bytes())?;
-    if let Some(lines) = &rule.recipe {
-        for line in lines.items() {
-            text.add(b"{")?;
-            text.add(line.text.bytes())?;
-            text.add(b"}")?;
-        }
-    }
-    text.add(b"\n")
+/// Appends names with a blank between two, and a text behind them.
+fn add_list(alloc: Global, text: &mut Text, names: &[Text], after: &[u8]) -> Result<(), NoMemory> {
+    let joined = join_texts(alloc, names)?;
+    text.add(joined.bytes())?;
+    text.add(after)
 }
 
-/// Appends what was read.
-fn add_book(alloc: Global, text: &mut Text, book: &Book) -> Result<(), NoMemory> {
-    for rule in book.rules.items() {
-        add_rule(alloc, text, rule)?;
-    }
-    for rule in book.patterns.items() {
-        add_rule(alloc, text, rule)?;
-    }
-    text.add(b"=")?;
-    if let Some(goal) = &book.default_goal {
-        text.add(goal.bytes())?;
-    }
-    if let Some(v) = book.vars.get(b"V") {
-        text.add(if v.exported { b"+V=" } else { b" V=" })?;
-        text.add(v.text.bytes())?;
+fn add_line(text: &mut Text, line: &RecipeLine) -> Result<(), NoMemory> {
+    text.add(b"{")?;
+    text.add(line.text.bytes())?;
+    text.add(b"}")
+}
+
+fn add_lines(text: &mut Text, lines: &[RecipeLine]) -> Result<(), NoMemory> {
+    for line in lines {
+        add_line(text, line)?;
     }
     Ok(())
 }
 
-/// The name of a fault, and what it names.
-fn fault_text(alloc: Global, fault: Fault) -> (&'static [u8], Text) {
-    let none = Text::new(alloc);
-    match fault {
-        Fault::Separator => (b"separator", none),
-        Fault::Conditional => (b"conditional", none),
-        Fault::Endless => (b"no endif", none),
-        Fault::Include(name) => (b"include ", name),
-        Fault::Expand(ExpandNo::SelfReference(name)) => (b"self ", name),
-        Fault::Expand(ExpandNo::UserError(text)) => (b"error ", text),
-        Fault::Expand(ExpandNo::BadArgument(name)) => (b"argument ", name),
-        Fault::Expand(ExpandNo::Unclosed) => (b"unclosed", none),
-        Fault::Expand(ExpandNo::TooDeep) => (b"too deep", none),
-        Fault::Expand(_) => (b"expand", none),
-        Fault::Define => (b"define", none),
-        Fault::Refused(name) => (b"refused ", name),
-        Fault::Spent => (b"spent", none),
-        Fault::Limit => (b"limit", none),
-        Fault::Rule(RuleNo::Recipe) => (b"recipe", none),
-        Fault::Rule(RuleNo::Static(name)) => (b"static ", name),
+fn add_recipe(text: &mut Text, rule: &Rule) -> Result<(), NoMemory> {
+    if let Some(lines) = &rule.recipe {
+        add_lines(text, lines.items())?;
+    }
+    text.add(b"\n")
+}
+
+/// Appends a rule.
+fn add_rule(alloc: Global, text: &mut Text, rule: &Rule) -> Result<(), NoMemory> {
+    add_list(alloc, text, rule.targets.items(), b": ")?;
+    add_list(alloc, text, rule.normal.items(), b"|")?;
+    add_list(alloc, text, rule.order.items(), b"")?;
+    add_recipe(text, rule)
+}
+
+fn add_rules(alloc: Global, text: &mut Text, rules: &[Rule]) -> Result<(), NoMemory> {
+    for rule in rules {
+        add_rule(alloc, text, rule)?;
+    }
+    Ok(())
+}
+
+fn add_goal(text: &mut Text, book: &Book) -> Result<(), NoMemory> {
+    text.add(b"=")?;
+    match &book.default_goal {
+        Some(goal) => text.add(goal.bytes()),
+        None => Ok(()),
     }
 }
 
-/// Appends a fault with its place.
-fn add_fault(alloc: Global, text: &mut Text, no: ReadNo) -> Result<(), NoMemory> {
-    let ReadNo::At(place, fault) = no else {
-        return Err(NoMemory);
+fn add_variable(text: &mut Text, book: &Book) -> Result<(), NoMemory> {
+    let Some(v) = book.vars.get(b"V") else {
+        return Ok(());
     };
+    text.add(if v.exported { b"+V=" } else { b" V=" })?;
+    text.add(v.text.bytes())
+}
+
+/// Appends what was read.
+fn add_book(alloc: Global, text: &mut Text, book: &Book) -> Result<(), NoMemory> {
+    add_rules(alloc, text, book.rules.items())?;
+    add_rules(alloc, text, book.patterns.items())?;
+    add_goal(text, book)?;
+    add_variable(text, book)
+}
+
+/// The name of a fault of an expansion, and what it names.
+fn expand_text(no: &ExpandNo) -> (&'static [u8], &[u8]) {
+    match no {
+        ExpandNo::SelfReference(name) => (b"self ", name.bytes()),
+        ExpandNo::UserError(text) => (b"error ", text.bytes()),
+        ExpandNo::BadArgument(name) => (b"argument ", name.bytes()),
+        ExpandNo::Unclosed => (b"unclosed", b""),
+        ExpandNo::TooDeep => (b"too deep", b""),
+        _ => (b"expand", b""),
+    }
+}
+
+/// The name of a fault, and what it names.
+fn fault_text(fault: &Fault) -> (&'static [u8], &[u8]) {
+    match fault {
+        Fault::Separator => (b"separator", b""),
+        Fault::Conditional => (b"conditional", b""),
+        Fault::Endless => (b"no endif", b""),
+        Fault::Include(name) => (b"include ", name.bytes()),
+        Fault::Expand(no) => expand_text(no),
+        Fault::Define => (b"define", b""),
+        Fault::Refused(name) => (b"refused ", name.bytes()),
+        Fault::Spent => (b"spent", b""),
+        Fault::Limit => (b"limit", b""),
+        Fault::Rule(RuleNo::Recipe) => (b"recipe", b""),
+        Fault::Rule(RuleNo::Static(name)) => (b"static ", name.bytes()),
+    }
+}
+
+/// Appends a place.
+fn add_place(text: &mut Text, place: &Place) -> Result<(), NoMemory> {
     let mut buffer = Buffer::new();
-    let (name, detail) = fault_text(alloc, fault);
     text.add(b"*** ")?;
     text.add(place.file.bytes())?;
     text.add(b":")?;
     text.add(buffer.format(place.line).as_bytes())?;
-    text.add(b": ")?;
+    text.add(b": ")
+}
+
+/// Appends a fault with its place.
+fn add_fault(text: &mut Text, no: &ReadNo) -> Result<(), NoMemory> {
+    let ReadNo::At(place, fault) = no else {
+        return Err(NoMemory);
+    };
+    add_place(text, place)?;
+    let (name, detail) = fault_text(fault);
     text.add(name)?;
-    text.add(detail.bytes())
+    text.add(detail)
+}
+
+/// Appends what the order reads in the state.
+fn add_read(alloc: Global, text: &mut Text, state: &State, order: &Order) -> Result<(), NoMemory>
+    requires { read_fault root_text order.now.dir ≡ None }
+{
+    match read_makefiles(alloc, state, order, text) {
+        Ok(book) => add_book(alloc, text, &book),
+        Err(no) => add_fault(text, &no),
+    }
 }
 
 /// What the order reads in the state, as a text.
@@ -186,11 +247,23 @@ fn shown(alloc: Global, state: &State, order: &Order) -> Result<Text, NoMemory>
     requires { read_fault root_text order.now.dir ≡ None }
 {
     let mut said = Text::new(alloc);
-    match read_makefiles(alloc, state, order, &mut said) {
-        Ok(book) => add_book(alloc, &mut said, &book)?,
-        Err(no) => add_fault(alloc, &mut said, no)?,
-    }
+    add_read(alloc, &mut said, state, order)?;
     Ok(said)
+}
+
+/// Whether this is what the order reads, where a makefile of this name stands.
+fn is_read(
+    alloc: Global,
+    order: &Order,
+    makefile: (&[u8], &[u8]),
+    wanted: &[u8],
+) -> Result<bool, Fail>
+    requires { read_fault root_text order.now.dir ≡ None }
+{
+    let (name, text) = makefile;
+    let state = state(alloc, name, text)?;
+    let text = shown(alloc, &state, order)?;
+    Ok(text.bytes() == wanted)
 }
 
 /// A makefile, and what is read of it.
@@ -200,9 +273,7 @@ type Row = (&'static [u8], &'static [u8]);
 fn compare(alloc: Global, rows: &[Row]) -> Result<(), Fail> {
     let order = order(alloc)?;
     for (makefile, wanted) in rows {
-        let state = state(alloc, b"/Makefile", makefile)?;
-        let text = shown(alloc, &state, &order)?;
-        if text.bytes() != *wanted {
+        if !is_read(alloc, &order, (b"/Makefile", makefile), wanted)? {
             return Err(Fail::from("another text"));
         }
     }

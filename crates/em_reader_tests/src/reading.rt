@@ -1,9 +1,11 @@
-use em_base::{Place, Text};
+use em_base::{NoMemory, Place, Text};
 use em_lines::{Line, joined};
 use em_path::Path;
 use em_reading::{Body, Expanded, Heard, ReadNo, Reading, start, start_vars, whole};
 use em_rules::Rule;
-use em_statement::{Assignment, Modifiers, Operator, Statement, read_head, read_statement};
+use em_statement::{
+    Assignment, Condition, Head, Modifiers, Operator, Statement, read_head, read_statement,
+};
 use em_vars::{Flavour, Origin, Var, Vars};
 use std::alloc::Global;
 use std::test::Fail;
@@ -13,24 +15,24 @@ fn nothing_read(alloc: Global) -> Result<Reading, Fail> {
     Ok(start(alloc, Path::root(), vars, Text::new(alloc))?)
 }
 
-fn place(alloc: Global) -> Result<Place, Fail> {
-    Ok(Place {
-        file: Text::from_slice(alloc, b"Makefile")?,
-        line: 1,
+fn place(alloc: Global) -> Result<Place, NoMemory> {
+    let file = Text::from_slice(alloc, b"Makefile")?;
+    Ok(Place { file, line: 1 })
+}
+
+fn expanded(alloc: Global, text: &Text) -> Result<Expanded, NoMemory> {
+    let text = text.copy(alloc)?;
+    Ok(Expanded {
+        text,
+        refused: None,
     })
 }
 
-fn heard(alloc: Global, first: &[u8], second: &[u8]) -> Result<Heard, Fail> {
-    Ok(Heard {
-        first: Expanded {
-            text: Text::from_slice(alloc, first)?,
-            refused: None,
-        },
-        second: Expanded {
-            text: Text::from_slice(alloc, second)?,
-            refused: None,
-        },
-    })
+/// Two texts in which nothing is expanded.
+fn heard(alloc: Global, first: &Text, second: &Text) -> Result<Heard, NoMemory> {
+    let first = expanded(alloc, first)?;
+    let second = expanded(alloc, second)?;
+    Ok(Heard { first, second })
 }
 
 /// A simple variable `X` of this origin that is there before; the operator, and whether `override` stands before it; the origin and the
@@ -131,83 +133,110 @@ const ASSIGNMENTS: [Row; 14] = [
     ),
 ];
 
-fn before(alloc: Global, old: Option<(Origin, &[u8])>) -> Result<Reading, Fail> {
-    let mut reading = nothing_read(alloc)?;
-    let Some((origin, text)) = old else {
-        return Ok(reading);
-    };
-    let v = Var {
+fn simple(alloc: Global, origin: Origin, text: &[u8]) -> Result<Var, NoMemory> {
+    let text = Text::from_slice(alloc, text)?;
+    Ok(Var {
         flavour: Flavour::Simple,
         origin,
-        text: Text::from_slice(alloc, text)?,
+        text,
         exported: false,
-    };
-    reading.book.vars.set(Text::from_slice(alloc, b"X")?, v)?;
+    })
+}
+
+/// Sets `X`.
+fn set_x(alloc: Global, vars: &mut Vars, v: Var) -> Result<(), Fail> {
+    let name = Text::from_slice(alloc, b"X")?;
+    vars.set(name, v)?;
+    Ok(())
+}
+
+fn before(alloc: Global, old: Option<(Origin, &[u8])>) -> Result<Reading, Fail> {
+    let mut reading = nothing_read(alloc)?;
+    if let Some((origin, text)) = old {
+        let v = simple(alloc, origin, text)?;
+        set_x(alloc, &mut reading.book.vars, v)?;
+    }
     Ok(reading)
 }
 
-fn assignment(alloc: Global, operator: Operator, overriding: bool) -> Result<Assignment, Fail> {
+fn assignment(alloc: Global, operator: Operator, overriding: bool) -> Result<Assignment, NoMemory> {
+    let name = Text::from_slice(alloc, b"X")?;
+    let value = Text::from_slice(alloc, b"b")?;
     Ok(Assignment {
         modifiers: Modifiers {
             overriding,
             exported: false,
         },
-        name: Text::from_slice(alloc, b"X")?,
+        name,
         operator,
-        value: Text::from_slice(alloc, b"b")?,
+        value,
     })
+}
+
+/// Whether the row's assignment is made.
+fn is_made(alloc: Global, reading: &mut Reading, row: &Row) -> Result<bool, NoMemory> {
+    let place = place(alloc)?;
+    let a = assignment(alloc, row.1, row.2)?;
+    Ok(assign(alloc, reading, &place, &a).is_ok())
+}
+
+/// Whether `X` is now as the row says.
+fn is_assigned(reading: &Reading, row: &Row) -> bool {
+    let (_, _, _, origin, text, simple) = row;
+    match reading.book.vars.get(b"X") {
+        Some(v) => {
+            v.origin == *origin
+                && v.text.bytes() == *text
+                && (v.flavour == Flavour::Simple) == *simple
+        }
+        None => false,
+    }
 }
 
 #[test]
 fn an_assignment_goes_by_operator_and_origin(rt: HostRuntime) -> Result<(), Fail> {
-    let alloc = rt.alloc();
-    let place = place(alloc)?;
-    let heard = heard(alloc, b"X", b"b")?;
-    for (old, operator, overriding, origin, text, simple) in ASSIGNMENTS {
-        let mut reading = before(alloc, old)?;
-        let a = assignment(alloc, operator, overriding)?;
-        let done = reading.assign(alloc, &place, &a, &heard).is_ok();
-        let right = reading.book.vars.get(b"X").is_some_and(|v| {
-            v.origin == origin && v.text.bytes() == text && (v.flavour == Flavour::Simple) == simple
-        });
-        assert!(rt; done && right);
+    for row in &ASSIGNMENTS {
+        let mut reading = before(rt.alloc(), row.0)?;
+        assert!(rt; is_made(rt.alloc(), &mut reading, row)?);
+        assert!(rt; is_assigned(&reading, row));
     }
     Ok(())
+}
+
+/// The end of a `define`.
+fn end_define(alloc: Global, reading: &mut Reading, body: Body) -> Result<(), ReadNo> {
+    let Body {
+        place,
+        assignment,
+        nested: _,
+        text,
+    } = body;
+    let whole = whole(alloc, assignment, text);
+    assign(alloc, reading, &place, &whole)
+}
+
+/// A line of a `define`.
+fn read_body(alloc: Global, reading: &mut Reading, body: Body, line: &Line) -> Result<(), ReadNo> {
+    if body.ends(alloc, line)? {
+        return end_define(alloc, reading, body);
+    }
+    reading.body_line(alloc, body, line)
+}
+
+fn read_line(alloc: Global, reading: &mut Reading, line: &Line) -> Result<(), ReadNo> {
+    let statement = read_statement(alloc, line.text.bytes())?;
+    act(alloc, reading, &line.place, &statement)
 }
 
 /// A line in which nothing is expanded.
 fn read(alloc: Global, reading: &mut Reading, line: &Line) -> Result<(), ReadNo> {
     if let Some(body) = reading.take_define() {
-        if !body.ends(alloc, line)? {
-            return reading.body_line(alloc, body, line);
-        }
-        let Body {
-            place,
-            assignment,
-            nested: _,
-            text,
-        } = body;
-        let whole = whole(alloc, assignment, text);
-        return assign(alloc, reading, &place, &whole);
+        return read_body(alloc, reading, body, line);
     }
     if line.tab {
         return reading.recipe(alloc, line);
     }
-    let statement = read_statement(alloc, line.text.bytes())?;
-    act(alloc, reading, &line.place, &statement)
-}
-
-fn unexpanded(alloc: Global, first: &Text, second: &Text) -> Result<Heard, ReadNo> {
-    Ok(Heard {
-        first: Expanded {
-            text: first.copy(alloc)?,
-            refused: None,
-        },
-        second: Expanded {
-            text: second.copy(alloc)?,
-            refused: None,
-        },
-    })
+    read_line(alloc, reading, line)
 }
 
 fn assign(
@@ -216,58 +245,98 @@ fn assign(
     place: &Place,
     a: &Assignment,
 ) -> Result<(), ReadNo> {
-    let heard = unexpanded(alloc, &a.name, &a.value)?;
+    let heard = heard(alloc, &a.name, &a.value)?;
     reading.assign(alloc, place, a, &heard)
 }
 
+fn assign_line(
+    alloc: Global,
+    reading: &mut Reading,
+    place: &Place,
+    a: &Assignment,
+) -> Result<(), ReadNo> {
+    if !reading.is_read() {
+        return Ok(());
+    }
+    reading.close_rule(alloc)?;
+    assign(alloc, reading, place, a)
+}
+
+/// What a condition hears that asks for `X`.
+fn asked(alloc: Global) -> Result<Heard, NoMemory> {
+    let x = Text::from_slice(alloc, b"X")?;
+    heard(alloc, &x, &Text::new(alloc))
+}
+
+fn if_line(
+    alloc: Global,
+    reading: &mut Reading,
+    place: &Place,
+    c: &Condition,
+) -> Result<(), ReadNo> {
+    let heard = asked(alloc)?;
+    reading.if_heard(alloc, place, c, &heard)
+}
+
 fn act(alloc: Global, reading: &mut Reading, place: &Place, s: &Statement) -> Result<(), ReadNo> {
-    let none = Text::new(alloc);
     match s {
-        Statement::Blank => Ok(()),
-        Statement::If(c) => {
-            let heard = unexpanded(alloc, &Text::from_slice(alloc, b"X")?, &none)?;
-            reading.if_heard(alloc, place, c, &heard)
-        }
+        Statement::If(c) => if_line(alloc, reading, place, c),
         Statement::Else => reading.other(alloc, place, None),
         Statement::Endif => reading.leave(alloc, place),
         Statement::Define(a) => reading.define_line(alloc, place, a),
         Statement::Rule(line) => rule(alloc, reading, place, line.head.bytes()),
-        Statement::Assign(a) => {
-            if !reading.is_read() {
-                return Ok(());
-            }
-            reading.close_rule(alloc)?;
-            assign(alloc, reading, place, a)
-        }
+        Statement::Assign(a) => assign_line(alloc, reading, place, a),
         _ => Ok(()),
     }
 }
 
-fn rule(alloc: Global, reading: &mut Reading, place: &Place, text: &[u8]) -> Result<(), ReadNo> {
-    reading.close_rule(alloc)?;
-    let Some(head) = read_head(alloc, text)? else {
-        return Ok(());
-    };
-    let rule = Rule {
+fn rule_of(head: Head, place: Place) -> Rule {
+    Rule {
         targets: head.targets,
         pattern: false,
         form: head.form,
         normal: head.normal,
         order: head.order,
         recipe: None,
-        place: place.copy(alloc)?,
-    };
-    reading.begin_rule(alloc, rule)
+        place,
+    }
+}
+
+fn begin_rule(
+    alloc: Global,
+    reading: &mut Reading,
+    place: &Place,
+    head: Head,
+) -> Result<(), ReadNo> {
+    let place = place.copy(alloc)?;
+    reading.begin_rule(alloc, rule_of(head, place))
+}
+
+fn rule(alloc: Global, reading: &mut Reading, place: &Place, text: &[u8]) -> Result<(), ReadNo> {
+    reading.close_rule(alloc)?;
+    match read_head(alloc, text)? {
+        Some(head) => begin_rule(alloc, reading, place, head),
+        None => Ok(()),
+    }
+}
+
+fn read_lines(alloc: Global, reading: &mut Reading, lines: &[Line]) -> Result<(), ReadNo> {
+    for line in lines {
+        read(alloc, reading, line)?;
+    }
+    Ok(())
+}
+
+fn read_text(alloc: Global, reading: &mut Reading, text: &[u8]) -> Result<(), ReadNo> {
+    let file = Text::from_slice(alloc, b"Makefile")?;
+    let lines = joined(alloc, &file, text)?;
+    read_lines(alloc, reading, lines.lines.items())?;
+    reading.end_text(alloc, &lines.too_long)
 }
 
 /// All lines of a text, and the end.
 fn read_all(alloc: Global, reading: &mut Reading, text: &[u8]) -> Result<(), ReadNo> {
-    let file = Text::from_slice(alloc, b"Makefile")?;
-    let lines = joined(alloc, &file, text)?;
-    for line in lines.lines.items() {
-        read(alloc, reading, line)?;
-    }
-    reading.end_text(alloc, &lines.too_long)?;
+    read_text(alloc, reading, text)?;
     reading.close_rule(alloc)?;
     reading.end_conditionals(alloc)?;
     reading.set_goal(alloc, b"")
@@ -358,36 +427,60 @@ fn is_text(text: Option<&Text>, bytes: &[u8]) -> bool {
     }
 }
 
+/// Whether what was read is as the row says.
+fn is_row(reading: &Reading, row: &Made) -> bool {
+    let (_, rules, x, said, goal, _) = row;
+    reading.book.rules.len() == *rules
+        && is_var(&reading.book.vars, b"X", x)
+        && reading.spoken.said.bytes() == *said
+        && is_text(reading.book.default_goal.as_ref(), goal)
+}
+
+/// Whether a variable has a text; or is not there, where the text is empty.
+fn is_var(vars: &Vars, name: &[u8], text: &[u8]) -> bool {
+    match vars.get(name) {
+        Some(v) => v.text.bytes() == text,
+        None => text.is_empty(),
+    }
+}
+
 #[test]
 fn makefiles_without_references(rt: HostRuntime) -> Result<(), Fail> {
-    let alloc = rt.alloc();
-    for (text, rules, x, said, goal, fault) in MAKEFILES {
-        let mut reading = nothing_read(alloc)?;
-        let result = read_all(alloc, &mut reading, text);
-        assert!(rt; line_of(&result) == fault);
-        assert!(rt; reading.book.rules.len() == rules);
-        assert!(rt; is_text(reading.book.vars.get(b"X").map(|v| &v.text), x));
-        assert!(rt; reading.spoken.said.bytes() == said);
-        assert!(rt; is_text(reading.book.default_goal.as_ref(), goal));
+    for row in &MAKEFILES {
+        let mut reading = nothing_read(rt.alloc())?;
+        let result = read_all(rt.alloc(), &mut reading, row.0);
+        assert!(rt; line_of(&result) == row.5);
+        assert!(rt; is_row(&reading, row));
     }
     Ok(())
 }
 
+fn goals(alloc: Global) -> Result<[Text; 2], NoMemory> {
+    let first = Text::from_slice(alloc, b"a")?;
+    let second = Text::from_slice(alloc, b"b")?;
+    Ok([first, second])
+}
+
+fn assigned(alloc: Global) -> Result<[(Text, Text); 1], NoMemory> {
+    let name = Text::from_slice(alloc, b"MAKE")?;
+    let text = Text::from_slice(alloc, b"x")?;
+    Ok([(name, text)])
+}
+
+/// The variables at the start, with those goals and that variable of the command line.
+fn vars_at_start(alloc: Global) -> Result<Vars, Fail> {
+    let goals = goals(alloc)?;
+    let assigned = assigned(alloc)?;
+    let none = Vars::new(alloc)?;
+    Ok(start_vars(alloc, &goals, &assigned, &Path::root(), &none)?)
+}
+
 #[test]
 fn the_variables_at_the_start(rt: HostRuntime) -> Result<(), Fail> {
-    let alloc = rt.alloc();
-    let goals = [
-        Text::from_slice(alloc, b"a")?,
-        Text::from_slice(alloc, b"b")?,
-    ];
-    let assigned = [(
-        Text::from_slice(alloc, b"MAKE")?,
-        Text::from_slice(alloc, b"x")?,
-    )];
-    let vars = start_vars(alloc, &goals, &assigned, &Path::root(), &Vars::new(alloc)?)?;
-    assert!(rt; is_text(vars.get(b"MAKE").map(|v| &v.text), b"x"));
-    assert!(rt; is_text(vars.get(b"CURDIR").map(|v| &v.text), b"/"));
-    assert!(rt; is_text(vars.get(b"MAKECMDGOALS").map(|v| &v.text), b"a b"));
+    let vars = vars_at_start(rt.alloc())?;
+    assert!(rt; is_var(&vars, b"MAKE", b"x"));
+    assert!(rt; is_var(&vars, b"CURDIR", b"/"));
+    assert!(rt; is_var(&vars, b"MAKECMDGOALS", b"a b"));
     assert!(rt; vars.len() == 3);
     Ok(())
 }

@@ -5,48 +5,36 @@ ghost use Rattle.em_path.specs.Paths.{IsPath, parent_text};
 ghost use Rattle.em_tree.specs.declared.node.Kind.TheVariants as kind;
 ghost use Rattle.em_tree.specs.Trees.{IsTree, kind_of};
 
-use em_base::{NoMemory, Place, Seq, Text};
-use em_implicit::{Found, find, prerequisites_of, rule_match};
+use crate::written::rule as bare_rule;
+use em_base::{NoMemory, Seq, Text};
+use em_implicit::{Found, Prerequisites, find, prerequisites_of, rule_match};
 use em_path::Path;
-use em_rules::{Book, RecipeLine, Rule};
+use em_rules::{Book, BookNo, Rule};
 use em_tree::{Body, Kind, Node, Tree};
 use em_wordlist::{join, join_texts, texts};
 use std::alloc::Global;
 use std::process::Abort;
 use std::test::Fail;
 
-fn names(alloc: Global, line: &[u8]) -> Result<Seq<Text>, Fail> {
-    let mut names = Seq::new(alloc);
-    for name in &texts(alloc, line)? {
-        names.push(Text::from_slice(alloc, name)?)?;
-    }
-    Ok(names)
-}
-
 /// Targets, normal and order-only prerequisites of a rule; it is a pattern rule where a target has a `%`.
 type Row = [&'static [u8]; 3];
 
-fn rule(alloc: Global, row: &Row) -> Result<Rule, Fail> {
-    let [targets, normal, order] = row;
-    let recipe: Seq<RecipeLine> = Seq::new(alloc);
-    Ok(Rule {
-        targets: names(alloc, targets)?,
-        pattern: targets.contains(&b'%'),
-        form: None,
-        normal: names(alloc, normal)?,
-        order: names(alloc, order)?,
-        recipe: Some(recipe),
-        place: Place {
-            file: Text::new(alloc),
-            line: 1,
-        },
-    })
+/// A rule with an empty recipe.
+fn rule(alloc: Global, row: &Row) -> Result<Rule, NoMemory> {
+    let mut rule = bare_rule(alloc, *row)?;
+    rule.recipe = Some(Seq::new(alloc));
+    Ok(rule)
 }
 
-fn book(alloc: Global, rows: &[Row]) -> Result<Book, Fail> {
+fn add_rule(alloc: Global, book: &mut Book, row: &Row) -> Result<(), BookNo> {
+    let rule = rule(alloc, row)?;
+    book.add(rule)
+}
+
+fn book(alloc: Global, rows: &[Row]) -> Result<Book, BookNo> {
     let mut book = Book::new(alloc)?;
     for row in rows {
-        book.add(rule(alloc, row)?)?;
+        add_rule(alloc, &mut book, row)?;
     }
     Ok(book)
 }
@@ -64,63 +52,71 @@ fn put(tree: &mut Tree, above: &Path, path: Path, node: Node) -> Result<(), NoMe
 }
 
 /// Puts a node at an absent path of a directory that is there, and else does nothing.
-fn add(alloc: Global, tree: &mut Tree, text: &[u8], node: Node) -> Result<(), Fail> {
-    let Some(path) = Path::from_text(alloc, text)? else {
-        return Ok(());
-    };
-    let Some(above) = path.parent(alloc)? else {
+fn put_new(alloc: Global, tree: &mut Tree, path: Path, node: Node) -> Result<(), NoMemory> {
+    let Ok(Some(above)) = path.parent(alloc) else {
         return Ok(());
     };
     let _ = path.text();
     if tree.kind(&above) == Kind::Dir && tree.kind(&path) == Kind::Absent {
-        put(tree, &above, path, node)?;
+        return put(tree, &above, path, node);
     }
     Ok(())
 }
 
-/// The tree of these nodes, `d/a` a directory and `f/a/x` an empty file.
+/// The path of a text that is one.
+fn path(alloc: Global, text: &[u8]) -> Result<Path, Fail> {
+    match Path::from_text(alloc, text)? {
+        Some(path) => Ok(path),
+        None => Err(Fail::from("no path")),
+    }
+}
+
+fn add(alloc: Global, tree: &mut Tree, text: &[u8], node: Node) -> Result<(), Fail> {
+    let path = path(alloc, text)?;
+    Ok(put_new(alloc, tree, path, node)?)
+}
+
+/// Adds a node: `d/a` is a directory and `f/a/x` an empty file.
+fn add_written(alloc: Global, tree: &mut Tree, node: &[u8]) -> Result<(), Fail> {
+    match node {
+        [b'd', path @ ..] => add(alloc, tree, path, Node::Dir { stamp: 1 }),
+        [b'f', path @ ..] => {
+            let body = Body::from_slice(alloc, b"")?;
+            add(alloc, tree, path, Node::File { body, stamp: 1 })
+        }
+        _ => Ok(()),
+    }
+}
+
+/// The tree of these nodes.
 fn tree(alloc: Global, nodes: &[u8]) -> Result<Tree, Fail> {
     let mut tree = Tree::new(alloc, 1)?;
     for node in &texts(alloc, nodes)? {
-        match node {
-            [b'd', path @ ..] => add(alloc, &mut tree, path, Node::Dir { stamp: 1 })?,
-            [b'f', path @ ..] => {
-                let body = Body::from_slice(alloc, b"")?;
-                add(alloc, &mut tree, path, Node::File { body, stamp: 1 })?;
-            }
-            _ => {}
-        }
+        add_written(alloc, &mut tree, node)?;
     }
     Ok(tree)
 }
 
-/// The stem and the prerequisites that the rule makes, as `x normal | order`.
-fn made(alloc: Global, rule: &Rule, target: &[u8], stem: &[u8]) -> Result<Text, Fail> {
-    let needed = prerequisites_of(alloc, rule, target)?;
+/// A stem and prerequisites, as `x normal | order`.
+fn made(alloc: Global, stem: &[u8], needed: &Prerequisites) -> Result<Text, NoMemory> {
     let normal = join_texts(alloc, needed.normal.items())?;
     let order = join_texts(alloc, needed.order.items())?;
-    Ok(join(alloc, &[stem, normal.bytes(), b"|", order.bytes()])?)
+    join(alloc, &[stem, normal.bytes(), b"|", order.bytes()])
 }
 
-/// The same of the rule that was found; empty where there is none.
-fn shown(alloc: Global, book: &Book, target: &[u8], found: &Option<Found>) -> Result<Text, Fail> {
-    let Some(found) = found else {
+/// The stem and the prerequisites that the rule makes, if it was found; else empty.
+fn shown(alloc: Global, book: &Book, target: &[u8], found: &Found) -> Result<Text, NoMemory> {
+    let Some(rule) = book.patterns.get(found.rule) else {
         return Ok(Text::new(alloc));
     };
-    let rule = book.patterns.get(found.rule).ok_or("no rule")?;
-    made(alloc, rule, target, found.stem.bytes())
+    let needed = prerequisites_of(alloc, rule, target)?;
+    made(alloc, found.stem.bytes(), &needed)
 }
 
-fn found_in(
-    alloc: Global,
-    book: &Book,
-    nodes: &[u8],
-    cwd: &[u8],
-    target: &[u8],
-) -> Result<Option<Found>, Fail> {
-    let tree = tree(alloc, nodes)?;
-    let cwd = Path::from_text(alloc, cwd)?.ok_or("no path")?;
-    Ok(find(alloc, book, target, &tree, &cwd)?)
+fn found_in(alloc: Global, book: &Book, case: &Case) -> Result<Option<Found>, Fail> {
+    let tree = tree(alloc, case.0)?;
+    let cwd = path(alloc, case.1)?;
+    Ok(find(alloc, book, case.2, &tree, &cwd)?)
 }
 
 /// Nodes, working directory, target; the rule that is found, and its stem and prerequisites.
@@ -132,13 +128,30 @@ type Case = (
     &'static [u8],
 );
 
+/// Whether what was found is what the case says.
+fn is_wanted(
+    alloc: Global,
+    book: &Book,
+    found: &Option<Found>,
+    case: &Case,
+) -> Result<bool, NoMemory> {
+    let (_, _, target, rule, want) = case;
+    match (found, rule) {
+        (Some(found), Some(rule)) => {
+            let text = shown(alloc, book, target, found)?;
+            Ok(found.rule == *rule && text.bytes() == *want)
+        }
+        (None, None) => Ok(want.is_empty()),
+        _ => Ok(false),
+    }
+}
+
 /// That over these rules each case's rule is found.
 fn are_found(rt: &impl Abort, alloc: Global, rows: &[Row], cases: &[Case]) -> Result<(), Fail> {
     let book = book(alloc, rows)?;
-    for (nodes, cwd, target, rule, want) in cases {
-        let found = found_in(alloc, &book, nodes, cwd, target)?;
-        assert_eq!(rt; found.as_ref().map(|f| f.rule), *rule);
-        assert_eq!(rt; shown(alloc, &book, target, &found)?.bytes(), *want);
+    for case in cases {
+        let found = found_in(alloc, &book, case)?;
+        assert!(rt; is_wanted(alloc, &book, &found, case)?);
     }
     Ok(())
 }
@@ -227,14 +240,26 @@ fn what_is_mentioned_need_not_exist(rt: HostRuntime) -> Result<(), Fail> {
     )
 }
 
+/// The rule of the tests of one rule.
+fn other_rule(alloc: Global) -> Result<Rule, NoMemory> {
+    rule(alloc, &[b"%.o", b"%.c", b"x"])
+}
+
 #[test]
 fn a_rule_makes_nothing_for_another_target(rt: HostRuntime) -> Result<(), Fail> {
-    let rule = rule(rt.alloc(), &[b"%.o", b"%.c", b"x"])?;
+    let rule = other_rule(rt.alloc())?;
     let needed = prerequisites_of(rt.alloc(), &rule, b"a.x")?;
-    assert!(rt; needed.normal.is_empty());
-    assert!(rt; needed.order.is_empty());
+    assert!(rt; needed.normal.is_empty() && needed.order.is_empty());
+    Ok(())
+}
+
+#[test]
+fn a_rule_matches_its_targets(rt: HostRuntime) -> Result<(), Fail> {
+    let rule = other_rule(rt.alloc())?;
     assert!(rt; rule_match(&rule, b"a.x").is_none());
-    let found = rule_match(&rule, b"d/e/a.o").ok_or("no match")?;
+    let Some(found) = rule_match(&rule, b"d/e/a.o") else {
+        return Err(Fail::from("no match"));
+    };
     assert_eq!(rt; found.dir, b"d/e/".as_slice());
     assert_eq!(rt; found.stem, b"a".as_slice());
     Ok(())

@@ -9,3 +9,5 @@ mod plan;
 mod rules;
 #[cfg(test)]
 mod statement;
+#[cfg(test)]
+mod written;

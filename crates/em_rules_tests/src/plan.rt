@@ -1,302 +1,319 @@
-use em_base::{Place, Seq, Text};
+use crate::written::{add_name, names, recipe, rule as bare_rule};
+use em_base::{NoMemory, Text};
 use em_path::Path;
 use em_plan::{Plan, PlanJob, PlanNo, Pre, plan};
-use em_rules::{Book, RecipeLine, Rule};
+use em_rules::{Book, BookNo, Rule};
 use em_tree::Tree;
 use std::alloc::Global;
+use std::process::Abort;
 use std::test::Fail;
 
-fn words(alloc: Global, text: &[u8]) -> Result<Seq<Text>, Fail> {
-    let mut all = Seq::new(alloc);
-    for word in text.split(|b| *b == b' ') {
-        if !word.is_empty() {
-            all.push(Text::from_slice(alloc, word)?)?;
-        }
-    }
-    Ok(all)
-}
-
-fn place(alloc: Global) -> Place {
-    Place {
-        file: Text::new(alloc),
-        line: 1,
-    }
-}
-
-fn recipe(alloc: Global, text: &[u8]) -> Result<Seq<RecipeLine>, Fail> {
-    let mut lines = Seq::new(alloc);
-    lines.push(RecipeLine {
-        place: place(alloc),
-        text: Text::from_slice(alloc, text)?,
-    })?;
-    Ok(lines)
-}
-
-/// A rule written as `targets|normal|order-only`, and a further `|` where it has a recipe: one line, the normal prerequisites' text.
-fn rule(alloc: Global, written: &[u8]) -> Result<Rule, Fail> {
+/// The lists of a rule that is written as `targets|normal|order-only`, and whether there is a further `|`.
+fn fields(written: &[u8]) -> ([&[u8]; 3], bool) {
     let mut fields = written.split(|b| *b == b'|');
     let targets = fields.next().unwrap_or(b"");
     let normal = fields.next().unwrap_or(b"");
     let order = fields.next().unwrap_or(b"");
-    let recipe = match fields.next() {
-        Some(_) => Some(recipe(alloc, normal)?),
-        None => None,
-    };
-    Ok(Rule {
-        targets: words(alloc, targets)?,
-        pattern: targets.contains(&b'%'),
-        form: None,
-        normal: words(alloc, normal)?,
-        order: words(alloc, order)?,
-        recipe,
-        place: place(alloc),
-    })
+    ([targets, normal, order], fields.next().is_some())
+}
+
+/// A written rule; with the further `|` it has a recipe: one line, the normal prerequisites' text.
+fn rule(alloc: Global, written: &[u8]) -> Result<Rule, NoMemory> {
+    let (lists, has_recipe) = fields(written);
+    let mut rule = bare_rule(alloc, lists)?;
+    if has_recipe {
+        rule.recipe = Some(recipe(alloc, lists[1])?);
+    }
+    Ok(rule)
+}
+
+fn add(alloc: Global, book: &mut Book, written: &[u8]) -> Result<(), BookNo> {
+    let rule = rule(alloc, written)?;
+    book.add(rule)
 }
 
 /// A makefile's rules, separated by `;`.
-fn book(alloc: Global, makefile: &[u8]) -> Result<Book, Fail> {
+fn book(alloc: Global, makefile: &[u8]) -> Result<Book, BookNo> {
     let mut book = Book::new(alloc)?;
     for written in makefile.split(|b| *b == b';') {
-        book.add(rule(alloc, written)?)?;
+        add(alloc, &mut book, written)?;
     }
     Ok(book)
 }
 
-fn planned(alloc: Global, book: &Book, goals: &[u8]) -> Result<Plan, Fail> {
-    let goals = words(alloc, goals)?;
-    Ok(plan(
-        alloc,
-        book,
-        goals.items(),
-        &Tree::new(alloc, 5)?,
-        &Path::root(),
-    )?)
+fn plan_over(alloc: Global, book: &Book, goals: &[Text]) -> Result<Plan, PlanNo> {
+    let tree = Tree::new(alloc, 5)?;
+    plan(alloc, book, goals, &tree, &Path::root())
 }
 
-fn add_number(text: &mut Text, number: u32) -> Result<(), Fail> {
-    text.add(&[b'0' + (number % 10) as u8])?;
-    Ok(())
+fn planned(alloc: Global, book: &Book, goals: &[u8]) -> Result<Plan, PlanNo> {
+    let goals = names(alloc, goals)?;
+    plan_over(alloc, book, goals.items())
 }
 
-fn add_pres(text: &mut Text, before: &[u8], pres: &[Pre]) -> Result<(), Fail> {
+/// The plan of a makefile for these goals.
+fn plan_of(alloc: Global, makefile: &[u8], goals: &[u8]) -> Result<Plan, Fail> {
+    let book = book(alloc, makefile)?;
+    Ok(planned(alloc, &book, goals)?)
+}
+
+fn add_number(text: &mut Text, number: u32) -> Result<(), NoMemory> {
+    text.add(&[b'0' + (number % 10) as u8])
+}
+
+fn add_pre(text: &mut Text, before: &[u8], pre: &Pre) -> Result<(), NoMemory> {
+    text.add(before)?;
+    text.add(pre.name.bytes())?;
+    add_number(text, pre.job)
+}
+
+fn add_pres(text: &mut Text, before: &[u8], pres: &[Pre]) -> Result<(), NoMemory> {
     for pre in pres {
-        text.add(before)?;
-        text.add(pre.name.bytes())?;
-        add_number(text, pre.job)?;
+        add_pre(text, before, pre)?;
     }
     Ok(())
 }
 
-fn add_numbers(text: &mut Text, numbers: &[u32]) -> Result<(), Fail> {
+fn add_numbers(text: &mut Text, numbers: &[u32]) -> Result<(), NoMemory> {
     for number in numbers {
         add_number(text, *number)?;
     }
     Ok(())
 }
 
-/// `target<needed_by: prerequisites |order-only ones (waits);`
-fn add_job(text: &mut Text, job: &PlanJob) -> Result<(), Fail> {
+/// `target<needed_by:`
+fn add_target(text: &mut Text, job: &PlanJob) -> Result<(), NoMemory> {
     text.add(job.target.bytes())?;
     text.add(b"<")?;
-    match &job.needed_by {
-        Some(name) => text.add(name.bytes())?,
-        None => {}
+    if let Some(name) = &job.needed_by {
+        text.add(name.bytes())?;
     }
-    text.add(b":")?;
-    add_pres(text, b" ", job.normal.items())?;
-    add_pres(text, b" |", job.order.items())?;
+    text.add(b":")
+}
+
+/// `(waits);`
+fn add_waits(text: &mut Text, job: &PlanJob) -> Result<(), NoMemory> {
     text.add(b"(")?;
     add_numbers(text, job.waits.items())?;
-    text.add(b");")?;
+    text.add(b");")
+}
+
+/// `target<needed_by: prerequisites |order-only ones (waits);`
+fn add_job(text: &mut Text, job: &PlanJob) -> Result<(), NoMemory> {
+    add_target(text, job)?;
+    add_pres(text, b" ", job.normal.items())?;
+    add_pres(text, b" |", job.order.items())?;
+    add_waits(text, job)
+}
+
+fn add_jobs(text: &mut Text, jobs: &[PlanJob]) -> Result<(), NoMemory> {
+    for job in jobs {
+        add_job(text, job)?;
+    }
     Ok(())
 }
 
 /// The jobs in order, the goals' numbers and the notes.
-fn shown(alloc: Global, plan: &Plan) -> Result<Text, Fail> {
+fn shown(alloc: Global, plan: &Plan) -> Result<Text, NoMemory> {
     let mut text = Text::new(alloc);
-    for job in plan.jobs.items() {
-        add_job(&mut text, job)?;
-    }
+    add_jobs(&mut text, plan.jobs.items())?;
     add_numbers(&mut text, plan.goals.items())?;
     text.add(plan.notes.bytes())?;
     Ok(text)
 }
 
-/// A makefile, goals, and what is shown of the plan for them.
-type Row<'a> = (&'a [u8], &'a [u8], &'a [u8]);
-
-fn holds(alloc: Global, row: Row) -> Result<bool, Fail> {
-    let (makefile, goals, wanted) = row;
-    let book = book(alloc, makefile)?;
-    let plan = planned(alloc, &book, goals)?;
-    Ok(shown(alloc, &plan)?.bytes() == wanted)
+fn is_shown(alloc: Global, plan: &Plan, wanted: &[u8]) -> Result<bool, NoMemory> {
+    let text = shown(alloc, plan)?;
+    Ok(text.bytes() == wanted)
 }
+
+/// A makefile, goals, and what is shown of the plan for them.
+type Row = (&'static [u8], &'static [u8], &'static [u8]);
+
+fn check(rt: &impl Abort, alloc: Global, rows: &[Row]) -> Result<(), Fail> {
+    for (makefile, goals, wanted) in rows {
+        let plan = plan_of(alloc, makefile, goals)?;
+        assert!(rt; is_shown(alloc, &plan, wanted)?);
+    }
+    Ok(())
+}
+
+const PREREQUISITES: [Row; 5] = [
+    (
+        b"a|b c||;b c|d||",
+        b"a",
+        b"d<b:();b<a: d0(0);c<a: d0(0);a<: b1 c2(12);3",
+    ),
+    // the rule with the recipe first, each rule's normal prerequisites before its order-only ones
+    (
+        b"a|b|c;a|d|e|;a|f|",
+        b"a",
+        b"d<a:();e<a:();b<a:();c<a:();f<a:();a<: d0 b2 f4 |e1 |c3(01234);5",
+    ),
+    // the last recipe is the name's
+    (b"a|b||;a|c||", b"a", b"c<a:();b<a:();a<: c0 b1(01);2"),
+    // a prerequisite that is written twice
+    (b"a|b c b|b|", b"a", b"b<a:();c<a:();a<: b0 c1 b0 |b0(01);2"),
+    // waits rise
+    (b"a|b c||", b"c a", b"c<:();b<a:();a<: b1 c0(01);02"),
+];
 
 #[test]
 fn prerequisites_come_first_from_left_to_right(rt: HostRuntime) -> Result<(), Fail> {
-    for row in [
-        (
-            b"a|b c||;b c|d||".as_slice(),
-            b"a".as_slice(),
-            b"d<b:();b<a: d0(0);c<a: d0(0);a<: b1 c2(12);3".as_slice(),
-        ),
-        // the rule with the recipe first, each rule's normal prerequisites before its order-only ones
-        (
-            b"a|b|c;a|d|e|;a|f|",
-            b"a",
-            b"d<a:();e<a:();b<a:();c<a:();f<a:();a<: d0 b2 f4 |e1 |c3(01234);5",
-        ),
-        // the last recipe is the name's
-        (b"a|b||;a|c||", b"a", b"c<a:();b<a:();a<: c0 b1(01);2"),
-        // a prerequisite that is written twice
-        (b"a|b c b|b|", b"a", b"b<a:();c<a:();a<: b0 c1 b0 |b0(01);2"),
-        // waits rise
-        (b"a|b c||", b"c a", b"c<:();b<a:();a<: b1 c0(01);02"),
-    ] {
-        assert!(rt; holds(rt.alloc(), row)?);
-    }
-    Ok(())
+    check(&rt, rt.alloc(), &PREREQUISITES)
 }
+
+const GOALS: [Row; 3] = [
+    (b"a|b||", b"a b ./a a", b"b<a:();a<: b0(0);10"),
+    // a goal that is also a prerequisite
+    (b"a|b||", b"b a", b"b<:();a<: b0(0);01"),
+    // leading `./` are no part of a name
+    (
+        b"./a|././b||;b|./c||",
+        b"./a b",
+        b"c<b:();b<a: c0(0);a<: b1(1);21",
+    ),
+];
 
 #[test]
 fn goals_stand_once(rt: HostRuntime) -> Result<(), Fail> {
-    for row in [
-        (
-            b"a|b||".as_slice(),
-            b"a b ./a a".as_slice(),
-            b"b<a:();a<: b0(0);10".as_slice(),
-        ),
-        // a goal that is also a prerequisite
-        (b"a|b||", b"b a", b"b<:();a<: b0(0);01"),
-        // leading `./` are no part of a name
-        (
-            b"./a|././b||;b|./c||",
-            b"./a b",
-            b"c<b:();b<a: c0(0);a<: b1(1);21",
-        ),
-    ] {
-        assert!(rt; holds(rt.alloc(), row)?);
-    }
-    Ok(())
+    check(&rt, rt.alloc(), &GOALS)
 }
+
+const CIRCLES: [Row; 5] = [
+    (
+        b"a|b||;b|a||",
+        b"a",
+        b"b<a:();a<: b0(0);1emake: Circular b <- a dependency dropped.\n",
+    ),
+    (
+        b"a|a||",
+        b"a",
+        b"a<:();0emake: Circular a <- a dependency dropped.\n",
+    ),
+    (
+        b"a|b||;b|c||;c|a d||",
+        b"a",
+        b"d<c:();c<b: d0(0);b<a: c1(1);a<: b2(2);3emake: Circular c <- a dependency dropped.\n",
+    ),
+    // through order-only prerequisites
+    (
+        b"a||b|;b||a|",
+        b"a",
+        b"b<a:();a<: |b0(0);1emake: Circular b <- a dependency dropped.\n",
+    ),
+    // written twice
+    (
+        b"a|b||;b|a a||",
+        b"a",
+        b"b<a:();a<: b0(0);1emake: Circular b <- a dependency dropped.\nemake: Circular b <- a dependency dropped.\n",
+    ),
+];
 
 #[test]
 fn circles_are_dropped(rt: HostRuntime) -> Result<(), Fail> {
-    for row in [
-        (
-            b"a|b||;b|a||".as_slice(),
-            b"a".as_slice(),
-            b"b<a:();a<: b0(0);1emake: Circular b <- a dependency dropped.\n".as_slice(),
-        ),
-        (
-            b"a|a||",
-            b"a",
-            b"a<:();0emake: Circular a <- a dependency dropped.\n",
-        ),
-        (
-            b"a|b||;b|c||;c|a d||",
-            b"a",
-            b"d<c:();c<b: d0(0);b<a: c1(1);a<: b2(2);3emake: Circular c <- a dependency dropped.\n",
-        ),
-        // through order-only prerequisites
-        (
-            b"a||b|;b||a|",
-            b"a",
-            b"b<a:();a<: |b0(0);1emake: Circular b <- a dependency dropped.\n",
-        ),
-        // written twice
-        (
-            b"a|b||;b|a a||",
-            b"a",
-            b"b<a:();a<: b0(0);1emake: Circular b <- a dependency dropped.\nemake: Circular b <- a dependency dropped.\n",
-        ),
-    ] {
-        assert!(rt; holds(rt.alloc(), row)?);
-    }
-    Ok(())
+    check(&rt, rt.alloc(), &CIRCLES)
 }
 
-/// The job of this number.
-fn job(plan: &Plan, number: usize) -> Result<&PlanJob, Fail> {
-    Ok(plan.jobs.get(number).ok_or("no job")?)
+/// Whether the plan has a job of this number, which is one of a pattern rule with the stem `e`.
+fn is_made(plan: &Plan, number: usize) -> bool {
+    match plan.jobs.get(number) {
+        Some(job) => {
+            job.ruled && !job.phony && job.recipe.is_some() && job.stem.bytes() == b"e".as_slice()
+        }
+        None => false,
+    }
+}
+
+/// Whether the plan has a job of this number, which no rule is of.
+fn is_bare(plan: &Plan, number: usize) -> bool {
+    match plan.jobs.get(number) {
+        Some(job) => !job.ruled && job.recipe.is_none() && job.stem.bytes().is_empty(),
+        None => false,
+    }
 }
 
 #[test]
 fn a_pattern_rule_is_the_rule_with_the_recipe(rt: HostRuntime) -> Result<(), Fail> {
-    let alloc = rt.alloc();
-    let plan = planned(
-        alloc,
-        &book(alloc, b"e.o|k|;all|e.c h|;%.o|%.c|h|")?,
-        b"e.o",
-    )?;
+    let plan = plan_of(rt.alloc(), b"e.o|k|;all|e.c h|;%.o|%.c|h|", b"e.o")?;
     let wanted = b"e.c<e.o:();h<e.o:();k<e.o:();e.o<: e.c0 k2 |h1(012);3";
-    assert!(rt; shown(alloc, &plan)?.bytes() == wanted.as_slice());
-    let made = job(&plan, 3)?;
-    assert!(rt;
-        made.ruled && !made.phony && made.recipe.is_some() && made.stem.bytes() == b"e".as_slice()
-    );
-    let needed = job(&plan, 0)?;
-    assert!(rt; !needed.ruled && needed.recipe.is_none() && needed.stem.bytes().is_empty());
+    assert!(rt; is_shown(rt.alloc(), &plan, wanted)?);
+    assert!(rt; is_made(&plan, 3));
+    assert!(rt; is_bare(&plan, 0));
     Ok(())
+}
+
+/// Whether the plan has a job of this number, which is phony and no rule is of.
+fn is_phony(plan: &Plan, number: usize) -> bool {
+    match plan.jobs.get(number) {
+        Some(job) => job.phony && !job.ruled && job.recipe.is_none(),
+        None => false,
+    }
 }
 
 #[test]
 fn a_phony_name_has_no_pattern_rule(rt: HostRuntime) -> Result<(), Fail> {
-    let alloc = rt.alloc();
-    let plan = planned(
-        alloc,
-        &book(alloc, b".PHONY|e.o|;%.o|.PHONY||")?,
-        b"e.o d.o",
-    )?;
+    let plan = plan_of(rt.alloc(), b".PHONY|e.o|;%.o|.PHONY||", b"e.o d.o")?;
     let wanted = b"e.o<:();.PHONY<d.o: e.o0(0);d.o<: .PHONY1(1);02";
-    assert!(rt; shown(alloc, &plan)?.bytes() == wanted.as_slice());
-    let phony = job(&plan, 0)?;
-    assert!(rt; phony.phony && !phony.ruled && phony.recipe.is_none());
+    assert!(rt; is_shown(rt.alloc(), &plan, wanted)?);
+    assert!(rt; is_phony(&plan, 0));
     Ok(())
 }
 
 #[test]
 fn without_a_goal_there_is_no_plan(rt: HostRuntime) -> Result<(), Fail> {
-    let alloc = rt.alloc();
-    let mut book = book(alloc, b"a|b||")?;
-    let none = plan(alloc, &book, &[], &Tree::new(alloc, 5)?, &Path::root());
+    let book = book(rt.alloc(), b"a|b||")?;
+    let none = plan_over(rt.alloc(), &book, &[]);
     assert!(rt; none.is_err_and(|e| e == PlanNo::NoTargets));
-    book.default_goal = Some(Text::from_slice(alloc, b"./a")?);
-    let plan = planned(alloc, &book, b"")?;
-    assert!(rt; shown(alloc, &plan)?.bytes() == b"b<a:();a<: b0(0);1".as_slice());
     Ok(())
 }
 
-/// A name for each number below 65,536.
-fn numbered_name(alloc: Global, number: u16) -> Result<Text, Fail> {
-    let name = [b'x', (number >> 8) as u8, (number & 255) as u8];
-    Ok(Text::from_slice(alloc, &name)?)
+/// A makefile's rules with the default goal `./a`.
+fn book_with_goal(alloc: Global, makefile: &[u8]) -> Result<Book, BookNo> {
+    let mut book = book(alloc, makefile)?;
+    book.default_goal = Some(Text::from_slice(alloc, b"./a")?);
+    Ok(book)
 }
 
-/// A rule for `all`, which needs this many names and these.
-fn fan(alloc: Global, others: u16, more: &[u8]) -> Result<Rule, Fail> {
-    let mut fan = rule(alloc, b"all||")?;
-    let mut needs = words(alloc, more)?;
+#[test]
+fn the_default_goal_is_planned(rt: HostRuntime) -> Result<(), Fail> {
+    let book = book_with_goal(rt.alloc(), b"a|b||")?;
+    let plan = planned(rt.alloc(), &book, b"")?;
+    assert!(rt; is_shown(rt.alloc(), &plan, b"b<a:();a<: b0(0);1")?);
+    Ok(())
+}
+
+/// A rule for `all`, which needs some names and one more for each number below this one.
+fn fan(alloc: Global, others: u16, more: &[u8]) -> Result<Rule, NoMemory> {
+    let mut fan = bare_rule(alloc, [b"all", more, b""])?;
     for number in 0..others {
-        needs.push(numbered_name(alloc, number)?)?;
+        let name = [b'x', (number >> 8) as u8, (number & 255) as u8];
+        add_name(alloc, &mut fan.normal, &name)?;
     }
-    fan.normal = needs;
     Ok(fan)
 }
 
-/// How many jobs `all` comes to, or why there is no plan.
-fn jobs_of(alloc: Global, fan: Rule) -> Result<Result<usize, PlanNo>, Fail> {
+fn book_of(alloc: Global, rule: Rule) -> Result<Book, BookNo> {
     let mut book = Book::new(alloc)?;
-    book.add(fan)?;
-    let goals = words(alloc, b"all")?;
-    let tree = Tree::new(alloc, 5)?;
-    Ok(plan(alloc, &book, goals.items(), &tree, &Path::root()).map(|p| p.jobs.len()))
+    book.add(rule)?;
+    Ok(book)
+}
+
+/// How many jobs `all` comes to, or why there is no plan.
+fn jobs_of(alloc: Global, book: &Book) -> Result<usize, PlanNo> {
+    let plan = planned(alloc, book, b"all")?;
+    Ok(plan.jobs.len())
 }
 
 #[test]
 fn at_most_65536_names_are_reached(rt: HostRuntime) -> Result<(), Fail> {
-    let alloc = rt.alloc();
-    assert!(rt; jobs_of(alloc, fan(alloc, 65_535, b"")?)? == Ok(65_536));
-    assert!(rt; jobs_of(alloc, fan(alloc, 65_535, b"y")?)? == Err(PlanNo::TooManyJobs));
+    for (more, wanted) in [
+        (b"".as_slice(), Ok(65_536)),
+        (b"y".as_slice(), Err(PlanNo::TooManyJobs)),
+    ] {
+        let fan = fan(rt.alloc(), 65_535, more)?;
+        let book = book_of(rt.alloc(), fan)?;
+        assert!(rt; jobs_of(rt.alloc(), &book) == wanted);
+    }
     Ok(())
 }

@@ -1,96 +1,82 @@
-use em_base::{Place, Seq, Text};
-use em_rules::{Book, BookNo, Names, RecipeLine, Rule, undotted};
-use em_wordlist::{join_texts, texts};
+use crate::written::{add_list, recipe, rule as bare_rule};
+use em_base::{NoMemory, Text};
+use em_rules::{Book, BookNo, Names, Rule, Special, undotted};
 use std::alloc::Global;
 use std::test::Fail;
 
 /// Targets, target pattern, normal and order-only prerequisites and the recipe of a rule; `-` where there is no target pattern or recipe.
 type Row = [&'static [u8]; 5];
 
-fn names(alloc: Global, line: &[u8]) -> Result<Seq<Text>, Fail> {
-    let mut names = Seq::new(alloc);
-    for name in &texts(alloc, line)? {
-        names.push(Text::from_slice(alloc, name)?)?;
+/// Makes a rule a static pattern rule.
+fn add_form(alloc: Global, rule: &mut Rule, form: &[u8]) -> Result<(), NoMemory> {
+    if form != b"-".as_slice() {
+        rule.form = Some(Text::from_slice(alloc, form)?);
+        rule.pattern = false;
     }
-    Ok(names)
+    Ok(())
 }
 
-fn place(alloc: Global) -> Result<Place, Fail> {
-    Ok(Place {
-        file: Text::from_slice(alloc, b"Makefile")?,
-        line: 1,
-    })
-}
-
-fn recipe(alloc: Global, text: &[u8]) -> Result<Option<Seq<RecipeLine>>, Fail> {
-    if text == b"-".as_slice() {
-        return Ok(None);
+fn add_recipe(alloc: Global, rule: &mut Rule, text: &[u8]) -> Result<(), NoMemory> {
+    if text != b"-".as_slice() {
+        rule.recipe = Some(recipe(alloc, text)?);
     }
-    let mut lines = Seq::new(alloc);
-    lines.push(RecipeLine {
-        place: place(alloc)?,
-        text: Text::from_slice(alloc, text)?,
-    })?;
-    Ok(Some(lines))
+    Ok(())
 }
 
-fn pattern(alloc: Global, text: &[u8]) -> Result<Option<Text>, Fail> {
-    if text == b"-".as_slice() {
-        return Ok(None);
-    }
-    Ok(Some(Text::from_slice(alloc, text)?))
+fn rule(alloc: Global, row: &Row) -> Result<Rule, NoMemory> {
+    let [targets, form, normal, order, lines] = *row;
+    let mut rule = bare_rule(alloc, [targets, normal, order])?;
+    add_form(alloc, &mut rule, form)?;
+    add_recipe(alloc, &mut rule, lines)?;
+    Ok(rule)
 }
 
-fn rule(alloc: Global, row: &Row) -> Result<Rule, Fail> {
-    let [targets, form, normal, order, lines] = row;
-    let form = pattern(alloc, form)?;
-    Ok(Rule {
-        targets: names(alloc, targets)?,
-        pattern: form.is_none() && targets.contains(&b'%'),
-        form,
-        normal: names(alloc, normal)?,
-        order: names(alloc, order)?,
-        recipe: recipe(alloc, lines)?,
-        place: place(alloc)?,
-    })
+fn add(alloc: Global, book: &mut Book, row: &Row) -> Result<(), BookNo> {
+    let rule = rule(alloc, row)?;
+    book.add(rule)
 }
 
-fn book(alloc: Global, rows: &[Row]) -> Result<Book, Fail> {
+fn book(alloc: Global, rows: &[Row]) -> Result<Book, BookNo> {
     let mut book = Book::new(alloc)?;
     for row in rows {
-        book.add(rule(alloc, row)?)?;
+        add(alloc, &mut book, row)?;
     }
     Ok(book)
 }
 
-/// The rules, each as `targets: normal | order`, with a blank line's end each.
-fn shown(alloc: Global, rules: &[Rule]) -> Result<Text, Fail> {
+/// Appends a rule as `targets: normal | order`, with a line's end.
+fn add_shown(alloc: Global, text: &mut Text, rule: &Rule) -> Result<(), NoMemory> {
+    add_list(alloc, text, rule.targets.items(), b": ")?;
+    add_list(alloc, text, rule.normal.items(), b" | ")?;
+    add_list(alloc, text, rule.order.items(), b"\n")
+}
+
+/// The rules, a line each.
+fn shown(alloc: Global, rules: &[Rule]) -> Result<Text, NoMemory> {
     let mut text = Text::new(alloc);
     for rule in rules {
-        text.add(join_texts(alloc, rule.targets.items())?.bytes())?;
-        text.add(b": ")?;
-        text.add(join_texts(alloc, rule.normal.items())?.bytes())?;
-        text.add(b" | ")?;
-        text.add(join_texts(alloc, rule.order.items())?.bytes())?;
-        text.add(b"\n")?;
+        add_shown(alloc, &mut text, rule)?;
     }
     Ok(text)
 }
 
+/// Names, each with what is known of it.
+const DOTS: [(&[u8], &[u8]); 9] = [
+    (b"a", b"a"),
+    (b"./a", b"a"),
+    (b"././d/./a", b"d/./a"),
+    (b"./", b""),
+    (b"./.", b"."),
+    (b".", b"."),
+    (b"../a", b"../a"),
+    (b".a", b".a"),
+    (b"", b""),
+];
+
 #[test]
 fn names_lose_their_dots(rt: HostRuntime) {
-    for (name, want) in [
-        (b"a".as_slice(), b"a".as_slice()),
-        (b"./a", b"a"),
-        (b"././d/./a", b"d/./a"),
-        (b"./", b""),
-        (b"./.", b"."),
-        (b".", b"."),
-        (b"../a", b"../a"),
-        (b".a", b".a"),
-        (b"", b""),
-    ] {
-        assert_eq!(rt; undotted(name), want);
+    for (name, want) in &DOTS {
+        assert_eq!(rt; undotted(name), *want);
     }
 }
 
@@ -110,12 +96,18 @@ const STATIC: [(Row, &[u8]); 7] = [
     ([b"./a b", b"-", b"././c", b"./d", b"-"], b"a b: c | d\n"),
 ];
 
+/// What a rule comes to.
+fn come_to(alloc: Global, row: &Row) -> Result<Text, BookNo> {
+    let mut book = Book::new(alloc)?;
+    add(alloc, &mut book, row)?;
+    Ok(shown(alloc, book.rules.items())?)
+}
+
 #[test]
 fn each_target_of_a_static_pattern_rule_has_its_own(rt: HostRuntime) -> Result<(), Fail> {
     for (row, want) in &STATIC {
-        let mut book = Book::new(rt.alloc())?;
-        book.add(rule(rt.alloc(), row)?)?;
-        assert_eq!(rt; shown(rt.alloc(), book.rules.items())?.bytes(), *want);
+        let text = come_to(rt.alloc(), row)?;
+        assert_eq!(rt; text.bytes(), *want);
     }
     Ok(())
 }
@@ -127,13 +119,20 @@ const UNMATCHED: [(Row, &[u8]); 4] = [
     ([b"a", b"", b"", b"", b"r"], b"a"),
 ];
 
+/// Whether the rule is refused for this target, and the book has no rule then.
+fn is_unmatched(alloc: Global, row: &Row, want: &[u8]) -> Result<bool, NoMemory> {
+    let mut book = Book::new(alloc)?;
+    let named = match add(alloc, &mut book, row) {
+        Err(BookNo::Static(target)) => target.bytes() == want,
+        _ => false,
+    };
+    Ok(named && book.rules.is_empty())
+}
+
 #[test]
 fn a_target_must_match_the_target_pattern(rt: HostRuntime) -> Result<(), Fail> {
     for (row, want) in &UNMATCHED {
-        let mut book = Book::new(rt.alloc())?;
-        let no = BookNo::Static(Text::from_slice(rt.alloc(), want)?);
-        assert_eq!(rt; book.add(rule(rt.alloc(), row)?), Err(no));
-        assert!(rt; book.rules.is_empty());
+        assert!(rt; is_unmatched(rt.alloc(), row, want)?);
     }
     Ok(())
 }
@@ -153,10 +152,9 @@ const PATTERNS: [Row; 8] = [
 fn a_pattern_rule_without_a_recipe_takes_out_its_like(rt: HostRuntime) -> Result<(), Fail> {
     let book = book(rt.alloc(), &PATTERNS)?;
     assert!(rt; book.rules.is_empty());
-    assert_eq!(rt;
-        shown(rt.alloc(), book.patterns.items())?.bytes(),
-        b"%.o: %.s | \n%.o: %.c | x\n%.o: %.c x | \n%.o: %.c | \n".as_slice()
-    );
+    let text = shown(rt.alloc(), book.patterns.items())?;
+    let want = b"%.o: %.s | \n%.o: %.c | x\n%.o: %.c x | \n%.o: %.c | \n";
+    assert_eq!(rt; text.bytes(), want.as_slice());
     Ok(())
 }
 
@@ -171,7 +169,9 @@ const RULES: [Row; 7] = [
 ];
 
 /// A name, the numbers of its rules, its recipe's, and whether it is mentioned and phony.
-const ANSWERS: [(&[u8], &[usize], Option<usize>, bool, bool); 12] = [
+type Known = (&'static [u8], &'static [usize], Option<usize>, bool, bool);
+
+const ANSWERS: [Known; 12] = [
     (b".PHONY", &[0], None, true, false),
     (b"all", &[1], None, true, true),
     (b"clean", &[], None, true, true),
@@ -186,17 +186,38 @@ const ANSWERS: [(&[u8], &[usize], Option<usize>, bool, bool); 12] = [
     (b"q", &[], None, false, false),
 ];
 
+/// Whether the rules of a name have these numbers.
+fn has_rules(alloc: Global, book: &Book, name: &[u8], numbers: &[usize]) -> Result<bool, NoMemory> {
+    let found = book.rules.rules_of(alloc, name)?;
+    Ok(found.items() == numbers)
+}
+
+/// Whether all else of a name is as wanted.
+fn is_known(book: &Book, known: &Known) -> bool {
+    let (name, numbers, recipe, mentioned, phony) = known;
+    book.rules.recipe_rule(name) == *recipe
+        && book.rules.is_target(name) != numbers.is_empty()
+        && book.rules.is_mentioned(name) == *mentioned
+        && book.rules.is_phony(name) == *phony
+}
+
 #[test]
 fn rules_are_found_by_name(rt: HostRuntime) -> Result<(), Fail> {
     let book = book(rt.alloc(), &RULES)?;
-    for (name, numbers, recipe, mentioned, phony) in &ANSWERS {
-        assert_eq!(rt; book.rules.rules_of(rt.alloc(), name)?.items(), *numbers);
-        assert_eq!(rt; book.rules.recipe_rule(name), *recipe);
-        assert_eq!(rt; book.rules.is_target(name), !numbers.is_empty());
-        assert_eq!(rt; book.rules.is_mentioned(name), *mentioned);
-        assert_eq!(rt; book.rules.is_phony(name), *phony);
+    for known in &ANSWERS {
+        assert!(rt; has_rules(rt.alloc(), &book, known.0, known.1)?);
+        assert!(rt; is_known(&book, known));
     }
     Ok(())
+}
+
+/// Whether the rule has a recipe that is equal to its copy.
+fn has_copy(alloc: Global, rule: &Rule) -> Result<bool, NoMemory> {
+    let Some(lines) = &rule.recipe else {
+        return Ok(false);
+    };
+    let copy = lines.copy(alloc)?;
+    Ok(copy == *lines)
 }
 
 #[test]
@@ -204,19 +225,40 @@ fn a_rule_is_found_by_number(rt: HostRuntime) -> Result<(), Fail> {
     let book = book(rt.alloc(), &RULES)?;
     assert_eq!(rt; book.rules.len(), 7);
     assert!(rt; book.rules.get(7).is_none());
-    let found = book.rules.get(3).ok_or("no rule")?;
+    let Some(found) = book.rules.get(3) else {
+        return Err(Fail::from("no rule"));
+    };
     assert_eq!(rt; found.stem(b"x.o"), b"x".as_slice());
-    let lines = found.recipe.as_ref().ok_or("no recipe")?;
-    assert!(rt; lines.copy(rt.alloc())? == *lines);
+    assert!(rt; has_copy(rt.alloc(), found)?);
     Ok(())
 }
 
-/// Which names these are, with a blank between two.
-fn covers(alloc: Global, names: &Names) -> Result<Text, Fail> {
+/// Appends which names these are.
+fn add_covered(alloc: Global, text: &mut Text, names: &Names) -> Result<(), NoMemory> {
     match names {
-        Names::All => Ok(Text::from_slice(alloc, b"all")?),
-        Names::Listed(names) => Ok(join_texts(alloc, names.items())?),
+        Names::All => text.add(b"all|"),
+        Names::Listed(names) => add_list(alloc, text, names.items(), b"|"),
     }
+}
+
+/// Appends the phony, silent and ignored names, and whether targets are deleted.
+fn add_special(alloc: Global, text: &mut Text, special: &Special) -> Result<(), NoMemory> {
+    add_list(alloc, text, special.phony.items(), b"|")?;
+    add_covered(alloc, text, &special.silent)?;
+    add_covered(alloc, text, &special.ignore)?;
+    text.add(if special.delete_on_error {
+        b"delete"
+    } else {
+        b"keep"
+    })
+}
+
+/// What the rules' special targets say.
+fn special_text(alloc: Global, rows: &[Row]) -> Result<Text, BookNo> {
+    let special = book(alloc, rows)?.special(alloc)?;
+    let mut text = Text::new(alloc);
+    add_special(alloc, &mut text, &special)?;
+    Ok(text)
 }
 
 const SPECIAL: [Row; 6] = [
@@ -230,25 +272,13 @@ const SPECIAL: [Row; 6] = [
 
 #[test]
 fn special_targets_speak_of_names(rt: HostRuntime) -> Result<(), Fail> {
-    for (rows, phony, silent, ignore, delete) in [
-        (
-            SPECIAL.as_slice(),
-            b"p q p r".as_slice(),
-            b"all".as_slice(),
-            b"s t".as_slice(),
-            true,
-        ),
-        (&SPECIAL[..1], b"p q", b"", b"", false),
-        (&SPECIAL[2..5], b"p r", b"", b"all", false),
+    for (rows, want) in [
+        (SPECIAL.as_slice(), b"p q p r|all|s t|delete".as_slice()),
+        (&SPECIAL[..1], b"p q|||keep"),
+        (&SPECIAL[2..5], b"p r||all|keep"),
     ] {
-        let special = book(rt.alloc(), rows)?.special(rt.alloc())?;
-        assert_eq!(rt;
-            join_texts(rt.alloc(), special.phony.items())?.bytes(),
-            phony
-        );
-        assert_eq!(rt; covers(rt.alloc(), &special.silent)?.bytes(), silent);
-        assert_eq!(rt; covers(rt.alloc(), &special.ignore)?.bytes(), ignore);
-        assert_eq!(rt; special.delete_on_error, delete);
+        let text = special_text(rt.alloc(), rows)?;
+        assert_eq!(rt; text.bytes(), want);
     }
     Ok(())
 }

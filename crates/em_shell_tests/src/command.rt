@@ -4,21 +4,15 @@
 //! follows isn't run: `E` for `exit`, `B` for `break` and `C` for `continue`. A command without an
 //! end has `!` and what is refused, or `$` for spent fuel. A command in capitals makes a call that
 //! em_exec makes.
-ghost use Rattle.std.specs.Prelude.{◌≡◌, ◌≤◌, Some};
-ghost use Rattle.std.specs.FinMap as map;
-ghost use Rattle.em_path.specs.Paths.{IsPath, parent_text};
-ghost use Rattle.em_tree.specs.declared.node.Kind.TheVariants as kind;
-ghost use Rattle.em_tree.specs.Trees.{IsTree, kind_of};
-
+use crate::trees::{self, put_all, state, states};
 use em_base::{Construct, Fuel, NoMemory, Seq, Text};
 use em_command::{Flow, Here, Jump, Streams, deliver, hand, perform, redirect};
-use em_path::Path;
 use em_syntax::RedirectKind;
-use em_tree::{Body, Kind, Node, Outcomes, State, Tree};
+use em_tree::{Body, State};
 use em_utility::Reason;
 use em_vars::Vars;
 use em_view::{Desk, ExecNo, FileNo, Piece, PlainView, ScriptView, View};
-use em_word::{Shell, WordFault};
+use em_word::WordFault;
 use std::alloc::Global;
 use std::test::Fail;
 
@@ -58,8 +52,26 @@ fn text(alloc: Global, bytes: &[u8]) -> Result<Text, NoMemory> {
 
 fn add_word(alloc: Global, word: &[u8], words: &mut Vec<Text>) -> Result<(), NoMemory> {
     let word = if word == b"~".as_slice() { b"" } else { word };
-    words.push(Text::from_slice(alloc, word)?)?;
+    words.push(text(alloc, word)?)?;
     Ok(())
+}
+
+/// The streams behind a word of a command, unless it is a redirection that fails.
+fn read_word<V: View>(
+    alloc: Global,
+    word: &[u8],
+    words: &mut Vec<Text>,
+    streams: Streams,
+    here: &mut Here,
+    desk: &mut Desk<V>,
+) -> Result<Option<Streams>, Jump> {
+    match redirection(word) {
+        None => {
+            add_word(alloc, word, words)?;
+            Ok(Some(streams))
+        }
+        Some((fd, kind, target)) => redirect(alloc, fd, kind, target, streams, here, desk),
+    }
 }
 
 /// The words of a command, and where its streams go, unless a redirection fails.
@@ -71,45 +83,88 @@ fn read_command<V: View>(
     desk: &mut Desk<V>,
 ) -> Result<Option<Streams>, Jump> {
     let mut streams = Streams::around(alloc);
-    for word in command.as_bytes().split(|b| *b == b' ') {
-        match redirection(word) {
-            None => add_word(alloc, word, words)?,
-            Some((fd, kind, target)) => {
-                match redirect(alloc, fd, kind, target, streams, here, desk)? {
-                    Some(behind) => streams = behind,
-                    None => return Ok(None),
-                }
-            }
+    for word in command.split(' ') {
+        match read_word(alloc, word.as_bytes(), words, streams, here, desk)? {
+            Some(behind) => streams = behind,
+            None => return Ok(None),
         }
     }
     Ok(Some(streams))
 }
 
+fn write(alloc: Global, stream: u8, bytes: &[u8], here: &mut Here) -> Result<(), Jump> {
+    let text = text(alloc, bytes)?;
+    here.write(stream, text)
+}
+
+fn write_three(alloc: Global, here: &mut Here) -> Result<(), Jump> {
+    write(alloc, 1, b"b", here)?;
+    write(alloc, 2, b"c", here)?;
+    write(alloc, 1, b"d", here)
+}
+
 /// A copy of the shell with the status 7, which has written to both streams.
 fn copy_of(alloc: Global, here: &Here) -> Result<Here, Jump> {
     let mut copy = here.branch(alloc)?;
-    for (stream, bytes) in [(1, b"b"), (2, b"c"), (1, b"d")] {
-        copy.write(stream, text(alloc, bytes)?)?;
-    }
+    write_three(alloc, &mut copy)?;
     copy.shell.status = 7;
     Ok(copy)
 }
 
 /// Each variable with its text, and `!` where it is exported.
-fn vars_of(alloc: Global, here: &Here) -> Result<Text, NoMemory> {
+fn vars_of(alloc: Global, here: &Here) -> Text {
     let mut log = Text::new(alloc);
     for (name, v) in here.shell.vars.iter() {
-        log.add(name.as_slice())?;
-        log.add(b"=")?;
-        log.add(v.text.bytes())?;
-        log.add(if v.exported { b"!" } else { b"," })?;
+        let mark: &[u8] = if v.exported { b"!" } else { b"," };
+        put_all(&mut log, &[name.as_slice(), b"=", v.text.bytes(), mark]);
     }
-    Ok(log)
+    log
 }
 
 fn input_of(alloc: Global, streams: &Streams) -> Result<Text, NoMemory> {
     let around = Body::from_slice(alloc, b"around")?;
-    text(alloc, streams.input(&around)?.bytes())
+    let input = streams.input(&around)?;
+    text(alloc, input.bytes())
+}
+
+fn write_input(alloc: Global, streams: &Streams, here: &mut Here) -> Result<(), Jump> {
+    let input = input_of(alloc, streams)?;
+    here.write(1, input)
+}
+
+fn write_vars(alloc: Global, here: &mut Here) -> Result<(), Jump> {
+    let vars = vars_of(alloc, here);
+    here.write(1, vars)
+}
+
+fn set(alloc: Global, here: &mut Here) -> Result<(), Jump> {
+    let three = text(alloc, b"3")?;
+    here.assign(alloc, b"a", three)
+}
+
+fn hand_copy(alloc: Global, streams: &Streams, here: &mut Here) -> Result<(), Jump> {
+    let copy = copy_of(alloc, here)?;
+    hand(streams, copy.pieces, here)
+}
+
+fn deliver_copy<V: View>(
+    alloc: Global,
+    streams: &Streams,
+    here: &mut Here,
+    desk: &mut Desk<V>,
+) -> Result<(), Jump> {
+    let copy = copy_of(alloc, here)?;
+    deliver(alloc, streams, copy.pieces, here, desk)
+}
+
+fn rejoin(alloc: Global, here: &mut Here) -> Result<(), Jump> {
+    let copy = copy_of(alloc, here)?;
+    here.rejoin(copy, Err(Jump::Exit))
+}
+
+fn rejoin_stuck(alloc: Global, here: &mut Here) -> Result<(), Jump> {
+    let copy = copy_of(alloc, here)?;
+    here.rejoin(copy, Err(Jump::End(ExecNo::Spent)))
 }
 
 fn overhear(alloc: Global, here: &mut Here) -> Result<(), Jump> {
@@ -118,38 +173,75 @@ fn overhear(alloc: Global, here: &mut Here) -> Result<(), Jump> {
     here.write(1, output)
 }
 
-fn name_fault(alloc: Global, name: &[u8]) -> Result<WordFault, NoMemory> {
-    Ok(match name {
-        b"UNSET" => WordFault::Unset(text(alloc, b"line")?),
-        b"REFUSED" => WordFault::Refused(Construct::Submake),
-        _ => WordFault::Spent,
-    })
+fn unset(alloc: Global, here: &mut Here) -> Result<(), Jump> {
+    let line = text(alloc, b"line")?;
+    Err(here.fault(WordFault::Unset(line)))
 }
 
-/// What a command in capitals does, which calls what em_exec calls.
-fn call<V: View>(
+/// What a command in capitals does.
+#[derive(Clone, Copy)]
+enum Call {
+    Input,
+    Set,
+    Vars,
+    Hand,
+    Deliver,
+    Rejoin,
+    Stuck,
+    Overhear,
+    Complain,
+    Unset,
+    Refused,
+    Spent,
+}
+
+static CALLS: [(&str, Call); 12] = [
+    ("INPUT", Call::Input),
+    ("SET", Call::Set),
+    ("VARS", Call::Vars),
+    ("HAND", Call::Hand),
+    ("DELIVER", Call::Deliver),
+    ("REJOIN", Call::Rejoin),
+    ("STUCK", Call::Stuck),
+    ("OVERHEAR", Call::Overhear),
+    ("COMPLAIN", Call::Complain),
+    ("UNSET", Call::Unset),
+    ("REFUSED", Call::Refused),
+    ("SPENT", Call::Spent),
+];
+
+fn call_of(words: &[Text]) -> Option<Call> {
+    let name = words.first()?;
+    for (known, call) in &CALLS {
+        if known.as_bytes() == name.bytes() {
+            return Some(*call);
+        }
+    }
+    None
+}
+
+/// Calls what em_exec calls.
+fn run_call<V: View>(
     alloc: Global,
-    name: &[u8],
+    call: Call,
     streams: &Streams,
     here: &mut Here,
     desk: &mut Desk<V>,
 ) -> Result<(), Jump> {
-    match name {
-        b"INPUT" => here.write(1, input_of(alloc, streams)?),
-        b"SET" => here.assign(alloc, b"a", text(alloc, b"3")?),
-        b"VARS" => here.write(1, vars_of(alloc, here)?),
-        b"HAND" => hand(streams, copy_of(alloc, here)?.pieces, here),
-        b"DELIVER" => deliver(alloc, streams, copy_of(alloc, here)?.pieces, here, desk),
-        b"REJOIN" => here.rejoin(copy_of(alloc, here)?, Err(Jump::Exit)),
-        b"STUCK" => here.rejoin(copy_of(alloc, here)?, Err(Jump::End(ExecNo::Spent))),
-        b"OVERHEAR" => overhear(alloc, here),
-        b"COMPLAIN" => here.complain(alloc, b"w", Reason::File(FileNo::TooBig)),
-        _ => Err(here.fault(name_fault(alloc, name)?)),
+    match call {
+        Call::Input => write_input(alloc, streams, here),
+        Call::Set => set(alloc, here),
+        Call::Vars => write_vars(alloc, here),
+        Call::Hand => hand_copy(alloc, streams, here),
+        Call::Deliver => deliver_copy(alloc, streams, here, desk),
+        Call::Rejoin => rejoin(alloc, here),
+        Call::Stuck => rejoin_stuck(alloc, here),
+        Call::Overhear => overhear(alloc, here),
+        Call::Complain => here.complain(alloc, b"w", Reason::File(FileNo::TooBig)),
+        Call::Unset => unset(alloc, here),
+        Call::Refused => Err(here.fault(WordFault::Refused(Construct::Submake))),
+        Call::Spent => Err(here.fault(WordFault::Spent)),
     }
-}
-
-fn is_call(name: &[u8]) -> bool {
-    name.first().is_some_and(|b| b.is_ascii_uppercase())
 }
 
 fn run_words<V: View>(
@@ -160,9 +252,9 @@ fn run_words<V: View>(
     here: &mut Here,
     desk: &mut Desk<V>,
 ) -> Result<(), Jump> {
-    match words.first() {
-        Some(name) if is_call(name.bytes()) => call(alloc, name.bytes(), streams, here, desk),
-        _ => perform(alloc, words, streams, b"in", in_loop, here, desk),
+    match call_of(words) {
+        Some(call) => run_call(alloc, call, streams, here, desk),
+        None => perform(alloc, words, streams, b"in", in_loop, here, desk),
     }
 }
 
@@ -180,69 +272,80 @@ fn run_command<V: View>(
     }
 }
 
-fn show_pieces(pieces: &[Piece], log: &mut Text) -> Result<(), NoMemory> {
+fn show_pieces(pieces: &[Piece], log: &mut Text) {
     for piece in pieces {
-        log.add(if piece.stream == 2 { b"<" } else { b"" })?;
-        log.add(piece.text.bytes())?;
-        log.add(if piece.stream == 2 { b">" } else { b"" })?;
+        let (before, behind): (&[u8], &[u8]) = if piece.stream == 2 {
+            (b"<", b">")
+        } else {
+            (b"", b"")
+        };
+        put_all(log, &[before, piece.text.bytes(), behind]);
     }
-    Ok(())
 }
 
-fn show_status(status: u8, log: &mut Text) -> Result<(), NoMemory> {
+fn show_status(status: u8, log: &mut Text) {
     if status >= 100 {
-        log.add(&[b'0' | (status / 100), b'0' | (status / 10 % 10)])?;
+        put_all(log, &[&[b'0' | (status / 100), b'0' | (status / 10 % 10)]]);
     }
-    log.add(&[b'0' | (status % 10)])
+    put_all(log, &[&[b'0' | (status % 10)]]);
 }
 
-fn show_letter(utility: &Text, letter: u8, log: &mut Text) -> Result<(), NoMemory> {
-    log.add(utility.bytes())?;
-    log.add(&[b' ', b'-', letter])
-}
-
-fn show_no(no: &ExecNo, log: &mut Text) -> Result<(), NoMemory> {
-    match no {
-        ExecNo::Refused(Construct::Letter(utility, letter)) => show_letter(utility, *letter, log),
-        ExecNo::Refused(Construct::Command(name)) => log.add(name.bytes()),
-        ExecNo::Refused(Construct::Submake) => log.add(b"emake"),
-        ExecNo::Refused(Construct::Descriptor) => log.add(b"descriptor"),
-        _ => log.add(b"?"),
-    }
-}
-
-fn show_end(ended: &Result<(), Jump>, status: u8, log: &mut Text) -> Result<(), NoMemory> {
-    match ended {
-        Err(Jump::End(ExecNo::Spent)) => return log.add(b"$"),
-        Err(Jump::End(no)) => {
-            log.add(b"!")?;
-            return show_no(no, log);
+fn show_construct(construct: &Construct, log: &mut Text) {
+    match construct {
+        Construct::Letter(utility, letter) => {
+            put_all(log, &[b"!", utility.bytes(), b" -", &[*letter]])
         }
-        _ => show_status(status, log)?,
+        Construct::Command(name) => put_all(log, &[b"!", name.bytes()]),
+        Construct::Submake => put_all(log, &[b"!emake"]),
+        Construct::Descriptor => put_all(log, &[b"!descriptor"]),
+        _ => put_all(log, &[b"!?"]),
     }
-    log.add(match ended {
+}
+
+fn show_no(no: &ExecNo, log: &mut Text) {
+    match no {
+        ExecNo::Refused(construct) => show_construct(construct, log),
+        ExecNo::Spent => put_all(log, &[b"$"]),
+        ExecNo::NoMemory => put_all(log, &[b"!?"]),
+    }
+}
+
+fn show_end(ended: &Result<(), Jump>, status: u8, log: &mut Text) {
+    let letter: &[u8] = match ended {
+        Err(Jump::End(no)) => return show_no(no, log),
         Err(Jump::Exit) => b"E",
         Err(Jump::Break) => b"B",
         Err(Jump::Continue) => b"C",
-        _ => b"",
-    })
+        Ok(()) => b"",
+    };
+    show_status(status, log);
+    put_all(log, &[letter]);
 }
 
 /// Shows what was written, and how it ended.
-fn show(ended: &Result<(), Jump>, here: &Here, log: &mut Text) -> Result<(), NoMemory> {
-    show_pieces(here.pieces.items(), log)?;
-    show_end(ended, here.shell.status, log)?;
-    log.add(b";")
+fn show(ended: &Result<(), Jump>, here: &Here, log: &mut Text) {
+    show_pieces(here.pieces.items(), log);
+    show_end(ended, here.shell.status, log);
+    put_all(log, &[b";"]);
 }
 
 /// A shell in the root that has written nothing.
 fn shell(alloc: Global) -> Result<Here, NoMemory> {
-    let shell = Shell {
-        vars: Vars::new(alloc)?,
-        cwd: Path::root(),
-        status: 0,
-    };
+    let shell = trees::shell(Vars::new(alloc)?, 0);
     Ok(Here::new(alloc, shell))
+}
+
+/// Runs a command over a desk, and shows what comes of it.
+fn show_command<V: View>(
+    alloc: Global,
+    in_loop: bool,
+    command: &str,
+    here: &mut Here,
+    desk: &mut Desk<V>,
+    log: &mut Text,
+) {
+    let ended = run_command(alloc, in_loop, command, here, desk);
+    show(&ended, here, log);
 }
 
 /// Runs a script over a desk.
@@ -252,129 +355,99 @@ fn run<V: View>(
     script: &str,
     here: &mut Here,
     desk: &mut Desk<V>,
-) -> Result<Text, NoMemory> {
+) -> Text {
     let mut log = Text::new(alloc);
     for command in script.split(';') {
-        let ended = run_command(alloc, in_loop, command, here, desk);
-        show(&ended, here, &mut log)?;
+        show_command(alloc, in_loop, command, here, desk, &mut log);
         here.pieces = Seq::new(alloc);
     }
-    Ok(log)
+    log
 }
 
-fn alone(alloc: Global) -> Result<State, NoMemory> {
-    Ok(State {
-        tree: Tree::new(alloc, 1)?,
-        outcomes: Outcomes::new(alloc),
-    })
-}
-
-/// What a script writes where a file `f`, which holds `b` and a newline, and a directory `d` are.
-fn transcript(alloc: Global, in_loop: bool, script: &str) -> Result<Text, NoMemory> {
-    let state = alone(alloc)?;
-    let mut desk = Desk::new(alloc, PlainView::new(&state), 1, 0, Fuel::new(1000));
+/// What a script writes where a file `f`, which holds `b` and a newline, and a directory `d` are, over a desk that has done nothing.
+fn run_behind<V: View>(
+    alloc: Global,
+    in_loop: bool,
+    script: &str,
+    desk: &mut Desk<V>,
+) -> Result<Text, NoMemory> {
     let mut here = shell(alloc)?;
-    let _made = run(alloc, false, "echo b >f;mkdir d", &mut here, &mut desk)?;
-    run(alloc, in_loop, script, &mut here, &mut desk)
+    run(alloc, false, "echo b >f;mkdir d", &mut here, desk);
+    Ok(run(alloc, in_loop, script, &mut here, desk))
+}
+
+fn transcript(alloc: Global, in_loop: bool, script: &str) -> Result<Text, Fail> {
+    let state = state(alloc, "")?;
+    let mut desk = Desk::new(alloc, PlainView::new(&state), 1, 0, Fuel::new(1000));
+    Ok(run_behind(alloc, in_loop, script, &mut desk)?)
+}
+
+fn is_written(alloc: Global, in_loop: bool, script: &str, wanted: &str) -> Result<bool, Fail> {
+    Ok(transcript(alloc, in_loop, script)?.bytes() == wanted.as_bytes())
 }
 
 #[test]
 fn commands_do_as_posix_says(rt: HostRuntime) -> Result<(), Fail> {
-    for (in_loop, script, wanted) in tables::SCRIPTS.iter() {
-        let given = transcript(rt.alloc(), *in_loop, script)?;
-        assert!(rt; given.bytes() == wanted.as_bytes(), "{script}");
+    for (in_loop, script, wanted) in &tables::SCRIPTS {
+        let is_written = is_written(rt.alloc(), *in_loop, script, wanted)?;
+        assert!(rt; is_written, "{script}");
     }
     Ok(())
 }
 
-/// What a script writes beside nothing, with so many units, and how many are left.
-fn costly(alloc: Global, script: &str, units: u64) -> Result<(Text, u64), NoMemory>
-    requires { units ≤ 1000 }
-{
-    let state = alone(alloc)?;
-    let mut desk = Desk::new(alloc, PlainView::new(&state), 1, 0, Fuel::new(units));
-    let log = run(alloc, false, script, &mut shell(alloc)?, &mut desk)?;
-    Ok((log, desk.left()))
-}
+/// A script, its units, what it writes, and how many units are left.
+type Costly = (&'static str, u64, &'static str, u64);
 
 /// `put` of nothing 1, the block of what was written 1, `content` of an empty file 1, `put` of two
 /// bytes 2.
+static COSTLY: [Costly; 7] = [
+    ("echo x >b", 5, "0;", 0),
+    ("echo x >b", 4, "$;", 0),
+    ("echo x >b", 1, "$;", 0),
+    ("echo x", 0, "$;", 0),
+    ("echo x >/dev/null", 2, "0;", 1),
+    ("pwd x", 1, "<emake: pwd: : extra operand\n>2;", 0),
+    ("false >/dev/null", 0, "1;", 0),
+];
+
+/// What a script writes over a desk that has done nothing.
+fn run_first<V: View>(alloc: Global, script: &str, desk: &mut Desk<V>) -> Result<Text, NoMemory> {
+    let mut here = shell(alloc)?;
+    Ok(run(alloc, false, script, &mut here, desk))
+}
+
+/// Whether a script beside nothing costs so much.
+fn is_cost(alloc: Global, row: &Costly) -> Result<bool, Fail> {
+    let state = state(alloc, "")?;
+    let view = PlainView::new(&state);
+    let mut desk = Desk::new(alloc, view, 1, 0, Fuel::new(row.1.min(1000)));
+    let log = run_first(alloc, row.0, &mut desk)?;
+    Ok(log.bytes() == row.2.as_bytes() && desk.left() == row.3)
+}
+
 #[test]
 fn a_redirected_command_costs(rt: HostRuntime) -> Result<(), Fail> {
-    for (script, units, wanted, left) in [
-        ("echo x >b", 5, "0;", 0),
-        ("echo x >b", 4, "$;", 0),
-        ("echo x >b", 1, "$;", 0),
-        ("echo x", 0, "$;", 0),
-        ("echo x >/dev/null", 2, "0;", 1),
-        ("pwd x", 1, "<emake: pwd: : extra operand\n>2;", 0),
-        ("false >/dev/null", 0, "1;", 0),
-    ] {
-        let (log, rest) = costly(rt.alloc(), script, units)?;
-        assert!(rt; log.bytes() == wanted.as_bytes(), "{script}");
-        assert_eq!(rt; rest, left);
+    for row in &COSTLY {
+        let is_cost = is_cost(rt.alloc(), row)?;
+        let script = row.0;
+        assert!(rt; is_cost, "{script}");
     }
     Ok(())
 }
 
-/// A file `f` of two bytes, or a directory of this name.
-fn with_f(alloc: Global, is_dir: bool) -> Result<State, Fail> {
-    let mut state = alone(alloc)?;
-    let node = if is_dir {
-        Node::Dir { stamp: 1 }
-    } else {
-        let body = Body::from_slice(alloc, b"b\n")?;
-        Node::File { body, stamp: 1 }
-    };
-    add(alloc, &mut state.tree, b"/f", node)?;
-    Ok(state)
-}
-
-/// Puts a node where there is none.
-fn put(tree: &mut Tree, above: &Path, path: Path, node: Node) -> Result<(), NoMemory>
-    requires tree { IsTree tree.old }
-    requires path { IsPath path }
-    requires parent { parent_text path ≡ Some above.now }
-    requires dir { kind_of (map.get tree.old above.now) ≡ kind.Dir }
-    requires absent { kind_of (map.get tree.old path) ≡ kind.Absent }
-{
-    em_tree::laws::law_put();
-    tree.set(path, node)
-}
-
-/// Puts a node at an absent path of a directory that is there, and else does nothing.
-fn add(alloc: Global, tree: &mut Tree, text: &[u8], node: Node) -> Result<(), Fail> {
-    let Some(path) = Path::from_text(alloc, text)? else {
-        return Ok(());
-    };
-    let Some(above) = path.parent(alloc)? else {
-        return Ok(());
-    };
-    let _ = path.text();
-    if tree.kind(&above) == Kind::Dir && tree.kind(&path) == Kind::Absent {
-        put(tree, &above, path, node)?;
+fn over_states(alloc: Global, states: Vec<State>, script: &str) -> Result<Text, Fail> {
+    if states.is_empty() {
+        return Err("no state".into());
     }
-    Ok(())
-}
-
-fn keep(states: &mut Vec<State>, state: State) -> Result<(), NoMemory> {
-    states.push(state)?;
-    Ok(())
+    let mut desk = Desk::new(alloc, ScriptView::new(states), 1, 0, Fuel::new(20));
+    Ok(run_first(alloc, script, &mut desk)?)
 }
 
 /// `f` is a file when it is looked at and read, and is a directory then.
-fn changed_meanwhile(alloc: Global, script: &str) -> Result<Text, Fail> {
-    let mut states = Vec::new(alloc);
-    keep(&mut states, with_f(alloc, false)?)?;
-    keep(&mut states, with_f(alloc, false)?)?;
-    states.push(with_f(alloc, true)?)?;
-    let mut desk = Desk::new(alloc, ScriptView::new(states), 1, 0, Fuel::new(20));
-    Ok(run(alloc, false, script, &mut shell(alloc)?, &mut desk)?)
-}
-
 #[test]
 fn an_append_that_is_refused_is_told_around(rt: HostRuntime) -> Result<(), Fail> {
-    let given = changed_meanwhile(rt.alloc(), "echo a 2>/dev/null >>f")?;
+    let states = states(rt.alloc(), &["b/f", "b/f", "d/f"])?;
+    let given = over_states(rt.alloc(), states, "echo a 2>/dev/null >>f")?;
     assert!(rt; given.bytes() == b"<emake: sh: f: is a directory\n>1;".as_slice());
     Ok(())
 }

@@ -110,22 +110,28 @@ fn letter(outcome: &Outcome) -> char {
     }
 }
 
-fn recipe_of(alloc: Global, text: &str) -> Result<Seq<RecipeLine>, NoMemory> {
+fn line_of(alloc: Global, text: &str) -> Result<RecipeLine, NoMemory> {
     let file = Text::from_slice(alloc, b"Makefile")?;
     let text = Text::from_slice(alloc, text.as_bytes())?;
     let place = Place { file, line: 2 };
+    Ok(RecipeLine { place, text })
+}
+
+fn recipe_of(alloc: Global, text: &str) -> Result<Seq<RecipeLine>, NoMemory> {
     let mut recipe = Seq::new(alloc);
-    recipe.push(RecipeLine { place, text })?;
+    recipe.push(line_of(alloc, text)?)?;
     Ok(recipe)
 }
 
 fn plan_of(alloc: Global, text: &str) -> Result<PlanJob, NoMemory> {
+    let target = Text::from_slice(alloc, b"all")?;
+    let recipe = recipe_of(alloc, text)?;
     Ok(PlanJob {
-        target: Text::from_slice(alloc, b"all")?,
+        target,
         normal: Seq::new(alloc),
         order: Seq::new(alloc),
         stem: Text::new(alloc),
-        recipe: Some(recipe_of(alloc, text)?),
+        recipe: Some(recipe),
         ruled: true,
         phony: false,
         needed_by: None,
@@ -145,8 +151,8 @@ fn flags(dry: bool) -> Flags {
 }
 
 fn spec_of(alloc: Global, row: &Row) -> Result<JobSpec, NoMemory> {
-    let plan = plan_of(alloc, row.0)?;
     let vars = SharedVars::new(alloc, Vars::new(alloc)?)?;
+    let plan = plan_of(alloc, row.0)?;
     Ok(JobSpec::new(Job {
         job: 0,
         base: 5,
@@ -162,11 +168,15 @@ fn spec_of(alloc: Global, row: &Row) -> Result<JobSpec, NoMemory> {
     }))
 }
 
-/// Through the bound.
-fn run_of<W: Work<JobSpec>>(alloc: Global, work: &W, row: &Row) -> Result<Run<JobSpec>, NoMemory> {
+fn state(alloc: Global) -> Result<State, NoMemory> {
     let tree = Tree::new(alloc, 5)?;
     let outcomes = Outcomes::new(alloc);
-    let state = State { tree, outcomes };
+    Ok(State { tree, outcomes })
+}
+
+/// Through the bound.
+fn run_of<W: Work<JobSpec>>(alloc: Global, work: &W, row: &Row) -> Result<Run<JobSpec>, NoMemory> {
+    let state = state(alloc)?;
     let spec = spec_of(alloc, row)?;
     work.run(alloc, &spec, PlainView::new(&state))
 }

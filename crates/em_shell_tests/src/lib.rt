@@ -8,4 +8,6 @@ mod job;
 #[cfg(test)]
 mod script;
 #[cfg(test)]
+mod trees;
+#[cfg(test)]
 mod word;

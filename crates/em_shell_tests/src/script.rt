@@ -1,30 +1,14 @@
 //! What is expected is a text: what was written, then `|` and the status, or why there is none: `!` and a letter, `$` for spent fuel.
-use em_base::{Construct, Fuel, NoMemory, Text};
-use em_path::Path;
+use crate::trees::{put_all, shell, state};
+use em_base::{Construct, Fuel, Text};
 use em_script::Line;
-use em_tree::{Outcomes, State, Tree};
 use em_vars::Vars;
 use em_view::{Desk, ExecNo, PlainView, View};
-use em_word::Shell;
 use std::alloc::Global;
 use std::test::Fail;
 use tables::{COSTS, LINES};
 
 mod tables;
-
-fn state(alloc: Global) -> Result<State, NoMemory> {
-    let tree = Tree::new(alloc, 1)?;
-    let outcomes = Outcomes::new(alloc);
-    Ok(State { tree, outcomes })
-}
-
-fn shell(alloc: Global) -> Result<Shell, NoMemory> {
-    Ok(Shell {
-        vars: Vars::new(alloc)?,
-        cwd: Path::root(),
-        status: 0,
-    })
-}
 
 fn name_of(construct: &Construct) -> &'static [u8] {
     match construct {
@@ -39,34 +23,56 @@ fn name_of(construct: &Construct) -> &'static [u8] {
     }
 }
 
-fn say_end(alloc: Global, out: &mut Text, end: &Result<u8, ExecNo>) -> Result<(), Fail> {
-    match end {
-        Ok(status) => out.add(format!(in alloc; "|{status}")?.as_bytes())?,
-        Err(ExecNo::Refused(construct)) => out.add(name_of(construct))?,
-        Err(ExecNo::Spent) => out.add(b"$")?,
-        Err(ExecNo::NoMemory) => out.add(b"?")?,
-    }
+fn say_status(alloc: Global, out: &mut Text, status: u8) -> Result<(), Fail> {
+    let digits = format!(in alloc; "|{status}")?;
+    put_all(out, &[digits.as_bytes()]);
     Ok(())
 }
 
+fn no_of(no: &ExecNo) -> &'static [u8] {
+    match no {
+        ExecNo::Refused(construct) => name_of(construct),
+        ExecNo::Spent => b"$",
+        ExecNo::NoMemory => b"?",
+    }
+}
+
+fn say_end(alloc: Global, out: &mut Text, end: &Result<u8, ExecNo>) -> Result<(), Fail> {
+    match end {
+        Ok(status) => say_status(alloc, out, *status),
+        Err(no) => {
+            put_all(out, &[no_of(no)]);
+            Ok(())
+        }
+    }
+}
+
 /// Runs a line over a desk.
+fn run<V: View>(
+    alloc: Global,
+    line: &Line,
+    desk: &mut Desk<V>,
+    out: &mut Text,
+) -> Result<(), Fail> {
+    let mut shell = shell(Vars::new(alloc)?, 0);
+    let end = line.run(alloc, &mut shell, desk, out);
+    say_end(alloc, out, &end)
+}
+
+/// Runs a line over a desk, once it is read.
 fn on_desk<V: View>(alloc: Global, line: &[u8], desk: &mut Desk<V>) -> Result<Text, Fail> {
-    let mut out = Text::new(alloc);
-    let mut shell = shell(alloc)?;
     let line = Line::read(alloc, line)?;
-    let end = line.run(alloc, &mut shell, desk, &mut out);
-    say_end(alloc, &mut out, &end)?;
+    let mut out = Text::new(alloc);
+    run(alloc, &line, desk, &mut out)?;
     Ok(out)
 }
 
 /// Runs a line in an empty tree, with so many units.
 fn told(alloc: Global, line: &[u8], units: u64) -> Result<Text, Fail> {
-    let state = state(alloc)?;
+    let state = state(alloc, "")?;
     let view = PlainView::new(&state);
     let mut desk = Desk::new(alloc, view, 1, 0, Fuel::new(units.min(9000)));
-    let told = on_desk(alloc, line, &mut desk)?;
-    let _ = desk.close();
-    Ok(told)
+    on_desk(alloc, line, &mut desk)
 }
 
 /// Whether a line is told so.
@@ -102,22 +108,24 @@ fn units_are_counted(rt: HostRuntime) -> Result<(), Fail> {
     Ok(())
 }
 
+fn put_times(line: &mut Text, times: usize, bytes: &[u8]) {
+    for _ in 0..times {
+        put_all(line, &[bytes]);
+    }
+}
+
 /// A command in so many subshells.
-fn nested(alloc: Global, levels: usize) -> Result<Text, NoMemory> {
+fn nested(alloc: Global, levels: usize) -> Text {
     let mut line = Text::new(alloc);
-    for _ in 0..levels {
-        line.add(b"(")?;
-    }
-    line.add(b":")?;
-    for _ in 0..levels {
-        line.add(b")")?;
-    }
-    Ok(line)
+    put_times(&mut line, levels, b"(");
+    put_all(&mut line, &[b":"]);
+    put_times(&mut line, levels, b")");
+    line
 }
 
 /// Whether so many subshells come to this.
 fn nest_is(alloc: Global, levels: usize, wanted: &[u8]) -> Result<bool, Fail> {
-    let line = nested(alloc, levels)?;
+    let line = nested(alloc, levels);
     let told = told(alloc, line.bytes(), 9)?;
     Ok(told.bytes() == wanted)
 }

@@ -3,22 +3,40 @@
 ghost use Rattle.std.specs.Prelude.{◌≡◌, true, IfOk};
 ghost use Rattle.em_word.specs.Held.{IsReady};
 
+use crate::trees::{self, put_all, put_part, state, states};
 use em_base::{Fuel, NoMemory, Seq, Text};
 use em_glob::Glyph;
-use em_path::Path;
 use em_syntax::{Script, Value, Word, WordPiece, WordWhat};
-use em_tree::{Entry, Question};
+use em_tree::{Entry, Question, State};
 use em_vars::{Flavour, Origin, Var, Vars};
 use em_view::{Desk, PlainView, ScriptView, View};
 use em_word::{Expander, Mode, Shell, WordFault, WordTurn};
 use std::alloc::Global;
 use std::test::Fail;
 
-mod trees;
+/// A piece of a word; the first of each tells whether it is quoted.
+#[derive(Clone, Copy)]
+enum Part {
+    Bytes(bool, &'static str),
+    /// A value of the variable `x`: its form, and its argument, which is one piece, not quoted; `None` is no argument.
+    Value(bool, &'static str, Option<&'static str>),
+    /// The output of an empty script, not quoted.
+    Output,
+}
 
-fn bytes(alloc: Global, quoted: bool, text: &str) -> Result<WordPiece, NoMemory> {
-    let what = WordWhat::Bytes(Text::from_slice(alloc, text.as_bytes())?);
+fn text(alloc: Global, text: &str) -> Result<Text, NoMemory> {
+    Text::from_slice(alloc, text.as_bytes())
+}
+
+fn bytes(alloc: Global, quoted: bool, bytes: &str) -> Result<WordPiece, NoMemory> {
+    let what = WordWhat::Bytes(text(alloc, bytes)?);
     Ok(WordPiece { quoted, what })
+}
+
+fn one(alloc: Global, piece: WordPiece) -> Result<Word, NoMemory> {
+    let mut pieces = Vec::new(alloc);
+    pieces.push(piece)?;
+    Ok(Word { pieces })
 }
 
 fn argument(alloc: Global, text: Option<&str>) -> Result<Option<Word>, NoMemory> {
@@ -28,21 +46,17 @@ fn argument(alloc: Global, text: Option<&str>) -> Result<Option<Word>, NoMemory>
     }
 }
 
-fn named(quoted: bool, name: Text, form: Text, arg: Option<Word>) -> WordPiece {
-    let what = WordWhat::Value(Value { name, form, arg });
-    WordPiece { quoted, what }
-}
-
-/// A value of the variable `x`. The argument is one piece, not quoted; `None` is no argument.
-fn value(
+/// A value of `x` with this argument.
+fn with_argument(
     alloc: Global,
     quoted: bool,
     form: &str,
-    arg: Option<&str>,
+    arg: Option<Word>,
 ) -> Result<WordPiece, NoMemory> {
-    let form = Text::from_slice(alloc, form.as_bytes())?;
-    let name = Text::from_slice(alloc, b"x")?;
-    Ok(named(quoted, name, form, argument(alloc, arg)?))
+    let form = text(alloc, form)?;
+    let name = text(alloc, "x")?;
+    let what = WordWhat::Value(Value { name, form, arg });
+    Ok(WordPiece { quoted, what })
 }
 
 fn output(alloc: Global) -> WordPiece {
@@ -54,44 +68,42 @@ fn output(alloc: Global) -> WordPiece {
     }
 }
 
-fn one(alloc: Global, piece: WordPiece) -> Result<Word, NoMemory> {
+fn piece(alloc: Global, part: &Part) -> Result<WordPiece, NoMemory> {
+    match part {
+        Part::Bytes(quoted, text) => bytes(alloc, *quoted, text),
+        Part::Value(quoted, form, arg) => {
+            with_argument(alloc, *quoted, form, argument(alloc, *arg)?)
+        }
+        Part::Output => Ok(output(alloc)),
+    }
+}
+
+fn word(alloc: Global, parts: &[Part]) -> Result<Word, NoMemory> {
     let mut pieces = Vec::new(alloc);
-    pieces.push(piece)?;
+    for part in parts {
+        pieces.push(piece(alloc, part)?)?;
+    }
     Ok(Word { pieces })
 }
 
-/// The word with one piece more.
-fn and(word: Word, piece: WordPiece) -> Result<Word, NoMemory> {
-    let mut word = word;
-    word.pieces.push(piece)?;
-    Ok(word)
-}
-
-/// Between `<` and `>`.
-fn framed(alloc: Global, piece: WordPiece) -> Result<Word, NoMemory> {
-    let word = and(one(alloc, bytes(alloc, false, "<")?)?, piece)?;
-    and(word, bytes(alloc, false, ">")?)
-}
-
-fn set(alloc: Global, vars: &mut Vars, name: Text, value: &[u8]) -> Result<bool, NoMemory> {
-    let text = Text::from_slice(alloc, value)?;
-    let var = Var {
+fn variable(text: Text) -> Var {
+    Var {
         flavour: Flavour::Simple,
         origin: Origin::Automatic,
         text,
         exported: false,
-    };
-    vars.set(name, var)
+    }
+}
+
+fn set(alloc: Global, vars: &mut Vars, name: Text, value: &[u8]) -> Result<(), NoMemory> {
+    let text = Text::from_slice(alloc, value)?;
+    vars.set(name, variable(text))?;
+    Ok(())
 }
 
 fn variables(alloc: Global, x: &str) -> Result<Vars, NoMemory> {
     let mut vars = Vars::new(alloc)?;
-    set(
-        alloc,
-        &mut vars,
-        Text::from_slice(alloc, b"x")?,
-        x.as_bytes(),
-    )?;
+    set(alloc, &mut vars, text(alloc, "x")?, x.as_bytes())?;
     Ok(vars)
 }
 
@@ -100,66 +112,45 @@ fn shell(alloc: Global, x: Option<&str>) -> Result<Shell, NoMemory> {
         Some(value) => variables(alloc, value)?,
         None => Vars::new(alloc)?,
     };
-    Ok(Shell {
-        vars,
-        cwd: Path::root(),
-        status: 3,
-    })
+    Ok(trees::shell(vars, 3))
 }
 
-fn say_names(text: &mut Text, names: &Seq<Text>) -> Result<(), NoMemory> {
+fn say_names(text: &mut Text, names: &Seq<Text>) {
     for name in names.items() {
-        text.add(b"[")?;
-        text.add(name.bytes())?;
-        text.add(b"]")?;
+        put_all(text, &[b"[", name.bytes(), b"]"]);
     }
-    Ok(())
 }
 
-fn say_pattern(text: &mut Text, glyphs: &Seq<Glyph>) -> Result<(), NoMemory> {
+fn say_glyph(text: &mut Text, glyph: &Glyph) {
+    if glyph.quoted {
+        put_part(text, b"'");
+    }
+    put_part(text, &[glyph.byte]);
+}
+
+fn say_pattern(text: &mut Text, glyphs: &Seq<Glyph>) {
     for glyph in glyphs.items() {
-        if glyph.quoted {
-            text.add(b"'")?;
-        }
-        text.add(&[glyph.byte])?;
-    }
-    Ok(())
-}
-
-fn say_fault(text: &mut Text, fault: &WordFault) -> Result<(), NoMemory> {
-    text.add(b"!")?;
-    match fault {
-        WordFault::Unset(line) => text.add(line.bytes()),
-        WordFault::Refused(_) => text.add(b"refused"),
-        WordFault::Spent => text.add(b"spent"),
-        WordFault::NoMemory => text.add(b"memory"),
+        say_glyph(text, glyph);
     }
 }
 
-fn say_question(text: &mut Text, question: &Question) -> Result<(), NoMemory> {
-    match question {
-        Question::Kind(path) => {
-            text.add(b" K")?;
-            text.add(path.text())
-        }
-        Question::Names(path) => {
-            text.add(b" N")?;
-            text.add(path.text())
-        }
-        _ => text.add(b" ?"),
-    }
+fn say_fault(text: &mut Text, fault: &WordFault) {
+    let (name, line): (&[u8], &[u8]) = match fault {
+        WordFault::Unset(line) => (b"!", line.bytes()),
+        WordFault::Refused(_) => (b"!refused", b""),
+        WordFault::Spent => (b"!spent", b""),
+        WordFault::NoMemory => (b"!memory", b""),
+    };
+    put_all(text, &[name, line]);
 }
 
-fn say_set(text: &mut Text, name: &[u8], value: &[u8]) -> Result<(), NoMemory> {
-    text.add(name)?;
-    text.add(b"=")?;
-    text.add(value)?;
-    text.add(b";")
-}
-
-fn say_number(alloc: Global, text: &mut Text, number: usize) -> Result<(), Fail> {
-    text.add(format!(in alloc; "({number})")?.as_bytes())?;
-    Ok(())
+fn say_question(text: &mut Text, question: &Question) {
+    let (letter, path): (&[u8], &[u8]) = match question {
+        Question::Kind(path) => (b" K", path.text()),
+        Question::Names(path) => (b" N", path.text()),
+        _ => (b" ?", b""),
+    };
+    put_all(text, &[letter, path]);
 }
 
 /// Sets the variable that a turn names.
@@ -170,12 +161,18 @@ fn assign(
     name: Text,
     value: &[u8],
 ) -> Result<(), NoMemory> {
-    say_set(text, name.bytes(), value)?;
-    set(alloc, vars, name, value)?;
-    Ok(())
+    put_all(text, &[name.bytes(), b"=", value, b";"]);
+    set(alloc, vars, name, value)
 }
 
-/// Takes a turn; each output is `q` and a newline. Whether the word goes on.
+/// The output of this number: `q` and a newline.
+fn given(alloc: Global, text: &mut Text, number: usize) -> Result<Text, Fail> {
+    let digits = format!(in alloc; "({number})")?;
+    put_all(text, &[digits.as_bytes()]);
+    Ok(Text::from_slice(alloc, b"q\n")?)
+}
+
+/// Takes a turn. Whether the word goes on.
 fn turn<V: View>(
     alloc: Global,
     expander: &mut Expander,
@@ -188,11 +185,11 @@ fn turn<V: View>(
 {
     match expander.fields(alloc, shell, desk) {
         Ok(WordTurn::Done(names)) => {
-            say_names(text, &names)?;
+            say_names(text, &names);
             Ok(false)
         }
         Ok(WordTurn::Pattern(glyphs)) => {
-            say_pattern(text, &glyphs)?;
+            say_pattern(text, &glyphs);
             Ok(false)
         }
         Ok(WordTurn::Set(name, value)) => {
@@ -200,12 +197,12 @@ fn turn<V: View>(
             Ok(true)
         }
         Ok(WordTurn::Output(number)) => {
-            say_number(alloc, text, number)?;
-            expander.give(Text::from_slice(alloc, b"q\n")?);
+            let output = given(alloc, text, number)?;
+            expander.give(output);
             Ok(true)
         }
         Err(fault) => {
-            say_fault(text, &fault)?;
+            say_fault(text, &fault);
             Ok(false)
         }
     }
@@ -229,235 +226,343 @@ fn turns<V: View>(
     Ok(())
 }
 
-fn say_usage(text: &mut Text, usage: &[Entry]) -> Result<(), NoMemory> {
+fn say_usage(text: &mut Text, usage: &[Entry]) {
     for entry in usage {
-        say_question(text, &entry.question)?;
+        say_question(text, &entry.question);
     }
-    text.add(b"|")
 }
 
-fn told<V: View>(
-    alloc: Global,
-    view: V,
-    word: &Word,
-    mode: Mode,
-    x: Option<&str>,
-    units: u64,
-) -> Result<Text, Fail> {
-    let mut shell = shell(alloc, x)?;
-    let mut desk = Desk::new(alloc, view, 1, 0, Fuel::new(units.min(100)));
-    let mut text = Text::new(alloc);
-    turns(alloc, word, mode, &mut shell, &mut desk, &mut text)?;
+/// What was asked over a desk, and the units used.
+fn say_desk<V: View>(alloc: Global, desk: Desk<V>, text: &mut Text) -> Result<(), Fail> {
     let (usage, _, used) = desk.close();
-    say_usage(&mut text, &usage)?;
-    text.add(format!(in alloc; "{used}")?.as_bytes())?;
+    say_usage(text, &usage);
+    let digits = format!(in alloc; "|{used}")?;
+    put_all(text, &[digits.as_bytes()]);
+    Ok(())
+}
+
+/// How a word is expanded, and the text of `x`.
+type Manner<'a> = (Mode, Option<&'a str>);
+
+fn expand<V: View>(
+    alloc: Global,
+    word: &Word,
+    manner: Manner,
+    desk: &mut Desk<V>,
+    text: &mut Text,
+) -> Result<(), Fail> {
+    let mut shell = shell(alloc, manner.1)?;
+    turns(alloc, word, manner.0, &mut shell, desk, text)
+}
+
+fn told<V: View>(alloc: Global, desk: Desk<V>, word: &Word, manner: Manner) -> Result<Text, Fail> {
+    let mut desk = desk;
+    let mut text = Text::new(alloc);
+    expand(alloc, word, manner, &mut desk, &mut text)?;
+    say_desk(alloc, desk, &mut text)?;
     Ok(text)
 }
 
-/// Each form with its argument, the text of `x`, and whether it is quoted.
+/// What is told of a word, with so many units.
+fn told_on(
+    alloc: Global,
+    state: &State,
+    word: &Word,
+    manner: Manner,
+    units: u64,
+) -> Result<Text, Fail> {
+    let view = PlainView::new(state);
+    let desk = Desk::new(alloc, view, 1, 0, Fuel::new(units.min(100)));
+    told(alloc, desk, word, manner)
+}
+
+/// The same, of the word of these parts.
+fn told_of(
+    alloc: Global,
+    state: &State,
+    parts: &[Part],
+    manner: Manner,
+    units: u64,
+) -> Result<Text, Fail> {
+    let word = word(alloc, parts)?;
+    told_on(alloc, state, &word, manner, units)
+}
+
+/// A form, its argument, the text of `x`, whether it is quoted, and what is expected.
+type Form = (
+    &'static str,
+    Option<&'static str>,
+    Option<&'static str>,
+    bool,
+    &'static str,
+);
+
+static FORMS: [Form; 33] = [
+    ("", None, None, false, "[<>]|1"),
+    ("", None, Some(""), true, "[<>]|1"),
+    ("", None, Some("a  b"), false, "[<a][b>]|2"),
+    ("", None, Some("a  b"), true, "[<a  b>]|2"),
+    ("", None, Some(" a\tb\n"), false, "[<][a][b][>]|2"),
+    ("#", None, Some("abc"), false, "[<3>]|2"),
+    ("#", None, None, false, "[<0>]|2"),
+    ("-", Some("w"), None, false, "[<w>]|2"),
+    ("-", Some("a b"), None, false, "[<a][b>]|2"),
+    ("-", Some("w"), Some(""), false, "[<>]|1"),
+    ("-", Some("w"), Some("v"), false, "[<v>]|2"),
+    (":-", Some("w"), Some(""), false, "[<w>]|2"),
+    (":-", Some("w"), Some("v"), false, "[<v>]|2"),
+    ("=", Some("w"), None, false, "x=w;[<w>]|2"),
+    ("=", Some("a b"), None, false, "x=a b;[<a][b>]|2"),
+    ("=", Some("w"), Some(""), false, "[<>]|1"),
+    (":=", Some("w"), Some(""), true, "x=w;[<w>]|2"),
+    ("+", Some("w"), None, false, "[<>]|1"),
+    ("+", Some("w"), Some(""), false, "[<w>]|2"),
+    (":+", Some("w"), Some(""), false, "[<>]|1"),
+    (":+", Some("w"), Some("v"), false, "[<w>]|2"),
+    ("?", Some("w"), None, false, "!emake: sh: x: w\n|1"),
+    ("?", Some("w"), Some(""), false, "[<>]|1"),
+    (":?", Some("w"), Some(""), false, "!emake: sh: x: w\n|1"),
+    ("%", Some(".*"), Some("a.b.c"), false, "[<a.b>]|2"),
+    ("%%", Some(".*"), Some("a.b.c"), false, "[<a>]|2"),
+    ("#", Some("*."), Some("a.b.c"), false, "[<b.c>]|2"),
+    ("##", Some("*."), Some("a.b.c"), false, "[<c>]|2"),
+    ("%", Some("z"), Some("ab"), false, "[<ab>]|2"),
+    ("%%", Some("*"), Some("ab"), false, "[<>]|1"),
+    ("#", Some(""), Some("ab"), false, "[<ab>]|2"),
+    ("/", Some("w"), None, false, "!refused|1"),
+    ("", Some("w"), None, false, "!refused|1"),
+];
+
+/// Whether the value between `<` and `>` is told so.
+fn is_form(alloc: Global, state: &State, row: &Form) -> Result<bool, Fail> {
+    let parts = [
+        Part::Bytes(false, "<"),
+        Part::Value(row.3, row.0, row.1),
+        Part::Bytes(false, ">"),
+    ];
+    let given = told_of(alloc, state, &parts, (Mode::Fields, row.2), 100)?;
+    Ok(given.bytes() == row.4.as_bytes())
+}
+
 #[test]
 fn values_have_their_forms(rt: HostRuntime) -> Result<(), Fail> {
-    let alloc = rt.alloc();
-    let state = trees::state(alloc, "")?;
-    for (form, arg, x, quoted, wanted) in [
-        ("", None, None, false, "[<>]|1"),
-        ("", None, Some(""), true, "[<>]|1"),
-        ("", None, Some("a  b"), false, "[<a][b>]|2"),
-        ("", None, Some("a  b"), true, "[<a  b>]|2"),
-        ("", None, Some(" a\tb\n"), false, "[<][a][b][>]|2"),
-        ("#", None, Some("abc"), false, "[<3>]|2"),
-        ("#", None, None, false, "[<0>]|2"),
-        ("-", Some("w"), None, false, "[<w>]|2"),
-        ("-", Some("a b"), None, false, "[<a][b>]|2"),
-        ("-", Some("w"), Some(""), false, "[<>]|1"),
-        ("-", Some("w"), Some("v"), false, "[<v>]|2"),
-        (":-", Some("w"), Some(""), false, "[<w>]|2"),
-        (":-", Some("w"), Some("v"), false, "[<v>]|2"),
-        ("=", Some("w"), None, false, "x=w;[<w>]|2"),
-        ("=", Some("a b"), None, false, "x=a b;[<a][b>]|2"),
-        ("=", Some("w"), Some(""), false, "[<>]|1"),
-        (":=", Some("w"), Some(""), true, "x=w;[<w>]|2"),
-        ("+", Some("w"), None, false, "[<>]|1"),
-        ("+", Some("w"), Some(""), false, "[<w>]|2"),
-        (":+", Some("w"), Some(""), false, "[<>]|1"),
-        (":+", Some("w"), Some("v"), false, "[<w>]|2"),
-        ("?", Some("w"), None, false, "!emake: sh: x: w\n|1"),
-        ("?", Some("w"), Some(""), false, "[<>]|1"),
-        (":?", Some("w"), Some(""), false, "!emake: sh: x: w\n|1"),
-        ("%", Some(".*"), Some("a.b.c"), false, "[<a.b>]|2"),
-        ("%%", Some(".*"), Some("a.b.c"), false, "[<a>]|2"),
-        ("#", Some("*."), Some("a.b.c"), false, "[<b.c>]|2"),
-        ("##", Some("*."), Some("a.b.c"), false, "[<c>]|2"),
-        ("%", Some("z"), Some("ab"), false, "[<ab>]|2"),
-        ("%%", Some("*"), Some("ab"), false, "[<>]|1"),
-        ("#", Some(""), Some("ab"), false, "[<ab>]|2"),
-        ("/", Some("w"), None, false, "!refused|1"),
-        ("", Some("w"), None, false, "!refused|1"),
-    ] {
-        let word = framed(alloc, value(alloc, quoted, form, arg)?)?;
-        let given = told(alloc, PlainView::new(&state), &word, Mode::Fields, x, 100)?;
-        assert!(rt; given.bytes() == wanted.as_bytes());
+    let state = state(rt.alloc(), "")?;
+    for row in &FORMS {
+        assert!(rt; is_form(rt.alloc(), &state, row)?);
     }
     Ok(())
 }
 
-/// Whole words of one piece: its bytes, whether they are quoted, how the word is expanded, the units, and what is expected.
+/// A word of one piece: its bytes, whether they are quoted, how the word is expanded, the units, and what is expected.
+type Plain = (&'static str, bool, Mode, u64, &'static str);
+
+static TEXTS: [Plain; 20] = [
+    ("*.c", false, Mode::Fields, 100, "[a.c][b.c] N/|2"),
+    ("*.h", false, Mode::Fields, 100, "[*.h] N/|2"),
+    (".*", false, Mode::Fields, 100, "[.c] N/|2"),
+    ("*/", false, Mode::Fields, 100, "[a.c][b.c][d] N/|2"),
+    ("d//x*", false, Mode::Fields, 100, "[d/x1] K/d N/d|3"),
+    ("./*.c", false, Mode::Fields, 100, "[./a.c][./b.c] K/ N/|3"),
+    (
+        "../*.c",
+        false,
+        Mode::Fields,
+        100,
+        "[../a.c][../b.c] K/ N/|3",
+    ),
+    ("..", false, Mode::Fields, 100, "[..]|0"),
+    ("*.c", true, Mode::Fields, 100, "[*.c]|0"),
+    ("*.c", false, Mode::Whole, 100, "[*.c]|0"),
+    ("a b", true, Mode::Fields, 100, "[a b]|0"),
+    ("a b", false, Mode::Fields, 100, "[a][b]|0"),
+    ("a b", false, Mode::Whole, 100, "[a b]|0"),
+    ("", true, Mode::Fields, 100, "[]|0"),
+    ("", false, Mode::Fields, 100, "|0"),
+    ("", false, Mode::Whole, 100, "[]|0"),
+    ("[", false, Mode::Fields, 100, "[[]|0"),
+    ("a*", false, Mode::Pattern, 100, "a*|0"),
+    ("a*", true, Mode::Pattern, 100, "'a'*|0"),
+    ("*.c", false, Mode::Fields, 1, "!spent N/|1"),
+];
+
+fn is_plain(alloc: Global, state: &State, row: &Plain) -> Result<bool, Fail> {
+    let parts = [Part::Bytes(row.1, row.0)];
+    let given = told_of(alloc, state, &parts, (row.2, None), row.3)?;
+    Ok(given.bytes() == row.4.as_bytes())
+}
+
 #[test]
 fn texts_are_fields_names_or_patterns(rt: HostRuntime) -> Result<(), Fail> {
-    let alloc = rt.alloc();
-    let state = trees::state(alloc, "f/a.c f/.c f/b.c d/d f/d/x1")?;
-    for (text, quoted, mode, units, wanted) in [
-        ("*.c", false, Mode::Fields, 100, "[a.c][b.c] N/|2"),
-        ("*.h", false, Mode::Fields, 100, "[*.h] N/|2"),
-        (".*", false, Mode::Fields, 100, "[.c] N/|2"),
-        ("*/", false, Mode::Fields, 100, "[a.c][b.c][d] N/|2"),
-        ("d//x*", false, Mode::Fields, 100, "[d/x1] K/d N/d|3"),
-        ("./*.c", false, Mode::Fields, 100, "[./a.c][./b.c] K/ N/|3"),
-        (
-            "../*.c",
-            false,
-            Mode::Fields,
-            100,
-            "[../a.c][../b.c] K/ N/|3",
-        ),
-        ("..", false, Mode::Fields, 100, "[..]|0"),
-        ("*.c", true, Mode::Fields, 100, "[*.c]|0"),
-        ("*.c", false, Mode::Whole, 100, "[*.c]|0"),
-        ("a b", true, Mode::Fields, 100, "[a b]|0"),
-        ("a b", false, Mode::Fields, 100, "[a][b]|0"),
-        ("a b", false, Mode::Whole, 100, "[a b]|0"),
-        ("", true, Mode::Fields, 100, "[]|0"),
-        ("", false, Mode::Fields, 100, "|0"),
-        ("", false, Mode::Whole, 100, "[]|0"),
-        ("[", false, Mode::Fields, 100, "[[]|0"),
-        ("a*", false, Mode::Pattern, 100, "a*|0"),
-        ("a*", true, Mode::Pattern, 100, "'a'*|0"),
-        ("*.c", false, Mode::Fields, 1, "!spent N/|1"),
-    ] {
-        let word = one(alloc, bytes(alloc, quoted, text)?)?;
-        let given = told(alloc, PlainView::new(&state), &word, mode, None, units)?;
-        assert!(rt; given.bytes() == wanted.as_bytes());
+    let state = state(rt.alloc(), "f/a.c f/.c f/b.c d/d f/d/x1")?;
+    for row in &TEXTS {
+        assert!(rt; is_plain(rt.alloc(), &state, row)?);
     }
     Ok(())
 }
 
-/// A piece: `b` and bytes, `q` and quoted ones, `v` the value of `x`, `V` the same quoted.
-fn piece(alloc: Global, code: &str) -> Result<WordPiece, NoMemory> {
-    if let Some(text) = code.strip_prefix('b') {
-        return bytes(alloc, false, text);
-    }
-    if let Some(text) = code.strip_prefix('q') {
-        return bytes(alloc, true, text);
-    }
-    value(alloc, code == "V", "", None)
-}
-
-fn coded(alloc: Global, codes: &str) -> Result<Word, NoMemory> {
-    let mut pieces = Vec::new(alloc);
-    for code in codes.split(' ') {
-        pieces.push(piece(alloc, code)?)?;
-    }
-    Ok(Word { pieces })
-}
+/// A word, the text of `x`, the units, and what is expected.
+type Mixed = (&'static [Part], Option<&'static str>, u64, &'static str);
 
 /// Where quotes begin and end within a word.
+static QUOTES: [Mixed; 8] = [
+    (
+        &[
+            Part::Bytes(false, "a"),
+            Part::Value(true, "", None),
+            Part::Bytes(false, "b"),
+        ],
+        Some("c  d"),
+        100,
+        "[ac  db]|2",
+    ),
+    (
+        &[
+            Part::Bytes(false, "a"),
+            Part::Value(false, "", None),
+            Part::Bytes(true, "b"),
+        ],
+        Some(" c "),
+        100,
+        "[a][c][b]|2",
+    ),
+    (
+        &[Part::Bytes(true, ""), Part::Value(false, "", None)],
+        Some(" "),
+        100,
+        "[]|2",
+    ),
+    (
+        &[Part::Value(false, "", None), Part::Bytes(true, "")],
+        Some(" "),
+        100,
+        "[]|2",
+    ),
+    (
+        &[
+            Part::Bytes(true, ""),
+            Part::Value(false, "", None),
+            Part::Bytes(true, ""),
+        ],
+        Some(" "),
+        100,
+        "[][]|2",
+    ),
+    (
+        &[Part::Bytes(true, ""), Part::Bytes(true, "")],
+        None,
+        100,
+        "[]|0",
+    ),
+    (
+        &[Part::Value(false, "", None), Part::Value(false, "", None)],
+        None,
+        100,
+        "|2",
+    ),
+    (
+        &[Part::Value(true, "", None), Part::Value(false, "", None)],
+        None,
+        100,
+        "[]|2",
+    ),
+];
+
+fn is_mixed(alloc: Global, state: &State, row: &Mixed) -> Result<bool, Fail> {
+    let given = told_of(alloc, state, row.0, (Mode::Fields, row.1), row.2)?;
+    Ok(given.bytes() == row.3.as_bytes())
+}
+
 #[test]
 fn fields_part_outside_of_quotes(rt: HostRuntime) -> Result<(), Fail> {
-    let alloc = rt.alloc();
-    let state = trees::state(alloc, "")?;
-    for (codes, x, wanted) in [
-        ("ba V bb", Some("c  d"), "[ac  db]|2"),
-        ("ba v qb", Some(" c "), "[a][c][b]|2"),
-        ("q v", Some(" "), "[]|2"),
-        ("v q", Some(" "), "[]|2"),
-        ("q v q", Some(" "), "[][]|2"),
-        ("q q", None, "[]|0"),
-        ("v v", None, "|2"),
-        ("V v", None, "[]|2"),
-    ] {
-        let word = coded(alloc, codes)?;
-        let given = told(alloc, PlainView::new(&state), &word, Mode::Fields, x, 100)?;
-        assert!(rt; given.bytes() == wanted.as_bytes());
+    let state = state(rt.alloc(), "")?;
+    for row in &QUOTES {
+        assert!(rt; is_mixed(rt.alloc(), &state, row)?);
+    }
+    Ok(())
+}
+
+/// `a${x=z}$(c)`, with units as they are given: a value is set before an output is asked for.
+static SET_FIRST: [(u64, &str); 6] = [
+    (100, "x=z;(0)[azq]|4"),
+    (4, "x=z;(0)[azq]|4"),
+    (3, "x=z;(0)!spent|3"),
+    (2, "x=z;!spent|2"),
+    (1, "!spent|1"),
+    (0, "!spent|0"),
+];
+
+fn is_set_first(alloc: Global, state: &State, units: u64, wanted: &str) -> Result<bool, Fail> {
+    let parts = [
+        Part::Bytes(false, "a"),
+        Part::Value(false, "=", Some("z")),
+        Part::Output,
+    ];
+    let given = told_of(alloc, state, &parts, (Mode::Fields, None), units)?;
+    Ok(given.bytes() == wanted.as_bytes())
+}
+
+#[test]
+fn a_value_is_set_before_an_output_is_asked_for(rt: HostRuntime) -> Result<(), Fail> {
+    let state = state(rt.alloc(), "")?;
+    for (units, wanted) in &SET_FIRST {
+        assert!(rt; is_set_first(rt.alloc(), &state, *units, wanted)?);
     }
     Ok(())
 }
 
 /// `${x-${x=n}$(c)}$(d)`
 fn nested(alloc: Global) -> Result<Word, NoMemory> {
-    let name = Text::from_slice(alloc, b"x")?;
-    let form = Text::from_slice(alloc, b"-")?;
-    let arg = and(
-        one(alloc, value(alloc, false, "=", Some("n"))?)?,
-        output(alloc),
-    )?;
-    and(
-        one(alloc, named(false, name, form, Some(arg)))?,
-        output(alloc),
-    )
+    let arg = word(alloc, &[Part::Value(false, "=", Some("n")), Part::Output])?;
+    let value = with_argument(alloc, false, "-", Some(arg))?;
+    let mut word = one(alloc, value)?;
+    word.pieces.push(output(alloc))?;
+    Ok(word)
+}
+
+/// The text of `x`, and what is told of the word above.
+static NESTED: [(Option<&str>, &str); 2] = [(None, "x=n;(0)(1)[nqq]|8"), (Some("v"), "(1)[vq]|4")];
+
+fn is_nested(
+    alloc: Global,
+    state: &State,
+    word: &Word,
+    x: Option<&str>,
+    wanted: &str,
+) -> Result<bool, Fail> {
+    let given = told_on(alloc, state, word, (Mode::Fields, x), 100)?;
+    Ok(given.bytes() == wanted.as_bytes())
 }
 
 /// An argument has values and outputs, and those of one that isn't expanded are counted.
 #[test]
 fn arguments_are_words(rt: HostRuntime) -> Result<(), Fail> {
-    let alloc = rt.alloc();
-    let state = trees::state(alloc, "")?;
-    let word = nested(alloc)?;
-    for (x, wanted) in [(None, "x=n;(0)(1)[nqq]|8"), (Some("v"), "(1)[vq]|4")] {
-        let given = told(alloc, PlainView::new(&state), &word, Mode::Fields, x, 100)?;
-        assert!(rt; given.bytes() == wanted.as_bytes());
+    let state = state(rt.alloc(), "")?;
+    let word = nested(rt.alloc())?;
+    for (x, wanted) in &NESTED {
+        assert!(rt; is_nested(rt.alloc(), &state, &word, *x, wanted)?);
     }
     Ok(())
 }
 
-/// `a${x=z}$(c)`, with units as they are given.
-#[test]
-fn a_value_is_set_before_an_output_is_asked_for(rt: HostRuntime) -> Result<(), Fail> {
-    let alloc = rt.alloc();
-    let state = trees::state(alloc, "")?;
-    let word = one(alloc, bytes(alloc, false, "a")?)?;
-    let word = and(
-        and(word, value(alloc, false, "=", Some("z"))?)?,
-        output(alloc),
-    )?;
-    for (units, wanted) in [
-        (100, "x=z;(0)[azq]|4"),
-        (4, "x=z;(0)[azq]|4"),
-        (3, "x=z;(0)!spent|3"),
-        (2, "x=z;!spent|2"),
-        (1, "!spent|1"),
-        (0, "!spent|0"),
-    ] {
-        let given = told(
-            alloc,
-            PlainView::new(&state),
-            &word,
-            Mode::Fields,
-            None,
-            units,
-        )?;
-        assert!(rt; given.bytes() == wanted.as_bytes());
+fn over_states(alloc: Global, states: Vec<State>, word: &Word) -> Result<Text, Fail> {
+    if states.is_empty() {
+        return Err("no state".into());
     }
-    Ok(())
+    let desk = Desk::new(alloc, ScriptView::new(states), 1, 0, Fuel::new(100));
+    told(alloc, desk, word, (Mode::Fields, None))
+}
+
+/// What is told of `d/*/k`, where `d` is listed and then isn't there.
+fn without_d(alloc: Global) -> Result<Text, Fail> {
+    let word = word(alloc, &[Part::Bytes(false, "d/*/k")])?;
+    let states = states(alloc, &["d/d f/d/x", "d/d f/d/x", ""])?;
+    over_states(alloc, states, &word)
 }
 
 /// A directory that is listed and then isn't there: the pattern stays.
 #[test]
 fn a_view_may_change_its_mind(rt: HostRuntime) -> Result<(), Fail> {
-    let alloc = rt.alloc();
-    let mut states = Vec::new(alloc);
-    states.push(trees::state(alloc, "d/d f/d/x")?)?;
-    states.push(trees::state(alloc, "d/d f/d/x")?)?;
-    states.push(trees::state(alloc, "")?)?;
-    assert!(rt; !states.is_empty());
-    let word = one(alloc, bytes(alloc, false, "d/*/k")?)?;
-    let given = told(
-        alloc,
-        ScriptView::new(states),
-        &word,
-        Mode::Fields,
-        None,
-        100,
-    )?;
+    let given = without_d(rt.alloc())?;
     assert!(rt; given.bytes() == b"[d/*/k] K/d N/d K/d/x/k|4".as_slice());
     Ok(())
 }

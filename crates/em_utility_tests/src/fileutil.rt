@@ -2,74 +2,18 @@
 //! blank between them. Its transcript has for each command its status, and each piece that it wrote
 //! behind the number of its stream; `-` for what is no file utility, `!` and the letter for an
 //! option that is refused, `$` for spent fuel; and then `;`.
-ghost use Rattle.std.specs.Prelude.{◌≡◌, ◌≤◌, Some};
-ghost use Rattle.std.specs.FinMap as map;
-ghost use Rattle.em_path.specs.Paths.{IsPath, parent_text};
-ghost use Rattle.em_tree.specs.declared.node.Kind.TheVariants as kind;
-ghost use Rattle.em_tree.specs.Trees.{IsTree, kind_of};
-
+use super::shows::{show_done, words};
+use super::trees::{Item, state};
 use em_base::{Construct, Fuel, NoMemory, Text};
 use em_fileutil::utility;
 use em_path::Path;
-use em_tree::{Answer, Body, Entry, Kind, Node, Outcomes, Question, State, Tree};
+use em_tree::{Answer, Entry, Kind, Question, State};
 use em_view::{Desk, Done, ExecNo, PlainView, ScriptView, View};
 use std::alloc::Global;
 use std::process::Abort;
 use std::test::Fail;
 
 mod tables;
-
-/// Puts a node where there is none.
-fn put(tree: &mut Tree, above: &Path, path: Path, node: Node) -> Result<(), NoMemory>
-    requires tree { IsTree tree.old }
-    requires path { IsPath path }
-    requires parent { parent_text path ≡ Some above.now }
-    requires dir { kind_of (map.get tree.old above.now) ≡ kind.Dir }
-    requires absent { kind_of (map.get tree.old path) ≡ kind.Absent }
-{
-    em_tree::laws::law_put();
-    tree.set(path, node)
-}
-
-/// Puts a node at an absent path of a directory that is there, and else does nothing.
-fn add(alloc: Global, tree: &mut Tree, text: &[u8], node: Node) -> Result<(), Fail> {
-    let Some(path) = Path::from_text(alloc, text)? else {
-        return Ok(());
-    };
-    let Some(above) = path.parent(alloc)? else {
-        return Ok(());
-    };
-    let _ = path.text();
-    if tree.kind(&above) == Kind::Dir && tree.kind(&path) == Kind::Absent {
-        put(tree, &above, path, node)?;
-    }
-    Ok(())
-}
-
-fn alone(alloc: Global) -> Result<State, Fail> {
-    Ok(State {
-        tree: Tree::new(alloc, 1)?,
-        outcomes: Outcomes::new(alloc),
-    })
-}
-
-/// The words of a command.
-fn words(alloc: Global, command: &str) -> Result<Vec<Text>, Fail> {
-    let mut words = Vec::new(alloc);
-    for word in command.split(' ') {
-        words.push(Text::from_slice(alloc, word.as_bytes())?)?;
-    }
-    Ok(words)
-}
-
-fn show_done(done: &Done, log: &mut Text) -> Result<(), NoMemory> {
-    log.add(&[b'0' | (done.status & 7)])?;
-    for piece in done.pieces.items() {
-        log.add(&[b'0' | (piece.stream & 7)])?;
-        log.add(piece.text.bytes())?;
-    }
-    Ok(())
-}
 
 fn show_no(no: &ExecNo, log: &mut Text) -> Result<(), NoMemory> {
     match no {
@@ -87,6 +31,16 @@ fn show(end: &Result<Option<Done>, ExecNo>, log: &mut Text) -> Result<(), NoMemo
     }
 }
 
+fn call<V: View>(
+    alloc: Global,
+    words: &[Text],
+    desk: &mut Desk<V>,
+    log: &mut Text,
+) -> Result<(), NoMemory> {
+    let end = utility(alloc, words, b"", &Path::root(), desk);
+    show(&end, log)
+}
+
 /// Runs a command over a desk.
 fn run_command<V: View>(
     alloc: Global,
@@ -95,8 +49,7 @@ fn run_command<V: View>(
     log: &mut Text,
 ) -> Result<(), Fail> {
     let words = words(alloc, command)?;
-    let end = utility(alloc, &words, b"", &Path::root(), desk);
-    show(&end, log)?;
+    call(alloc, &words, desk, log)?;
     log.add(b";")?;
     Ok(())
 }
@@ -111,135 +64,167 @@ fn run<V: View>(alloc: Global, script: &str, desk: &mut Desk<V>) -> Result<Text,
 }
 
 /// What a script writes where a file `b`, a directory `d` with `x` and `.h`, and an empty directory
-/// `e` are.
+/// `e` are, over a desk that has done nothing.
+fn run_behind<V: View>(alloc: Global, script: &str, desk: &mut Desk<V>) -> Result<Text, Fail> {
+    run(alloc, "touch b;mkdir d e;touch d/x d/.h", desk)?;
+    run(alloc, script, desk)
+}
+
 fn transcript(alloc: Global, script: &str) -> Result<Text, Fail> {
-    let state = alone(alloc)?;
+    let state = state(alloc, &[])?;
     let mut desk = Desk::new(alloc, PlainView::new(&state), 1, 0, Fuel::new(1000));
-    let _made = run(alloc, "touch b;mkdir d e;touch d/x d/.h", &mut desk)?;
-    run(alloc, script, &mut desk)
+    run_behind(alloc, script, &mut desk)
+}
+
+fn is_written(alloc: Global, script: &str, wanted: &str) -> Result<bool, Fail> {
+    Ok(transcript(alloc, script)?.bytes() == wanted.as_bytes())
 }
 
 #[test]
 fn each_utility_does_as_posix_says(rt: HostRuntime) -> Result<(), Fail> {
-    for (script, wanted) in tables::SCRIPTS.iter() {
-        let given = transcript(rt.alloc(), script)?;
-        assert!(rt; given.bytes() == wanted.as_bytes(), "{script}");
+    for (script, wanted) in &tables::SCRIPTS {
+        let is_written = is_written(rt.alloc(), script, wanted)?;
+        assert!(rt; is_written, "{script}");
     }
     Ok(())
 }
 
 /// A file `b` of two bytes, with the stamp 1, beside nothing.
-fn beside_b(alloc: Global) -> Result<State, Fail> {
-    let mut state = alone(alloc)?;
-    let body = Body::from_slice(alloc, b"x\n")?;
-    add(alloc, &mut state.tree, b"/b", Node::File { body, stamp: 1 })?;
-    Ok(state)
-}
+static BESIDE_B: [Item; 1] = [(b"/b", Some(b"x\n"), 1)];
 
-fn show_path(letter: u8, path: &Path, log: &mut Text) -> Result<(), NoMemory> {
-    log.add(&[letter])?;
-    log.add(path.text())
-}
-
-fn show_question(question: &Question, log: &mut Text) -> Result<(), NoMemory> {
+fn question_letter(question: &Question) -> &'static [u8] {
     match question {
-        Question::Kind(path) => show_path(b'K', path, log),
-        Question::Stamp(path) => show_path(b'S', path, log),
-        Question::Content(path) => show_path(b'C', path, log),
-        Question::Names(path) => show_path(b'N', path, log),
-        Question::Outcome(_) => log.add(b"O"),
+        Question::Kind(_) => b"K",
+        Question::Stamp(_) => b"S",
+        Question::Content(_) => b"C",
+        Question::Names(_) => b"N",
+        Question::Outcome(_) => b"O",
     }
 }
 
-fn show_answer(answer: &Answer, log: &mut Text) -> Result<(), NoMemory> {
-    match answer {
-        Answer::Kind(Kind::Absent) => log.add(b"=absent "),
-        Answer::Kind(Kind::File) => log.add(b"=file "),
-        Answer::Kind(Kind::Dir) => log.add(b"=directory "),
-        _ => log.add(b" "),
+fn path_of(question: &Question) -> &[u8] {
+    match question {
+        Question::Kind(path) => path.text(),
+        Question::Stamp(path) => path.text(),
+        Question::Content(path) => path.text(),
+        Question::Names(path) => path.text(),
+        Question::Outcome(_) => b"",
     }
+}
+
+fn answer_name(answer: &Answer) -> &'static [u8] {
+    match answer {
+        Answer::Kind(Kind::Absent) => b"=absent ",
+        Answer::Kind(Kind::File) => b"=file ",
+        Answer::Kind(Kind::Dir) => b"=directory ",
+        _ => b" ",
+    }
+}
+
+fn show_entry(entry: &Entry, log: &mut Text) -> Result<(), NoMemory> {
+    log.add(question_letter(&entry.question))?;
+    log.add(path_of(&entry.question))?;
+    log.add(answer_name(&entry.answer))
 }
 
 fn show_usage(usage: &[Entry], log: &mut Text) -> Result<(), NoMemory> {
     for entry in usage {
-        show_question(&entry.question, log)?;
-        show_answer(&entry.answer, log)?;
+        show_entry(entry, log)?;
     }
     Ok(())
 }
 
-/// What a script writes beside `b`, and what it asks, with so many units.
-fn asked(alloc: Global, script: &str, units: u64) -> Result<Text, Fail>
-    requires { units ≤ 1000 }
-{
-    let state = beside_b(alloc)?;
-    let mut desk = Desk::new(alloc, PlainView::new(&state), 1, 0, Fuel::new(units));
-    let mut log = run(alloc, script, &mut desk)?;
+fn show_desk<V: View>(desk: Desk<V>, log: &mut Text) -> Result<(), NoMemory> {
     let (usage, _changes, _fuel) = desk.close();
-    show_usage(&usage, &mut log)?;
+    show_usage(&usage, log)
+}
+
+/// What a script writes over a desk, and what it asks.
+fn run_to_end<V: View>(alloc: Global, script: &str, desk: Desk<V>) -> Result<Text, Fail> {
+    let mut desk = desk;
+    let mut log = run(alloc, script, &mut desk)?;
+    show_desk(desk, &mut log)?;
     Ok(log)
 }
 
-/// The target's kind, the source's kind and bytes, and what `put` asks: 1 + 1 + 2 + 2 units.
+/// What a script writes beside `b`, and what it asks, with so many units.
+fn asked(alloc: Global, script: &str, units: u64) -> Result<Text, Fail> {
+    let state = state(alloc, BESIDE_B.as_slice())?;
+    let view = PlainView::new(&state);
+    let desk = Desk::new(alloc, view, 1, 0, Fuel::new(units.min(1000)));
+    run_to_end(alloc, script, desk)
+}
+
+/// A script, its units, and what it writes and asks.
+static ASKED: [(&str, u64, &str); 2] = [
+    // the target's kind, the source's kind and bytes, and what `put` asks: 1 + 1 + 2 + 2 units
+    (
+        "cp b a",
+        6,
+        "0;K/a=absent K/b=file C/b K/a=absent K/=directory ",
+    ),
+    (
+        "cp b a",
+        5,
+        "$;K/a=absent K/b=file C/b K/a=absent K/=directory ",
+    ),
+];
+
 #[test]
 fn cp_asks_for_the_target_then_for_the_source(rt: HostRuntime) -> Result<(), Fail> {
-    let asks = "K/a=absent K/b=file C/b K/a=absent K/=directory ";
-    let done = asked(rt.alloc(), "cp b a", 6)?;
-    assert!(rt; done.bytes().strip_prefix(b"0;".as_slice()) == Some(asks.as_bytes()));
-    let spent = asked(rt.alloc(), "cp b a", 5)?;
-    assert!(rt; spent.bytes().strip_prefix(b"$;".as_slice()) == Some(asks.as_bytes()));
+    for (script, units, wanted) in &ASKED {
+        let given = asked(rt.alloc(), script, *units)?;
+        assert!(rt; given.bytes() == wanted.as_bytes());
+    }
     Ok(())
 }
 
 /// The stamp of `a` after `b` was moved there.
-fn stamp_of_a(alloc: Global) -> Result<Option<u64>, Fail> {
-    let state = beside_b(alloc)?;
-    let mut desk = Desk::new(alloc, PlainView::new(&state), 100, 0, Fuel::new(20));
-    let _log = run(alloc, "mv b a", &mut desk)?;
+fn stamp_of_a<V: View>(alloc: Global, desk: &mut Desk<V>) -> Result<Option<u64>, Fail> {
+    run(alloc, "mv b a", desk)?;
     let a = Path::read(alloc, &Path::root(), b"a")?;
     Ok(desk.stamp(&a)?)
 }
 
+fn moved_stamp(alloc: Global) -> Result<Option<u64>, Fail> {
+    let state = state(alloc, BESIDE_B.as_slice())?;
+    let mut desk = Desk::new(alloc, PlainView::new(&state), 100, 0, Fuel::new(20));
+    stamp_of_a(alloc, &mut desk)
+}
+
 #[test]
 fn a_file_that_is_moved_keeps_its_stamp(rt: HostRuntime) -> Result<(), Fail> {
-    assert!(rt; stamp_of_a(rt.alloc())? == Some(1));
+    let stamp = moved_stamp(rt.alloc())?;
+    assert!(rt; stamp == Some(1));
     Ok(())
 }
 
-/// A directory `d`, with `x` in it or not.
-fn with_d(alloc: Global, filled: bool) -> Result<State, Fail> {
-    let mut state = alone(alloc)?;
-    add(alloc, &mut state.tree, b"/d", Node::Dir { stamp: 1 })?;
-    if filled {
-        let body = Body::from_slice(alloc, b"")?;
-        add(
-            alloc,
-            &mut state.tree,
-            b"/d/x",
-            Node::File { body, stamp: 1 },
-        )?;
-    }
-    Ok(state)
-}
+/// A directory `d`, with `x` in it or not: `x` is there when `d` is listed, and is gone then.
+static REMOVED: [&[Item]; 3] = [
+    &[(b"/d", None, 1), (b"/d/x", Some(b""), 1)],
+    &[(b"/d", None, 1), (b"/d/x", Some(b""), 1)],
+    &[(b"/d", None, 1)],
+];
 
-fn keep(states: &mut Vec<State>, state: State) -> Result<(), NoMemory> {
-    states.push(state)?;
-    Ok(())
-}
-
-/// `x` is there when `d` is listed, and is gone then.
-fn removed_meanwhile(alloc: Global) -> Result<Text, Fail> {
+fn states(alloc: Global) -> Result<Vec<State>, Fail> {
     let mut states = Vec::new(alloc);
-    keep(&mut states, with_d(alloc, true)?)?;
-    keep(&mut states, with_d(alloc, true)?)?;
-    states.push(with_d(alloc, false)?)?;
+    for items in &REMOVED {
+        states.push(state(alloc, items)?)?;
+    }
+    Ok(states)
+}
+
+fn over_states(alloc: Global, states: Vec<State>) -> Result<Text, Fail> {
+    if states.is_empty() {
+        return Err("no state".into());
+    }
     let mut desk = Desk::new(alloc, ScriptView::new(states), 1, 0, Fuel::new(20));
     run(alloc, "rm -r d", &mut desk)
 }
 
 #[test]
 fn what_was_listed_and_is_absent_then_is_a_fault(rt: HostRuntime) -> Result<(), Fail> {
-    let given = removed_meanwhile(rt.alloc())?;
+    let given = over_states(rt.alloc(), states(rt.alloc())?)?;
     assert!(rt; given.bytes() == b"12emake: rm: d/x: absent\n;".as_slice());
     Ok(())
 }

@@ -4,6 +4,10 @@
 #[cfg(test)]
 mod fileutil;
 #[cfg(test)]
+mod shows;
+#[cfg(test)]
 mod textutil;
+#[cfg(test)]
+mod trees;
 #[cfg(test)]
 mod utility;

@@ -1,34 +1,26 @@
-ghost use Rattle.std.specs.Prelude.{◌≡◌, Some};
-ghost use Rattle.std.specs.FinMap as map;
-ghost use Rattle.em_path.specs.Paths.{IsPath, parent_text};
-ghost use Rattle.em_tree.specs.declared.node.Kind.TheVariants as kind;
-ghost use Rattle.em_tree.specs.Trees.{IsTree, kind_of};
-
+use super::shows::{add_all, words};
+use super::trees::{Item, state};
 use em_base::{Construct, Fuel, NoMemory, Text};
 use em_path::Path;
 use em_textutil::utility;
-use em_tree::{Body, Kind, Node, Outcomes, State, Tree};
-use em_view::{Desk, Done, ExecNo, PlainView, View};
+use em_view::{Desk, Done, ExecNo, Piece, PlainView, View};
 use std::alloc::Global;
 use std::test::Fail;
 
-/// The words of a command, which stand between blanks; `~` is an empty word.
-fn words(alloc: Global, command: &str) -> Result<Vec<Text>, Fail> {
-    let mut words = Vec::new(alloc);
-    for word in command.as_bytes().split(|b| *b == b' ') {
-        let word = if word == b"~".as_slice() { b"" } else { word };
-        words.push(Text::from_slice(alloc, word)?)?;
+fn show_pieces(pieces: &[Piece], log: &mut Text) -> Result<(), NoMemory> {
+    for piece in pieces {
+        if piece.stream == 2 {
+            add_all(log, &[b"<", piece.text.bytes(), b">"])?;
+        } else {
+            log.add(piece.text.bytes())?;
+        }
     }
-    Ok(words)
+    Ok(())
 }
 
 /// Appends what was written, the errors between `<` and `>`, and the status behind it.
 fn show_done(done: &Done, log: &mut Text) -> Result<(), NoMemory> {
-    for piece in done.pieces.items() {
-        log.add(if piece.stream == 2 { b"<" } else { b"" })?;
-        log.add(piece.text.bytes())?;
-        log.add(if piece.stream == 2 { b">" } else { b"" })?;
-    }
+    show_pieces(done.pieces.items(), log)?;
     log.add(&[b'0' | (done.status & 7)])
 }
 
@@ -55,63 +47,24 @@ fn show(end: &Result<Option<Done>, ExecNo>, log: &mut Text) -> Result<(), NoMemo
 /// Runs a command over a desk.
 fn run<V: View>(
     alloc: Global,
-    command: &str,
+    words: &[Text],
     input: &[u8],
     desk: &mut Desk<V>,
     log: &mut Text,
-) -> Result<(), Fail> {
-    let words = words(alloc, command)?;
-    let end = utility(alloc, &words, input, &Path::root(), desk);
-    show(&end, log)?;
-    Ok(())
+) -> Result<(), NoMemory> {
+    let end = utility(alloc, words, input, &Path::root(), desk);
+    show(&end, log)
 }
 
-/// Puts a node where there is none.
-fn put(tree: &mut Tree, above: &Path, path: Path, node: Node) -> Result<(), NoMemory>
-    requires tree { IsTree tree.old }
-    requires path { IsPath path }
-    requires parent { parent_text path ≡ Some above.now }
-    requires dir { kind_of (map.get tree.old above.now) ≡ kind.Dir }
-    requires absent { kind_of (map.get tree.old path) ≡ kind.Absent }
-{
-    em_tree::laws::law_put();
-    tree.set(path, node)
-}
-
-/// Puts a node at an absent path of a directory that is there, and else does nothing.
-fn add(alloc: Global, tree: &mut Tree, text: &[u8], node: Node) -> Result<(), Fail> {
-    let Some(path) = Path::from_text(alloc, text)? else {
-        return Ok(());
-    };
-    let Some(above) = path.parent(alloc)? else {
-        return Ok(());
-    };
-    let _ = path.text();
-    if tree.kind(&above) == Kind::Dir && tree.kind(&path) == Kind::Absent {
-        put(tree, &above, path, node)?;
-    }
-    Ok(())
-}
-
-/// The tree: `/f` holds lines, `/g` others and is newer, `/e` nothing, `/l` a line without a
-/// newline behind it; `/d` is a directory.
-fn state(alloc: Global) -> Result<State, Fail> {
-    let mut tree = Tree::new(alloc, 1)?;
-    for (name, bytes, stamp) in [
-        (b"/f".as_slice(), b"b\na\na\n".as_slice(), 2),
-        (b"/g", b"c d\n", 3),
-        (b"/e", b"", 2),
-        (b"/l", b"a\nb", 2),
-    ] {
-        let body = Body::from_slice(alloc, bytes)?;
-        add(alloc, &mut tree, name, Node::File { body, stamp })?;
-    }
-    add(alloc, &mut tree, b"/d", Node::Dir { stamp: 1 })?;
-    Ok(State {
-        tree,
-        outcomes: Outcomes::new(alloc),
-    })
-}
+/// `/f` holds lines, `/g` others and is newer, `/e` nothing, `/l` a line without a newline behind
+/// it; `/d` is a directory.
+static ITEMS: [Item; 5] = [
+    (b"/f", Some(b"b\na\na\n"), 2),
+    (b"/g", Some(b"c d\n"), 3),
+    (b"/e", Some(b""), 2),
+    (b"/l", Some(b"a\nb"), 2),
+    (b"/d", None, 1),
+];
 
 /// A command, its input, and what it writes with its status behind.
 type Case = (&'static str, &'static str, &'static str);
@@ -218,28 +171,29 @@ static CASES: [Case; 83] = [
     (": x", "", "0"),
 ];
 
-/// What a command comes to, with its input and so much fuel.
-fn transcript(alloc: Global, command: &str, input: &[u8], fuel: u64) -> Result<Text, Fail> {
-    let state = state(alloc)?;
-    let mut desk = Desk::new(
-        alloc,
-        PlainView::new(&state),
-        1,
-        0,
-        Fuel::new(fuel.min(1000)),
-    );
+/// What a command comes to over the tree, with its input and so much fuel.
+fn transcript(alloc: Global, words: &[Text], input: &[u8], fuel: u64) -> Result<Text, Fail> {
+    let state = state(alloc, ITEMS.as_slice())?;
+    let view = PlainView::new(&state);
+    let mut desk = Desk::new(alloc, view, 1, 0, Fuel::new(fuel.min(1000)));
     let mut log = Text::new(alloc);
-    run(alloc, command, input, &mut desk, &mut log)?;
+    run(alloc, words, input, &mut desk, &mut log)?;
     Ok(log)
+}
+
+fn is_left(alloc: Global, case: &Case, fuel: u64) -> Result<bool, Fail> {
+    let words = words(alloc, case.0)?;
+    Ok(transcript(alloc, &words, case.1.as_bytes(), fuel)?.bytes() == case.2.as_bytes())
 }
 
 /// Expected bytes: POSIX's pages, and the GNU utilities run by hand, but for the messages and what
 /// docs/FORMATS.md lists.
 #[test]
 fn commands_leave(rt: HostRuntime) -> Result<(), Fail> {
-    for (command, input, wanted) in CASES.iter() {
-        let given = transcript(rt.alloc(), command, input.as_bytes(), 1000)?;
-        assert!(rt; given.bytes() == wanted.as_bytes(), "{command}");
+    for case in &CASES {
+        let is_left = is_left(rt.alloc(), case, 1000)?;
+        let command = case.0;
+        assert!(rt; is_left, "{command}");
     }
     Ok(())
 }
@@ -259,9 +213,9 @@ static REFUSED: [(&str, u64, &str); 9] = [
 
 #[test]
 fn commands_are_refused(rt: HostRuntime) -> Result<(), Fail> {
-    for (command, fuel, wanted) in REFUSED.iter() {
-        let given = transcript(rt.alloc(), command, b"", *fuel)?;
-        assert!(rt; given.bytes() == wanted.as_bytes(), "{command}");
+    for (command, fuel, wanted) in &REFUSED {
+        let is_left = is_left(rt.alloc(), &(*command, "", *wanted), *fuel)?;
+        assert!(rt; is_left, "{command}");
     }
     Ok(())
 }

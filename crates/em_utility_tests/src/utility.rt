@@ -1,6 +1,8 @@
+use super::shows::{add_all, show_done, words};
+use super::trees::state;
 use em_base::{Fuel, NoMemory, Text};
 use em_path::Path;
-use em_tree::{Kind, Outcomes, State, Tree};
+use em_tree::Kind;
 use em_utility::{
     OperandNo, Options, Reason, begun, fail, fault, located, named, read, read_options, settle,
     write,
@@ -10,73 +12,72 @@ use std::alloc::Global;
 use std::process::Abort;
 use std::test::Fail;
 
-fn words(alloc: Global, line: &str) -> Result<Vec<Text>, Fail> {
-    let mut words = Vec::new(alloc);
-    for word in line.split(' ') {
-        words.push(Text::from_slice(alloc, word.as_bytes())?)?;
+fn show_operands(operands: &[Text], log: &mut Text) -> Result<(), NoMemory> {
+    for operand in operands {
+        add_all(log, &[b" ", operand.bytes()])?;
     }
-    Ok(words)
+    Ok(())
+}
+
+fn show_options(words: &[Text], options: &Options, log: &mut Text) -> Result<(), NoMemory> {
+    let value = match &options.value {
+        Some(value) => value.bytes(),
+        None => b"",
+    };
+    let end: &[u8] = if options.lacks { b"?" } else { b"/" };
+    add_all(log, &[options.letters.bytes(), b"/", value, end])?;
+    show_operands(options.operands(words), log)
 }
 
 /// Letters, a slash, the value of `n`, where one is there, a slash, and the operands, each behind a
 /// blank; `?` where a value is wanted at the end; `!` for a letter that is refused.
-fn show(words: &[Text], given: Result<Options, ExecNo>, log: &mut Text) -> Result<(), NoMemory> {
-    let Ok(options) = given else {
-        return log.add(b"!");
-    };
-    log.add(options.letters.bytes())?;
-    log.add(b"/")?;
-    match &options.value {
-        Some(value) => log.add(value.bytes())?,
-        None => {}
+fn show(words: &[Text], given: &Result<Options, ExecNo>, log: &mut Text) -> Result<(), NoMemory> {
+    match given {
+        Ok(options) => show_options(words, options, log),
+        Err(_) => log.add(b"!"),
     }
-    log.add(if options.lacks { b"?" } else { b"/" })?;
-    for operand in options.operands(words) {
-        log.add(b" ")?;
-        log.add(operand.bytes())?;
-    }
-    Ok(())
+}
+
+static OPTIONS: [(&str, &str); 11] = [
+    ("a -f", "// a -f"),
+    ("-fr -f a", "frf// a"),
+    ("-f -- -f", "f// -f"),
+    ("- -f", "// - -f"),
+    ("-5 a", "// -5 a"),
+    ("-1f a", "1f// a"),
+    ("-n 5 a", "n/5/ a"),
+    ("-n -x -n -- a", "nn/--/ a"),
+    ("-f -n", "fn/?"),
+    ("-fx a", "!"),
+    ("-n5", "// -n5"),
+];
+
+fn is_read(alloc: Global, line: &str, wanted: &str) -> Result<bool, Fail> {
+    let words = words(alloc, line)?;
+    let given = read_options(alloc, b"u", b"1frn", b"n", &words);
+    let mut log = Text::new(alloc);
+    show(&words, &given, &mut log)?;
+    Ok(log.bytes() == wanted.as_bytes())
 }
 
 #[test]
 fn options_stand_before_the_operands(rt: HostRuntime) -> Result<(), Fail> {
-    let alloc = rt.alloc();
-    for (line, wanted) in [
-        ("a -f", "// a -f"),
-        ("-fr -f a", "frf// a"),
-        ("-f -- -f", "f// -f"),
-        ("- -f", "// - -f"),
-        ("-5 a", "// -5 a"),
-        ("-1f a", "1f// a"),
-        ("-n 5 a", "n/5/ a"),
-        ("-n -x -n -- a", "nn/--/ a"),
-        ("-f -n", "fn/?"),
-        ("-fx a", "!"),
-        ("-n5", "// -n5"),
-    ] {
-        let words = words(alloc, line)?;
-        let mut log = Text::new(alloc);
-        show(
-            &words,
-            read_options(alloc, b"u", b"1frn", b"n", &words),
-            &mut log,
-        )?;
-        assert!(rt; log.bytes() == wanted.as_bytes(), "{line}");
+    for (line, wanted) in &OPTIONS {
+        let is_read = is_read(rt.alloc(), line, wanted)?;
+        assert!(rt; is_read, "{line}");
     }
     Ok(())
 }
 
-fn flags(alloc: Global) -> Result<Options, ExecNo> {
-    let mut words = Vec::new(alloc);
-    words.push(Text::from_slice(alloc, b"-r")?)?;
-    read_options(alloc, b"u", b"fr", b"", &words)
+fn flags(alloc: Global) -> Result<Options, Fail> {
+    let words = words(alloc, "-r")?;
+    Ok(read_options(alloc, b"u", b"fr", b"", &words)?)
 }
 
 #[test]
 fn a_letter_is_given_or_not(rt: HostRuntime) -> Result<(), Fail> {
-    let given = flags(rt.alloc());
-    assert!(rt; given.as_ref().is_ok_and(|o| o.has(b'r')));
-    assert!(rt; !given.as_ref().is_ok_and(|o| o.has(b'f')));
+    let given = flags(rt.alloc())?;
+    assert!(rt; given.has(b'r') && !given.has(b'f'));
     Ok(())
 }
 
@@ -92,45 +93,62 @@ fn cat<V: View>(
     Ok(write(done, 1, text)?)
 }
 
+fn settled<V: View>(
+    alloc: Global,
+    name: &[u8],
+    desk: &mut Desk<V>,
+    done: &mut Done,
+) -> Result<(), ExecNo> {
+    let given = cat(alloc, name, desk, done);
+    settle(alloc, b"cat", given, done)
+}
+
 fn cat_all<V: View>(alloc: Global, names: &[&[u8]], desk: &mut Desk<V>) -> Result<Done, ExecNo> {
     let mut done = begun(alloc);
     for name in names {
-        let given = cat(alloc, name, desk, &mut done);
-        settle(alloc, b"cat", given, &mut done)?;
+        settled(alloc, name, desk, &mut done)?;
     }
     Ok(done)
 }
 
-fn show_done(done: &Done, log: &mut Text) -> Result<(), NoMemory> {
-    log.add(&[b'0' | (done.status & 7)])?;
-    for piece in done.pieces.items() {
-        log.add(&[b'0' | (piece.stream & 7)])?;
-        log.add(piece.text.bytes())?;
+fn shown(alloc: Global, done: &Done) -> Result<Text, NoMemory> {
+    let mut log = Text::new(alloc);
+    show_done(done, &mut log)?;
+    Ok(log)
+}
+
+fn located_at(alloc: Global, name: &[u8]) -> Result<Path, Fail> {
+    match located(alloc, &Path::root(), name) {
+        Ok(path) => Ok(path),
+        Err(_) => Ok(Path::root()),
     }
+}
+
+fn put<V: View>(alloc: Global, name: &[u8], bytes: &[u8], desk: &mut Desk<V>) -> Result<(), Fail> {
+    let path = located_at(alloc, name)?;
+    desk.put(&path, bytes)?;
     Ok(())
 }
 
-fn shown(alloc: Global, end: Result<Done, ExecNo>) -> Result<Text, NoMemory> {
-    let mut log = Text::new(alloc);
-    match end {
-        Ok(done) => show_done(&done, &mut log)?,
-        Err(_) => log.add(b"$")?,
-    }
-    Ok(log)
+static NAMES: [&[u8]; 5] = [b"q", b"f", b"/", b"empty", b""];
+
+/// What is written of the names, where `f` is a file and `empty` an empty one.
+fn cat_over<V: View>(alloc: Global, desk: &mut Desk<V>) -> Result<Text, Fail> {
+    put(alloc, b"f", b"x\n", desk)?;
+    put(alloc, b"empty", b"", desk)?;
+    let done = cat_all(alloc, NAMES.as_slice(), desk)?;
+    Ok(shown(alloc, &done)?)
+}
+
+fn cat_log(alloc: Global) -> Result<Text, Fail> {
+    let state = state(alloc, &[])?;
+    let mut desk = Desk::new(alloc, PlainView::new(&state), 1, 0, Fuel::new(20));
+    cat_over(alloc, &mut desk)
 }
 
 #[test]
 fn each_fault_is_written_and_the_next_operand_is_read(rt: HostRuntime) -> Result<(), Fail> {
-    let alloc = rt.alloc();
-    let state = State {
-        tree: Tree::new(alloc, 1)?,
-        outcomes: Outcomes::new(alloc),
-    };
-    let mut desk = Desk::new(alloc, PlainView::new(&state), 1, 0, Fuel::new(20));
-    desk.put(&located_at(alloc, b"f")?, b"x\n")?;
-    desk.put(&located_at(alloc, b"empty")?, b"")?;
-    let names: [&[u8]; 5] = [b"q", b"f", b"/", b"empty", b""];
-    let log = shown(alloc, cat_all(alloc, &names, &mut desk))?;
+    let log = cat_log(rt.alloc())?;
     let wanted = concat!(
         "12emake: cat: q: absent\n",
         "1x\n",
@@ -141,30 +159,30 @@ fn each_fault_is_written_and_the_next_operand_is_read(rt: HostRuntime) -> Result
     Ok(())
 }
 
-fn located_at(alloc: Global, name: &[u8]) -> Result<Path, Fail> {
-    match located(alloc, &Path::root(), name) {
-        Ok(path) => Ok(path),
-        Err(_) => Ok(Path::root()),
-    }
+static REASONS: [Reason; 10] = [
+    Reason::File(FileNo::NoParent),
+    Reason::File(FileNo::NotDir),
+    Reason::File(FileNo::Exists),
+    Reason::File(FileNo::NotEmpty),
+    Reason::File(FileNo::TooBig),
+    Reason::File(FileNo::Root),
+    Reason::SameFile,
+    Reason::NotANumber,
+    Reason::MissingOperand,
+    Reason::ExtraOperand,
+];
+
+/// What is written for a reason.
+fn show_reason(alloc: Global, reason: Reason, log: &mut Text) -> Result<(), NoMemory> {
+    let mut done = begun(alloc);
+    fail(alloc, &mut done, b"u", b"o", reason)?;
+    show_done(&done, log)
 }
 
 fn lines(alloc: Global) -> Result<Text, NoMemory> {
     let mut log = Text::new(alloc);
-    for reason in [
-        Reason::File(FileNo::NoParent),
-        Reason::File(FileNo::NotDir),
-        Reason::File(FileNo::Exists),
-        Reason::File(FileNo::NotEmpty),
-        Reason::File(FileNo::TooBig),
-        Reason::File(FileNo::Root),
-        Reason::SameFile,
-        Reason::NotANumber,
-        Reason::MissingOperand,
-        Reason::ExtraOperand,
-    ] {
-        let mut done = begun(alloc);
-        fail(alloc, &mut done, b"u", b"o", reason)?;
-        show_done(&done, &mut log)?;
+    for reason in &REASONS {
+        show_reason(alloc, *reason, &mut log)?;
     }
     Ok(log)
 }
@@ -192,7 +210,8 @@ fn a_refusal_is_a_fault_of_the_operand(rt: HostRuntime) -> Result<(), Fail> {
     let alloc = rt.alloc();
     let kind: Result<Kind, OperandNo> = named(alloc, b"o", Ok(Kind::Dir));
     assert!(rt; kind == Ok(Kind::Dir));
+    let name = Text::from_slice(alloc, b"o")?;
     let no = fault(alloc, b"o", Reason::BadPath);
-    assert!(rt; no == OperandNo::Fault(Text::from_slice(alloc, b"o")?, Reason::BadPath));
+    assert!(rt; no == OperandNo::Fault(name, Reason::BadPath));
     Ok(())
 }

@@ -4,6 +4,8 @@
 #[cfg(test)]
 mod chain;
 #[cfg(test)]
+mod common;
+#[cfg(test)]
 mod engine;
 #[cfg(test)]
 mod view;

@@ -1,28 +1,32 @@
 //! Desks over small trees. A state is a text of words like `f4/d/x`: d a directory, f a file of 2 bytes and g one of 300, then
 //! the stamp and the path; the root is always there, with stamp 1, and job 0 has ended. A call is a word of a letter and a path:
-//! k kind, s stamp, c content, n names, o outcome, m make_dir, r remove, t touch, p put of 1 byte, P put of 300, l place of 1
-//! byte with stamp 7. What is expected stands in one text: results | usage | units left + units used | changes. A file is shown
-//! as its bytes and its stamp, as `1b101`, a directory as `d101`. A job's first change has number 101.
+//! k kind, s stamp, c content, n names, o outcome of job 0, O of job 1, m make_dir, r remove, t touch, p put of 1 byte, P put of
+//! 300, l place of 1 byte with stamp 7; or of a digit and a path, for spend. What is expected stands in one text: results |
+//! usage | units left + units used | changes. A file is shown as its bytes and its stamp, as `1b101`, a directory as `d101`. A
+//! job's first change has number 101.
 ghost use Rattle.std.specs.Prelude.{◌≡◌, Some};
 ghost use Rattle.std.specs.FinMap as map;
 ghost use Rattle.em_path.specs.Paths.{IsPath, parent_text};
 ghost use Rattle.em_tree.specs.declared.node.Kind.TheVariants as kind;
 ghost use Rattle.em_tree.specs.Trees.{IsTree, kind_of};
 
+use super::common::{file, path, show_bytes};
 use em_base::{Fuel, NoMemory, Text};
 use em_path::Path;
 use em_tree::{
-    Answer, Body, Delta, Entry, Kind, NameList, Node, Outcome, Outcomes, Question, State, Tree,
+    Answer, Delta, Entry, Kind, NameList, Node, Outcome, Outcomes, Question, State, Tree,
 };
 use em_view::{Desk, DeskNo, FileNo, PlainView, ScriptView, View, blocks};
 use std::alloc::{AllocError, Global};
-use std::process::Abort;
 use std::test::Fail;
 
 mod calls;
 mod rows;
 mod scripts;
 mod shapes;
+
+/// The calls, the units that there are for them, and what is expected.
+type Row = (&'static str, u16, &'static str);
 
 /// Puts a node where there is none.
 fn put(tree: &mut Tree, above: &Path, path: Path, node: Node) -> Result<(), NoMemory>
@@ -36,50 +40,61 @@ fn put(tree: &mut Tree, above: &Path, path: Path, node: Node) -> Result<(), NoMe
     tree.set(path, node)
 }
 
-/// Puts a node at an absent path of a directory that is there, and else does nothing.
-fn add(alloc: Global, tree: &mut Tree, text: &[u8], node: Node) -> Result<(), Fail> {
-    let Some(path) = Path::from_text(alloc, text)? else {
-        return Ok(());
-    };
-    let Some(above) = path.parent(alloc)? else {
-        return Ok(());
-    };
+/// Puts a node at an absent path of this directory, if it is one, and else does nothing.
+fn add_below(tree: &mut Tree, above: &Path, path: Path, node: Node) -> Result<(), NoMemory>
+    requires { parent_text path ≡ Some above.now }
+{
     let _ = path.text();
-    if tree.kind(&above) == Kind::Dir && tree.kind(&path) == Kind::Absent {
-        put(tree, &above, path, node)?;
+    if tree.kind(above) == Kind::Dir && tree.kind(&path) == Kind::Absent {
+        return put(tree, above, path, node);
     }
     Ok(())
 }
 
-fn node(alloc: Global, letter: u8, stamp: u64) -> Result<Node, NoMemory> {
-    Ok(match letter {
-        b'd' => Node::Dir { stamp },
-        b'g' => Node::File {
-            body: Body::from_slice(alloc, &[b'x'; 300])?,
-            stamp,
-        },
-        _ => Node::File {
-            body: Body::from_slice(alloc, b"ab")?,
-            stamp,
-        },
-    })
+/// The same by the path alone.
+fn add(alloc: Global, tree: &mut Tree, path: Path, node: Node) -> Result<(), NoMemory> {
+    match path.parent(alloc) {
+        Ok(Some(above)) => add_below(tree, &above, path, node),
+        Ok(None) => Ok(()),
+        Err(_) => Err(NoMemory),
+    }
 }
 
-fn tree(alloc: Global, text: &str) -> Result<Tree, Fail> {
+fn node(alloc: Global, letter: u8, stamp: u64) -> Result<Node, NoMemory> {
+    match letter {
+        b'd' => Ok(Node::Dir { stamp }),
+        b'g' => file(alloc, &[b'x'; 300], stamp),
+        _ => file(alloc, b"ab", stamp),
+    }
+}
+
+/// Adds what a word names.
+fn add_word(alloc: Global, tree: &mut Tree, word: &str) -> Result<(), NoMemory> {
+    if let [letter, digit @ b'0'..=b'9', text @ ..] = word.as_bytes() {
+        let path = path(alloc, text)?;
+        let node = node(alloc, *letter, u64::from(*digit - b'0'))?;
+        return add(alloc, tree, path, node);
+    }
+    Ok(())
+}
+
+fn tree(alloc: Global, text: &str) -> Result<Tree, NoMemory> {
     let mut tree = Tree::new(alloc, 1)?;
     for word in text.split(' ') {
-        if let [letter, digit @ b'0'..=b'9', path @ ..] = word.as_bytes() {
-            let node = node(alloc, *letter, u64::from(*digit - b'0'))?;
-            add(alloc, &mut tree, path, node)?;
-        }
+        add_word(alloc, &mut tree, word)?;
     }
     Ok(tree)
 }
 
-fn state(alloc: Global, text: &str) -> Result<State, Fail> {
-    let tree = tree(alloc, text)?;
+fn outcomes(alloc: Global) -> Result<Outcomes, NoMemory> {
     let mut outcomes = Outcomes::new(alloc);
     outcomes.push(Outcome::Made)?;
+    Ok(outcomes)
+}
+
+fn state(alloc: Global, text: &str) -> Result<State, NoMemory> {
+    let tree = tree(alloc, text)?;
+    let outcomes = outcomes(alloc)?;
     Ok(State { tree, outcomes })
 }
 
@@ -89,7 +104,7 @@ fn keep(states: &mut Vec<State>, state: State) -> Result<(), NoMemory> {
 }
 
 /// The states that the text names, with `;` between them.
-fn states(alloc: Global, text: &str) -> Result<Vec<State>, Fail> {
+fn states(alloc: Global, text: &str) -> Result<Vec<State>, NoMemory> {
     let mut states = Vec::new(alloc);
     for one in text.split(';') {
         keep(&mut states, state(alloc, one)?)?;
@@ -103,8 +118,26 @@ fn read<V: View>(desk: &mut Desk<V>, letter: u8, path: &Path) -> Result<Answer, 
         b's' => Answer::Stamp(desk.stamp(path)?),
         b'c' => Answer::Content(desk.content(path)?),
         b'n' => Answer::Names(desk.names(path)?),
+        b'O' => Answer::Outcome(desk.outcome(1)?),
         _ => Answer::Outcome(desk.outcome(0)?),
     })
+}
+
+fn spend<V: View>(desk: &mut Desk<V>, units: u64) -> Result<(), DeskNo> {
+    Ok(desk.spend(units)?)
+}
+
+/// Puts a file of these bytes, or places it.
+fn write_file<V: View>(
+    desk: &mut Desk<V>,
+    letter: u8,
+    path: &Path,
+    bytes: &[u8],
+) -> Result<(), DeskNo> {
+    match letter {
+        b'l' => desk.place(path, bytes, 7),
+        _ => desk.put(path, bytes),
+    }
 }
 
 fn change<V: View>(desk: &mut Desk<V>, letter: u8, path: &Path) -> Result<(), DeskNo> {
@@ -112,20 +145,23 @@ fn change<V: View>(desk: &mut Desk<V>, letter: u8, path: &Path) -> Result<(), De
         b'm' => desk.make_dir(path),
         b'r' => desk.remove(path),
         b't' => desk.touch(path),
-        b'P' => desk.put(path, &[b'x'; 300]),
-        b'l' => desk.place(path, b"x", 7),
-        _ => desk.put(path, b"x"),
+        b'P' => write_file(desk, letter, path, &[b'x'; 300]),
+        b'0'..=b'9' => spend(desk, u64::from(letter - b'0')),
+        _ => write_file(desk, letter, path, b"x"),
     }
+}
+
+fn show_name_list(log: &mut String, names: &[Text]) -> Result<(), AllocError> {
+    for name in names {
+        show_bytes(log, name.bytes())?;
+        log.push_str(".")?;
+    }
+    Ok(())
 }
 
 fn show_names(log: &mut String, names: &NameList) -> Result<(), AllocError> {
     log.push_str("[")?;
-    for name in names.names() {
-        for byte in name.bytes() {
-            log.push(char::from(*byte))?;
-        }
-        log.push_str(".")?;
-    }
+    show_name_list(log, names.names())?;
     log.push_str("]")
 }
 
@@ -150,13 +186,6 @@ fn show_no(log: &mut String, no: DeskNo) -> Result<(), AllocError> {
     }
 }
 
-fn show_path(log: &mut String, path: &Path) -> Result<(), AllocError> {
-    for byte in path.text() {
-        log.push(char::from(*byte))?;
-    }
-    Ok(())
-}
-
 fn show_question(log: &mut String, question: &Question) -> Result<(), AllocError> {
     let (letter, path) = match question {
         Question::Kind(path) => ('K', path),
@@ -166,7 +195,7 @@ fn show_question(log: &mut String, question: &Question) -> Result<(), AllocError
         Question::Outcome(job) => return write!(log, "O{job}"),
     };
     log.push(letter)?;
-    show_path(log, path)
+    show_bytes(log, path.text())
 }
 
 fn show_node(log: &mut String, node: &Option<Node>) -> Result<(), AllocError> {
@@ -193,11 +222,25 @@ fn show_usage(log: &mut String, usage: &[Entry]) -> Result<(), AllocError> {
 fn show_changes(log: &mut String, changes: &Delta) -> Result<(), AllocError> {
     for (path, node) in changes.changes() {
         log.push_str(" ")?;
-        show_path(log, path)?;
+        show_bytes(log, path.text())?;
         log.push_str("=")?;
         show_node(log, node)?;
     }
     Ok(())
+}
+
+fn show_done(log: &mut String, done: Result<(), DeskNo>) -> Result<(), AllocError> {
+    match done {
+        Ok(()) => log.push_str("ok"),
+        Err(no) => show_no(log, no),
+    }
+}
+
+fn show_read(log: &mut String, read: Result<Answer, DeskNo>) -> Result<(), AllocError> {
+    match read {
+        Ok(answer) => show_answer(log, &answer),
+        Err(no) => show_no(log, no),
+    }
 }
 
 /// Does one call, and shows its result.
@@ -207,17 +250,24 @@ fn step<V: View>(
     path: &Path,
     log: &mut String,
 ) -> Result<(), AllocError> {
-    if matches!(letter, b'k' | b's' | b'c' | b'n' | b'o') {
-        match read(desk, letter, path) {
-            Ok(answer) => show_answer(log, &answer),
-            Err(no) => show_no(log, no),
-        }
-    } else {
-        match change(desk, letter, path) {
-            Ok(()) => log.push_str("ok"),
-            Err(no) => show_no(log, no),
-        }
+    match letter {
+        b'k' | b's' | b'c' | b'n' | b'o' | b'O' => show_read(log, read(desk, letter, path)),
+        _ => show_done(log, change(desk, letter, path)),
     }
+}
+
+/// Does the call that a word names.
+fn step_word<V: View>(
+    alloc: Global,
+    desk: &mut Desk<V>,
+    word: &str,
+    log: &mut String,
+) -> Result<(), NoMemory> {
+    if let [letter, text @ ..] = word.as_bytes() {
+        let path = path(alloc, text)?;
+        step(desk, *letter, &path, log)?;
+    }
+    Ok(())
 }
 
 fn steps<V: View>(
@@ -225,181 +275,254 @@ fn steps<V: View>(
     desk: &mut Desk<V>,
     script: &str,
     log: &mut String,
-) -> Result<(), Fail> {
+) -> Result<(), NoMemory> {
     for word in script.split(' ') {
-        if let [letter, text @ ..] = word.as_bytes() {
-            let path = Path::from_text(alloc, text)?.ok_or("no path")?;
-            step(desk, *letter, &path, log)?;
-            log.push_str(" ")?;
-        }
+        step_word(alloc, desk, word, log)?;
+        log.push_str(" ")?;
     }
     Ok(())
 }
 
-/// What the calls give, in the order of the script, and what is left of the desk.
-fn run<V: View>(alloc: Global, view: V, fuel: u16, script: &str) -> Result<String, Fail> {
-    let mut desk = Desk::new(alloc, view, 100, 0, Fuel::new(u64::from(fuel)));
-    let mut log = String::new(alloc);
-    steps(alloc, &mut desk, script, &mut log)?;
-    log.push_str("| ")?;
-    let left = desk.left();
-    let (usage, changes, used) = desk.close();
-    finish(&mut log, &usage, &changes, left, used)?;
-    Ok(log)
-}
-
-fn finish(
+/// What is left of a desk.
+fn show_end(
     log: &mut String,
     usage: &[Entry],
     changes: &Delta,
     left: u64,
     used: u64,
 ) -> Result<(), AllocError> {
+    log.push_str("| ")?;
     show_usage(log, usage)?;
     write!(log, "| {left}+{used} |")?;
     show_changes(log, changes)
 }
 
-/// The calls over the states, one for each question and the last one for all that come then.
-fn play(alloc: Global, text: &str, fuel: u16, script: &str) -> Result<String, Fail> {
-    let states = states(alloc, text)?;
-    if states.is_empty() {
-        return Ok(String::new(alloc));
-    }
-    run(alloc, ScriptView::new(states), fuel, script)
+fn finish<V: View>(desk: Desk<V>, log: &mut String) -> Result<(), AllocError> {
+    let left = desk.left();
+    let (usage, changes, used) = desk.close();
+    show_end(log, usage.as_slice(), &changes, left, used)
 }
 
-fn play_table(
-    rt: &impl Abort,
+/// What the calls of a job give, in the order of the script, and what is left of its desk.
+fn run<V: View>(
     alloc: Global,
-    table: &[(&str, u16, &str)],
+    view: V,
+    job: u32,
+    fuel: u16,
+    script: &str,
+    log: &mut String,
+) -> Result<(), NoMemory> {
+    let mut desk = Desk::new(alloc, view, 100, job, Fuel::new(u64::from(fuel)));
+    steps(alloc, &mut desk, script, log)?;
+    Ok(finish(desk, log)?)
+}
+
+/// The calls over the states, one for each question and the last one for all that come then.
+fn play(
+    alloc: Global,
     text: &str,
-) -> Result<(), Fail> {
-    for (script, fuel, want) in table {
-        let log = play(alloc, text, *fuel, script)?;
-        assert_eq!(rt; log.as_str(), *want, "{script}");
+    fuel: u16,
+    script: &str,
+    log: &mut String,
+) -> Result<(), NoMemory> {
+    let states = states(alloc, text)?;
+    if states.is_empty() {
+        return Ok(());
+    }
+    run(alloc, ScriptView::new(states), 0, fuel, script, log)
+}
+
+fn log_of(alloc: Global, text: &str, fuel: u16, script: &str) -> Result<String, NoMemory> {
+    let mut log = String::new(alloc);
+    play(alloc, text, fuel, script, &mut log)?;
+    Ok(log)
+}
+
+/// Adds the calls to those that are wrong, unless they give what is expected.
+fn check(
+    alloc: Global,
+    text: &str,
+    fuel: u16,
+    script: &str,
+    want: &str,
+    wrong: &mut String,
+) -> Result<(), NoMemory> {
+    let log = log_of(alloc, text, fuel, script)?;
+    if log.as_str() != want {
+        write!(wrong, "{script}: {log}\n")?;
+    }
+    Ok(())
+}
+
+fn check_rows(alloc: Global, text: &str, rows: &[Row], wrong: &mut String) -> Result<(), NoMemory> {
+    for (script, fuel, want) in rows {
+        check(alloc, text, *fuel, script, want, wrong)?;
+    }
+    Ok(())
+}
+
+/// The ten tables over the state of two directories and two files.
+fn table(i: u8) -> &'static [Row] {
+    match i {
+        0 => &calls::KINDS_AND_STAMPS,
+        1 => &calls::CONTENTS_AND_NAMES,
+        2 => &calls::PUTS,
+        3 => &calls::PLACES,
+        4 => &calls::DIRECTORIES,
+        5 => &calls::REMOVALS,
+        6 => &calls::TOUCHES,
+        7 => &scripts::SPENT,
+        8 => &scripts::FILES,
+        _ => &scripts::DIRECTORIES,
+    }
+}
+
+fn check_tables(alloc: Global, wrong: &mut String) -> Result<(), NoMemory> {
+    for i in 0..10 {
+        check_rows(alloc, calls::STATE, table(i), wrong)?;
+    }
+    Ok(())
+}
+
+fn check_contradictions(alloc: Global, wrong: &mut String) -> Result<(), NoMemory> {
+    for (text, script, want) in &rows::CONTRADICTIONS {
+        check(alloc, text, 20, script, want, wrong)?;
     }
     Ok(())
 }
 
 #[test]
 fn calls_over_the_root_alone(rt: HostRuntime) -> Result<(), Fail> {
-    play_table(&rt, rt.alloc(), &rows::ROOT_ALONE, "")
+    let mut wrong = String::new(rt.alloc());
+    check_rows(rt.alloc(), "", &rows::ROOT_ALONE, &mut wrong)?;
+    assert_eq!(rt; wrong.as_str(), "");
+    Ok(())
 }
 
 #[test]
 fn each_call_is_as_its_row_says(rt: HostRuntime) -> Result<(), Fail> {
-    play_table(&rt, rt.alloc(), &calls::KINDS_AND_STAMPS, calls::STATE)?;
-    play_table(&rt, rt.alloc(), &calls::CONTENTS_AND_NAMES, calls::STATE)?;
-    play_table(&rt, rt.alloc(), &calls::PUTS, calls::STATE)?;
-    play_table(&rt, rt.alloc(), &calls::PLACES, calls::STATE)
-}
-
-#[test]
-fn each_other_call_is_as_its_row_says(rt: HostRuntime) -> Result<(), Fail> {
-    play_table(&rt, rt.alloc(), &calls::DIRECTORIES, calls::STATE)?;
-    play_table(&rt, rt.alloc(), &calls::REMOVALS, calls::STATE)?;
-    play_table(&rt, rt.alloc(), &calls::TOUCHES, calls::STATE)?;
-    play_table(&rt, rt.alloc(), &scripts::SPENT, calls::STATE)
-}
-
-fn play_scripts(rt: &impl Abort, alloc: Global, table: &[(&str, &str)]) -> Result<(), Fail> {
-    for (script, want) in table {
-        let log = play(alloc, calls::STATE, 20, script)?;
-        assert_eq!(rt; log.as_str(), *want, "{script}");
-    }
+    let mut wrong = String::new(rt.alloc());
+    check_tables(rt.alloc(), &mut wrong)?;
+    assert_eq!(rt; wrong.as_str(), "");
     Ok(())
-}
-
-#[test]
-fn own_changes_are_seen_and_not_asked(rt: HostRuntime) -> Result<(), Fail> {
-    play_scripts(&rt, rt.alloc(), &scripts::FILES)?;
-    play_scripts(&rt, rt.alloc(), &scripts::DIRECTORIES)
 }
 
 #[test]
 fn answers_that_do_not_fit_together_are_taken_as_they_come(rt: HostRuntime) -> Result<(), Fail> {
-    for (text, script, want) in &rows::CONTRADICTIONS {
-        let log = play(rt.alloc(), text, 20, script)?;
-        assert_eq!(rt; log.as_str(), *want, "{script}");
-    }
+    let mut wrong = String::new(rt.alloc());
+    check_contradictions(rt.alloc(), &mut wrong)?;
+    assert_eq!(rt; wrong.as_str(), "");
     Ok(())
 }
 
 /// So many bytes.
-fn bytes(alloc: Global, size: usize) -> Result<Text, Fail> {
+fn bytes(alloc: Global, size: usize) -> Result<Text, NoMemory> {
     Ok(Text::from_vec(vec![in alloc; b'x'; size]?))
+}
+
+/// Files that are put or placed one after another, with the units for the greatest.
+static SIZES: [(u8, usize); 3] = [(b'p', 16_777_217), (b'l', 16_777_217), (b'p', 16_777_216)];
+
+fn write_much<V: View>(
+    alloc: Global,
+    desk: &mut Desk<V>,
+    letter: u8,
+    size: usize,
+    log: &mut String,
+) -> Result<(), NoMemory> {
+    let text = bytes(alloc, size)?;
+    let path = path(alloc, b"/a")?;
+    Ok(show_done(log, write_file(desk, letter, &path, text.bytes()))?)
+}
+
+/// What each file gives, and the units that are left then.
+fn write_sizes<V: View>(
+    alloc: Global,
+    desk: &mut Desk<V>,
+    log: &mut String,
+) -> Result<(), NoMemory> {
+    for (letter, size) in &SIZES {
+        write_much(alloc, desk, *letter, *size, log)?;
+        let left = desk.left();
+        write!(log, " {left} ")?;
+    }
+    Ok(())
+}
+
+fn try_sizes(alloc: Global, log: &mut String) -> Result<(), NoMemory> {
+    let state = state(alloc, "")?;
+    let view = PlainView::new(&state);
+    let mut desk = Desk::new(alloc, view, 100, 0, Fuel::new(65_537));
+    write_sizes(alloc, &mut desk, log)
 }
 
 #[test]
 fn a_file_of_16_mib_is_the_greatest(rt: HostRuntime) -> Result<(), Fail> {
-    let state = state(rt.alloc(), "")?;
-    let mut desk = Desk::new(
-        rt.alloc(),
-        PlainView::new(&state),
-        100,
-        0,
-        Fuel::new(65_537),
-    );
-    let path = Path::from_text(rt.alloc(), b"/a")?.ok_or("no path")?;
-    let much = bytes(rt.alloc(), 16_777_217)?;
-    assert_eq!(rt;
-        desk.put(&path, much.bytes()),
-        Err(DeskNo::File(FileNo::TooBig))
-    );
-    assert_eq!(rt;
-        desk.place(&path, much.bytes(), 7),
-        Err(DeskNo::File(FileNo::TooBig))
-    );
-    assert_eq!(rt; desk.left(), 65_537);
-    let most = bytes(rt.alloc(), 16_777_216)?;
-    assert_eq!(rt; desk.put(&path, most.bytes()), Ok(()));
-    assert_eq!(rt; desk.left(), 0);
+    let mut log = String::new(rt.alloc());
+    try_sizes(rt.alloc(), &mut log)?;
+    assert_eq!(rt; log.as_str(), "!TooBig 65537 !TooBig 65537 ok 0 ");
     Ok(())
+}
+
+/// A change of job 2, which has 5 units.
+fn try_number(alloc: Global, log: &mut String) -> Result<(), NoMemory> {
+    let state = state(alloc, "")?;
+    let view = PlainView::new(&state);
+    run(alloc, view, 2, 5, "t/ s/ O/ 3/ 1/", log)
 }
 
 #[test]
 fn a_change_has_a_number_of_its_job(rt: HostRuntime) -> Result<(), Fail> {
-    let state = state(rt.alloc(), "")?;
-    let mut desk = Desk::new(rt.alloc(), PlainView::new(&state), 100, 2, Fuel::new(5));
-    let root = Path::root();
-    assert_eq!(rt; desk.touch(&root), Ok(()));
-    assert_eq!(rt; desk.stamp(&root), Ok(Some(2_097_253)));
-    assert!(rt; desk.outcome(1) == Ok(None));
-    assert!(rt; desk.spend(3).is_err());
-    assert!(rt; desk.spend(1).is_ok());
-    assert_eq!(rt; desk.left(), 1);
+    let mut log = String::new(rt.alloc());
+    try_number(rt.alloc(), &mut log)?;
+    assert_eq!(rt;
+        log.as_str(),
+        "ok 2097253 - !Spent ok | K/=Dir O1=- | 1+4 | /=d2097253"
+    );
+    Ok(())
+}
+
+static BLOCKS: [(u64, u64); 5] = [
+    (0, 0),
+    (1, 1),
+    (256, 1),
+    (257, 2),
+    (u64::MAX, 72_057_594_037_927_936),
+];
+
+#[test]
+fn blocks_have_256_bytes(rt: HostRuntime) {
+    for (bytes, want) in &BLOCKS {
+        assert_eq!(rt; blocks(*bytes), *want);
+    }
+}
+
+static REFUSALS: [FileNo; 8] = [
+    FileNo::Absent,
+    FileNo::NoParent,
+    FileNo::NotDir,
+    FileNo::IsDir,
+    FileNo::Exists,
+    FileNo::NotEmpty,
+    FileNo::TooBig,
+    FileNo::Root,
+];
+
+fn show_refusals(log: &mut String) -> Result<(), AllocError> {
+    for no in &REFUSALS {
+        let no = DeskNo::File(*no);
+        write!(log, "{no}; ")?;
+    }
     Ok(())
 }
 
 #[test]
-fn blocks_have_256_bytes(rt: HostRuntime) {
-    for (bytes, want) in [
-        (0, 0),
-        (1, 1),
-        (256, 1),
-        (257, 2),
-        (u64::MAX, 72_057_594_037_927_936),
-    ] {
-        assert_eq!(rt; blocks(bytes), want);
-    }
-}
-
-#[test]
 fn refusals_are_told_in_words(rt: HostRuntime) -> Result<(), Fail> {
-    for (no, want) in [
-        (FileNo::Absent, "absent"),
-        (FileNo::NoParent, "no parent"),
-        (FileNo::NotDir, "not a directory"),
-        (FileNo::IsDir, "is a directory"),
-        (FileNo::Exists, "exists"),
-        (FileNo::NotEmpty, "not empty"),
-        (FileNo::TooBig, "too big"),
-        (FileNo::Root, "root"),
-    ] {
-        let no = DeskNo::File(no);
-        let text = format!(in rt.alloc(); "{no}")?;
-        assert_eq!(rt; text.as_str(), want);
-    }
+    let mut log = String::new(rt.alloc());
+    show_refusals(&mut log)?;
+    assert_eq!(rt;
+        log.as_str(),
+        "absent; no parent; not a directory; is a directory; exists; not empty; too big; root; "
+    );
     Ok(())
 }

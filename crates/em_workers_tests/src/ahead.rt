@@ -1,21 +1,76 @@
 //! Jobs that were run ahead, and what the committer makes of that.
 use super::gates::Publisher;
-use em_engine::Claim;
+use em_base::Seq;
+use em_engine::{Claim, Front, Note};
 use em_host::MemHost;
-use em_run::{Run, Work};
+use em_run::Work;
 use em_shared::Shared;
 use em_testing::{
     Counter, Link, Linker, THREE, front_of, links_of, run_at_root, shared_of, show_bytes,
     show_notes,
 };
-use em_workers::{Gate, OpenGate, SharedLender, commit_all, work};
-use std::alloc::Global;
+use em_workers::{BuildNo, Gate, OpenGate, SharedLender, commit_all, work};
+use std::alloc::{AllocError, Global};
 use std::sync::Wait;
 use std::test::Fail;
 
+/// What is done on the board before the three jobs are committed.
+#[derive(Clone, Copy)]
+enum Before {
+    /// A run of job 0 is published that asked the board nothing.
+    Publish,
+    /// Job 0 is claimed and given up.
+    GiveUp,
+    /// A worker runs what it can, and a run of job 0 that asked the board nothing is published before this ask of job 1.
+    PublishAt(u32),
+}
+
+/// What is done before, and what comes of the three jobs then.
+static ROWS: [(Before, &str); 4] = [
+    (
+        Before::Publish,
+        "0 in 2 strange 0: board none, run content of /z is no content; 1 in 1; 2 in 1; \
+         /a/a/b/a/b/c",
+    ),
+    (
+        Before::GiveUp,
+        "0 in 2 memory; 1 in 1; 2 in 1; /a/a/b/a/b/c",
+    ),
+    (
+        Before::PublishAt(0),
+        "0 in 2 strange 0: board none, run content of /z is no content; 1 in 1; 2 in 1; \
+         /a/a/b/a/b/c",
+    ),
+    (
+        Before::PublishAt(1),
+        "0 in 2 strange 0: board none, run content of /z is no content; \
+         1 in 2 differ 0: content of /a was no content is /a after 0; \
+         2 in 2 differ 0: content of /b was /b is /a/b after 1; \
+         /a/a/b/a/b/c",
+    ),
+];
+
 /// Whether the board has a job for the committer.
 fn is_any_free<R: Wait>(rt: &R, shared: &Shared<Link>) -> bool {
-    (0..3).any(|job| shared.claim_front(rt, job))
+    for job in 0..3 {
+        if shared.claim_front(rt, job) {
+            return true;
+        }
+    }
+    false
+}
+
+/// Commits the front's jobs, and gives the notes.
+fn notes_of<R: Wait, W: Work<Link>>(
+    rt: &R,
+    alloc: Global,
+    shared: &Shared<Link>,
+    w: &W,
+    front: &mut Front<Link>,
+    host: &mut MemHost,
+) -> Result<Seq<Note>, BuildNo> {
+    let mut lender = SharedLender::new(rt, shared);
+    commit_all(alloc, &mut lender, front, w, &OpenGate, host)
 }
 
 /// Commits the three jobs, and shows the notes.
@@ -27,26 +82,23 @@ fn commit_three<R: Wait, W: Work<Link>>(
     host: &mut MemHost,
     log: &mut String,
 ) -> Result<(), Fail> {
-    let mut lender = SharedLender::new(rt, shared);
     let mut front = front_of(alloc, &THREE)?;
-    let notes = commit_all(alloc, &mut lender, &mut front, w, &OpenGate, host)?;
-    show_notes(log, notes.items())?;
-    Ok(())
+    let notes = notes_of(rt, alloc, shared, w, &mut front, host)?;
+    Ok(show_notes(log, notes.items())?)
 }
 
 /// Commits the three jobs: the notes, whether a job is free then, and what was printed.
-fn committed<R: Wait, W: Work<Link>>(
+fn show_committed<R: Wait, W: Work<Link>>(
     rt: &R,
     alloc: Global,
     shared: &Shared<Link>,
     w: &W,
-) -> Result<String, Fail> {
+    log: &mut String,
+) -> Result<(), Fail> {
     let mut host = MemHost::new(alloc);
-    let mut log = String::new(alloc);
-    commit_three(rt, alloc, shared, w, &mut host, &mut log)?;
+    commit_three(rt, alloc, shared, w, &mut host, log)?;
     log.push_str(if is_any_free(rt, shared) { "free " } else { "" })?;
-    show_bytes(&mut log, host.printed())?;
-    Ok(log)
+    Ok(show_bytes(log, host.printed())?)
 }
 
 /// Runs what can be run of the three jobs, as worker 1.
@@ -62,100 +114,104 @@ fn work_ahead<R: Wait, W: Work<Link>, G: Gate>(
     Ok(())
 }
 
-/// Claims job 0, and gives a run of it that asked the board nothing.
-fn plain_run<R: Wait>(rt: &R, alloc: Global, shared: &Shared<Link>) -> Result<Run<Link>, Fail> {
+/// Claims job 0.
+fn claim<R: Wait>(rt: &R, shared: &Shared<Link>) -> Result<(), Fail> {
     if shared.claim(rt) != Claim::Job(0) {
         return Err("no job".into());
     }
-    run_at_root(alloc, &THREE, 0)
+    Ok(())
 }
 
-/// What comes of the three jobs where a run of job 0 was published that asked the board nothing.
-fn strange<R: Wait>(rt: &R, alloc: Global) -> Result<String, Fail> {
-    let shared = shared_of(alloc, &THREE, false)?;
-    let run = plain_run(rt, alloc, &shared)?;
+/// Publishes a run of job 0 that asked the board nothing.
+fn publish<R: Wait>(rt: &R, alloc: Global, shared: &Shared<Link>) -> Result<(), Fail> {
+    let run = run_at_root(alloc, &THREE, 0)?;
     if shared.publish(rt, run).is_err() {
         return Err("not published".into());
     }
-    committed(rt, alloc, &shared, &Linker)
+    Ok(())
 }
 
-/// What comes of the three jobs where job 0 was claimed and given up.
-fn given_up<R: Wait>(rt: &R, alloc: Global) -> Result<String, Fail> {
-    let shared = shared_of(alloc, &THREE, false)?;
-    if shared.claim(rt) != Claim::Job(0) {
-        return Err("no job".into());
+/// Runs what can be run where such a run is published before this ask of job 1.
+fn publish_at<R: Wait>(
+    rt: &R,
+    alloc: Global,
+    shared: &Shared<Link>,
+    step: u32,
+) -> Result<(), Fail> {
+    let run = run_at_root(alloc, &THREE, 0)?;
+    let gate = Publisher::new(rt, shared, run, step);
+    work_ahead(rt, alloc, shared, &Linker, &gate)
+}
+
+fn begin<R: Wait>(
+    rt: &R,
+    alloc: Global,
+    shared: &Shared<Link>,
+    before: Before,
+) -> Result<(), Fail> {
+    claim(rt, shared)?;
+    match before {
+        Before::Publish => publish(rt, alloc, shared),
+        Before::GiveUp => {
+            shared.give_up(rt, 0);
+            Ok(())
+        }
+        Before::PublishAt(step) => publish_at(rt, alloc, shared, step),
     }
-    shared.give_up(rt, 0);
-    committed(rt, alloc, &shared, &Linker)
+}
+
+fn play<R: Wait>(rt: &R, alloc: Global, before: Before, log: &mut String) -> Result<(), Fail> {
+    let shared = shared_of(alloc, &THREE, false)?;
+    begin(rt, alloc, &shared, before)?;
+    show_committed(rt, alloc, &shared, &Linker, log)
+}
+
+fn log_of<R: Wait>(rt: &R, alloc: Global, before: Before) -> Result<String, Fail> {
+    let mut log = String::new(alloc);
+    play(rt, alloc, before, &mut log)?;
+    Ok(log)
 }
 
 #[test]
 fn what_cannot_be_kept_of_a_job_is_run_again(rt: HostRuntime) -> Result<(), Fail> {
-    for (log, wanted) in [
-        (
-            strange(&rt, rt.alloc())?,
-            "0 in 2 strange 0: board none, run content of /z is no content; 1 in 1; 2 in 1; \
-             /a/a/b/a/b/c",
-        ),
-        (
-            given_up(&rt, rt.alloc())?,
-            "0 in 2 memory; 1 in 1; 2 in 1; /a/a/b/a/b/c",
-        ),
-    ] {
-        assert_eq!(rt; log.as_str(), wanted);
+    for (before, wanted) in &ROWS {
+        let log = log_of(&rt, rt.alloc(), *before)?;
+        assert_eq!(rt; log.as_str(), *wanted);
+    }
+    Ok(())
+}
+
+fn show_runs(counter: &Counter<Linker>, log: &mut String) -> Result<(), AllocError> {
+    for job in 0..3 {
+        let runs = counter.runs(job);
+        write!(log, " {runs}")?;
     }
     Ok(())
 }
 
 /// What comes of the three jobs where a worker has run them all, each behind those that it waits for.
-fn kept<R: Wait>(rt: &R, alloc: Global, counter: &Counter<Linker>) -> Result<String, Fail> {
+fn show_kept<R: Wait>(
+    rt: &R,
+    alloc: Global,
+    counter: &Counter<Linker>,
+    log: &mut String,
+) -> Result<(), Fail> {
     let shared = shared_of(alloc, &THREE, true)?;
     work_ahead(rt, alloc, &shared, counter, &OpenGate)?;
-    committed(rt, alloc, &shared, counter)
+    show_committed(rt, alloc, &shared, counter, log)
+}
+
+/// The same, and how often each job was run.
+fn show_counted<R: Wait>(rt: &R, alloc: Global, log: &mut String) -> Result<(), Fail> {
+    let counter = Counter::new(alloc, Linker, 3)?;
+    show_kept(rt, alloc, &counter, log)?;
+    Ok(show_runs(&counter, log)?)
 }
 
 #[test]
 fn a_run_that_was_answered_right_is_kept(rt: HostRuntime) -> Result<(), Fail> {
-    let counter = Counter::new(rt.alloc(), Linker, 3)?;
-    let log = kept(&rt, rt.alloc(), &counter)?;
-    assert_eq!(rt; log.as_str(), "0 in 1; 1 in 1; 2 in 1; /a/a/b/a/b/c");
-    for job in 0..3 {
-        assert!(rt; counter.runs(job) == 1, "job {job}");
-    }
-    Ok(())
-}
-
-/// Before which ask of job 1 a run of job 0 is published, and what comes of it. That run asked the board nothing.
-static PUBLISHED: [(u32, &str); 2] = [
-    (
-        0,
-        "0 in 2 strange 0: board none, run content of /z is no content; 1 in 1; 2 in 1; \
-         /a/a/b/a/b/c",
-    ),
-    (
-        1,
-        "0 in 2 strange 0: board none, run content of /z is no content; \
-         1 in 2 differ 0: content of /a was no content is /a after 0; \
-         2 in 2 differ 0: content of /b was /b is /a/b after 1; \
-         /a/a/b/a/b/c",
-    ),
-];
-
-/// What comes of the three jobs where a run of job 0 is published before this ask of job 1.
-fn published_at<R: Wait>(rt: &R, alloc: Global, step: u32) -> Result<String, Fail> {
-    let shared = shared_of(alloc, &THREE, false)?;
-    let run = plain_run(rt, alloc, &shared)?;
-    let gate = Publisher::new(rt, &shared, run, step);
-    work_ahead(rt, alloc, &shared, &Linker, &gate)?;
-    committed(rt, alloc, &shared, &Linker)
-}
-
-#[test]
-fn a_job_is_answered_by_what_is_published_when_it_asks(rt: HostRuntime) -> Result<(), Fail> {
-    for (step, wanted) in &PUBLISHED {
-        let log = published_at(&rt, rt.alloc(), *step)?;
-        assert_eq!(rt; log.as_str(), *wanted);
-    }
+    let mut log = String::new(rt.alloc());
+    show_counted(&rt, rt.alloc(), &mut log)?;
+    assert_eq!(rt; log.as_str(), "0 in 1; 1 in 1; 2 in 1; /a/a/b/a/b/c 1 1 1");
     Ok(())
 }

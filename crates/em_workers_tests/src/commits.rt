@@ -5,7 +5,8 @@ ghost use Rattle.em_shared.specs.Waited.{IsLent};
 use super::gates::rerun_one;
 use super::shows::show_settled;
 use super::turns::run_lent;
-use em_engine::{Front, Taken};
+use em_base::Seq;
+use em_engine::{Front, Note, Taken};
 use em_host::MemHost;
 use em_testing::{
     Link, Linker, Plan, THREE, front_of, run_at_root, run_of, show_bytes, show_notes,
@@ -70,7 +71,25 @@ fn script(alloc: Global) -> Result<ScriptLender<Link>, Fail> {
     Ok(ScriptLender::new(alloc, lends))
 }
 
-/// Commits the plan's jobs, and shows the notes, or that the host failed.
+/// Commits the front's jobs, and gives the notes.
+fn notes_of(
+    alloc: Global,
+    front: &mut Front<Link>,
+    lender: &mut ScriptLender<Link>,
+    host: &mut MemHost,
+) -> Result<Seq<Note>, BuildNo> {
+    commit_all(alloc, lender, front, &Linker, &OpenGate, host)
+}
+
+/// The notes, or that the host failed.
+fn show_end(log: &mut String, end: Result<Seq<Note>, BuildNo>) -> Result<(), AllocError> {
+    match end {
+        Ok(notes) => show_notes(log, notes.items()),
+        Err(BuildNo::Host) => log.push_str("host "),
+        Err(BuildNo::NoMemory) => log.push_str("memory "),
+    }
+}
+
 fn commit_plan(
     alloc: Global,
     plan: Plan<'_>,
@@ -79,12 +98,8 @@ fn commit_plan(
     log: &mut String,
 ) -> Result<(), Fail> {
     let mut front = front_of(alloc, plan)?;
-    match commit_all(alloc, lender, &mut front, &Linker, &OpenGate, host) {
-        Ok(notes) => show_notes(log, notes.items())?,
-        Err(BuildNo::Host) => log.push_str("host ")?,
-        Err(BuildNo::NoMemory) => log.push_str("memory ")?,
-    }
-    Ok(())
+    let end = notes_of(alloc, &mut front, lender, host);
+    Ok(show_end(log, end)?)
 }
 
 /// What was settled, whether the lender was stopped, and what was printed.
@@ -100,23 +115,27 @@ fn show_told(
 }
 
 /// What comes of the plan's jobs, by this lender on this host.
-fn committed(
+fn show_committed(
     alloc: Global,
     plan: Plan<'_>,
     lender: &mut ScriptLender<Link>,
     host: &mut MemHost,
-) -> Result<String, Fail> {
-    let mut log = String::new(alloc);
-    commit_plan(alloc, plan, lender, host, &mut log)?;
-    show_told(&mut log, lender, host.printed())?;
-    Ok(log)
+    log: &mut String,
+) -> Result<(), Fail> {
+    commit_plan(alloc, plan, lender, host, log)?;
+    Ok(show_told(log, lender, host.printed())?)
+}
+
+fn commit_five(alloc: Global, log: &mut String) -> Result<(), Fail> {
+    let mut lender = script(alloc)?;
+    let mut host = MemHost::new(alloc);
+    show_committed(alloc, &FIVE, &mut lender, &mut host, log)
 }
 
 #[test]
 fn all_that_is_lent_is_committed_in_order(rt: HostRuntime) -> Result<(), Fail> {
-    let mut lender = script(rt.alloc())?;
-    let mut host = MemHost::new(rt.alloc());
-    let log = committed(rt.alloc(), &FIVE, &mut lender, &mut host)?;
+    let mut log = String::new(rt.alloc());
+    commit_five(rt.alloc(), &mut log)?;
     assert_eq!(rt;
         log.as_str(),
         "0 in 1; 1 in 2 memory; 2 in 2 differ 0: content of /b was no content is /a/b after 1; \
@@ -127,12 +146,23 @@ fn all_that_is_lent_is_committed_in_order(rt: HostRuntime) -> Result<(), Fail> {
     Ok(())
 }
 
+/// A host whose second print fails.
+fn failing(alloc: Global) -> Result<MemHost, Fail> {
+    let mut host = MemHost::new(alloc);
+    host.fail_at(1)?;
+    Ok(host)
+}
+
+fn commit_failing(alloc: Global, log: &mut String) -> Result<(), Fail> {
+    let mut host = failing(alloc)?;
+    let mut lender = ScriptLender::new(alloc, Vec::new(alloc));
+    show_committed(alloc, &THREE, &mut lender, &mut host, log)
+}
+
 #[test]
 fn a_host_that_fails_ends_the_commits(rt: HostRuntime) -> Result<(), Fail> {
-    let mut lender = ScriptLender::new(rt.alloc(), Vec::new(rt.alloc()));
-    let mut host = MemHost::new(rt.alloc());
-    host.fail_at(1)?;
-    let log = committed(rt.alloc(), &THREE, &mut lender, &mut host)?;
+    let mut log = String::new(rt.alloc());
+    commit_failing(rt.alloc(), &mut log)?;
     assert_eq!(rt; log.as_str(), "host | 0 made / /a; stopped /a");
     Ok(())
 }

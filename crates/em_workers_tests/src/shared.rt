@@ -1,10 +1,10 @@
 //! A shared board, call after call, on one thread.
 use em_engine::{Claim, Taken};
 use em_path::Path;
-use em_run::Parts;
+use em_run::Run;
 use em_shared::{Held, SettleNo, Shared};
 use em_testing::{Link, THREE, path_of, run_at_root, shared_of, show_answer};
-use em_tree::Question;
+use em_tree::{Delta, Outcome, Question};
 use std::alloc::{AllocError, Global};
 use std::sync::Wait;
 use std::test::Fail;
@@ -110,16 +110,16 @@ static ROWS: [Row; 3] = [
     ),
 ];
 
-/// A question of each kind.
-fn questions(alloc: Global) -> Result<Vec<Question>, Fail> {
-    let mut questions = Vec::new(alloc);
+/// The i-th of five questions, one of each kind.
+fn question(alloc: Global, i: u8) -> Result<Question, Fail> {
     let names = path_of(alloc, "/a")?;
-    questions.push(Question::Kind(Path::root()))?;
-    questions.push(Question::Stamp(Path::root()))?;
-    questions.push(Question::Content(Path::root()))?;
-    questions.push(Question::Names(names))?;
-    questions.push(Question::Outcome(0))?;
-    Ok(questions)
+    Ok(match i {
+        0 => Question::Kind(Path::root()),
+        1 => Question::Stamp(Path::root()),
+        2 => Question::Content(Path::root()),
+        3 => Question::Names(names),
+        _ => Question::Outcome(0),
+    })
 }
 
 fn show_claim(claim: Claim, log: &mut String) -> Result<(), AllocError> {
@@ -143,6 +143,19 @@ fn show_taken(taken: &Option<Taken<Link>>, log: &mut String) -> Result<(), Alloc
     }
 }
 
+fn ask_one<R: Wait>(
+    rt: &R,
+    alloc: Global,
+    shared: &Shared<Link>,
+    job: u32,
+    i: u8,
+    log: &mut String,
+) -> Result<(), Fail> {
+    let question = question(alloc, i)?;
+    let answer = shared.ask(rt, alloc, job, &question)?;
+    Ok(show_answer(log, &answer)?)
+}
+
 fn ask<R: Wait>(
     rt: &R,
     alloc: Global,
@@ -150,13 +163,9 @@ fn ask<R: Wait>(
     job: u32,
     log: &mut String,
 ) -> Result<(), Fail> {
-    let questions = questions(alloc)?;
-    let mut between = "";
-    for question in questions.as_slice() {
-        let answer = shared.ask(rt, alloc, job, question)?;
-        log.push_str(between)?;
-        show_answer(log, &answer)?;
-        between = ", ";
+    for i in 0..5 {
+        log.push_str(if i == 0 { "" } else { ", " })?;
+        ask_one(rt, alloc, shared, job, i, log)?;
     }
     Ok(())
 }
@@ -189,6 +198,12 @@ fn publish<R: Wait>(
     })
 }
 
+/// What a run has changed, and how it ended.
+fn effect_of(run: Run<Link>) -> (Delta, Outcome) {
+    let parts = run.into_parts();
+    (parts.delta, parts.outcome)
+}
+
 /// Settles a job with what its run over a root alone holds.
 fn settle<R: Wait>(
     rt: &R,
@@ -196,20 +211,58 @@ fn settle<R: Wait>(
     shared: &Shared<Link>,
     job: u32,
 ) -> Result<&'static str, Fail> {
-    let run = run_at_root(alloc, &THREE, job)?;
-    let Parts {
-        spec: _,
-        usage: _,
-        delta,
-        output: _,
-        outcome,
-        fuel: _,
-    } = run.into_parts();
+    let (delta, outcome) = effect_of(run_at_root(alloc, &THREE, job)?);
     Ok(match shared.settle(rt, job, delta, outcome) {
         Ok(()) => "settled",
         Err(SettleNo::Phase) => "phase",
         Err(SettleNo::NoMemory) => "memory",
     })
+}
+
+fn front<R: Wait>(rt: &R, shared: &Shared<Link>, job: u32) -> &'static str {
+    if shared.claim_front(rt, job) {
+        "yes"
+    } else {
+        "no"
+    }
+}
+
+/// A call that a word answers.
+fn word<R: Wait>(
+    rt: &R,
+    alloc: Global,
+    shared: &Shared<Link>,
+    step: &Step,
+) -> Result<&'static str, Fail> {
+    match step {
+        Front(job) => Ok(front(rt, shared, *job)),
+        Publish(job) => publish(rt, alloc, shared, *job),
+        Settle(job) => settle(rt, alloc, shared, *job),
+        GiveUp(job) => {
+            shared.give_up(rt, *job);
+            Ok("given")
+        }
+        _ => {
+            shared.stop(rt);
+            Ok("stopped")
+        }
+    }
+}
+
+/// A call that gives a job, or what is left of one.
+fn show_call<R: Wait>(
+    rt: &R,
+    shared: &Shared<Link>,
+    step: &Step,
+    log: &mut String,
+) -> Result<(), AllocError> {
+    match step {
+        Next => show_claim(shared.claim(rt), log),
+        NextWait => show_claim(shared.claim_wait(rt), log),
+        Take(job) => show_taken(&shared.take(rt, *job), log),
+        TakeWait(job) => show_taken(&shared.take_wait(rt, *job), log),
+        _ => Ok(()),
+    }
 }
 
 fn take_step<R: Wait>(
@@ -220,37 +273,24 @@ fn take_step<R: Wait>(
     log: &mut String,
 ) -> Result<(), Fail> {
     match step {
-        Next => show_claim(shared.claim(rt), log)?,
-        NextWait => show_claim(shared.claim_wait(rt), log)?,
-        Front(job) => log.push_str(if shared.claim_front(rt, *job) {
-            "yes"
-        } else {
-            "no"
-        })?,
-        Ask(job) => ask(rt, alloc, shared, *job, log)?,
-        Publish(job) => log.push_str(publish(rt, alloc, shared, *job)?)?,
-        GiveUp(job) => {
-            shared.give_up(rt, *job);
-            log.push_str("given")?;
-        }
-        Take(job) => show_taken(&shared.take(rt, *job), log)?,
-        TakeWait(job) => show_taken(&shared.take_wait(rt, *job), log)?,
-        Settle(job) => log.push_str(settle(rt, alloc, shared, *job)?)?,
-        Stop => {
-            shared.stop(rt);
-            log.push_str("stopped")?;
-        }
+        Ask(job) => ask(rt, alloc, shared, *job, log),
+        Next | NextWait | Take(_) | TakeWait(_) => Ok(show_call(rt, shared, step, log)?),
+        _ => Ok(log.push_str(word(rt, alloc, shared, step)?)?),
+    }
+}
+
+fn play<R: Wait>(rt: &R, alloc: Global, steps: &[Step], log: &mut String) -> Result<(), Fail> {
+    let shared = shared_of(alloc, &THREE, false)?;
+    for step in steps {
+        take_step(rt, alloc, &shared, step, log)?;
+        log.push_str("; ")?;
     }
     Ok(())
 }
 
 fn log_of<R: Wait>(rt: &R, alloc: Global, steps: &[Step]) -> Result<String, Fail> {
-    let shared = shared_of(alloc, &THREE, false)?;
     let mut log = String::new(alloc);
-    for step in steps {
-        take_step(rt, alloc, &shared, step, &mut log)?;
-        log.push_str("; ")?;
-    }
+    play(rt, alloc, steps, &mut log)?;
     Ok(log)
 }
 

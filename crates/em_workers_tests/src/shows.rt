@@ -2,7 +2,7 @@
 use em_testing::{show_bytes, show_outcome, show_path};
 use em_tree::Delta;
 use em_workers::{Committed, Settled};
-use std::alloc::{AllocError, Global};
+use std::alloc::AllocError;
 
 fn show_paths(log: &mut String, delta: &Delta) -> Result<(), AllocError> {
     for (path, _node) in delta.changes() {
@@ -12,15 +12,13 @@ fn show_paths(log: &mut String, delta: &Delta) -> Result<(), AllocError> {
 }
 
 /// What was said, how the job ended, its fuel and the paths that it changed.
-pub(super) fn show_committed(alloc: Global, done: &Committed) -> Result<String, AllocError> {
-    let mut log = String::new(alloc);
-    show_bytes(&mut log, done.output.bytes())?;
+pub(super) fn show_committed(log: &mut String, done: &Committed) -> Result<(), AllocError> {
+    show_bytes(log, done.output.bytes())?;
     log.push_str(" ")?;
-    show_outcome(&mut log, &done.outcome)?;
+    show_outcome(log, &done.outcome)?;
     let fuel = done.fuel;
     write!(log, " {fuel}")?;
-    show_paths(&mut log, &done.delta)?;
-    Ok(log)
+    show_paths(log, &done.delta)
 }
 
 /// The job, how it ended and the paths that it changed.

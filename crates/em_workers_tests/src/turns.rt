@@ -9,7 +9,7 @@ use em_run::Run;
 use em_testing::{Link, Linker, Plan, front_of, run_at_root, run_of, show_note};
 use em_tree::{Entry, State};
 use em_workers::{Committed, OpenGate, turn};
-use std::alloc::Global;
+use std::alloc::{AllocError, Global};
 use std::test::Fail;
 
 /// What is lent of a job.
@@ -25,18 +25,18 @@ enum Lent {
     Short,
 }
 
-/// What is lent of the one job, and its note.
+/// What is lent of the one job, its note, and what is committed.
 static ROWS: [(Lent, &str); 5] = [
-    (Lent::Nothing, "0 in 1"),
-    (Lent::GivenUp, "0 in 2 memory"),
+    (Lent::Nothing, "0 in 1 | /b made 3 / /b"),
+    (Lent::GivenUp, "0 in 2 memory | /b made 3 / /b"),
     (
         Lent::Stale,
-        "0 in 2 differ 0: content of /a was /a is no content after none",
+        "0 in 2 differ 0: content of /a was /a is no content after none | /b made 3 / /b",
     ),
-    (Lent::Agreeing, "0 in 1"),
+    (Lent::Agreeing, "0 in 1 | /b made 3 / /b"),
     (
         Lent::Short,
-        "0 in 2 strange 2: board none, run kind of / is Dir",
+        "0 in 2 strange 2: board none, run kind of / is Dir | /b made 3 / /b",
     ),
 ];
 
@@ -107,14 +107,6 @@ fn taken_of(alloc: Global, row: Lent) -> Result<Option<Taken<Link>>, Fail>
     }
 }
 
-/// What was committed, and its note, as texts.
-fn told(alloc: Global, committed: &Committed, note: &Note) -> Result<(String, String), Fail> {
-    let mut log = String::new(alloc);
-    show_note(&mut log, note)?;
-    let done = show_committed(alloc, committed)?;
-    Ok((done, log))
-}
-
 /// What is committed of the next job, and its note.
 fn turn_of(
     alloc: Global,
@@ -132,23 +124,32 @@ fn turn_of(
     }
 }
 
-/// What is committed of the one job, and its note, as texts.
-fn turned(alloc: Global, row: Lent) -> Result<(String, String), Fail> {
-    let taken = taken_of(alloc, row)?;
+/// The note, and what was committed.
+fn show_turn(log: &mut String, committed: &Committed, note: &Note) -> Result<(), AllocError> {
+    show_note(log, note)?;
+    log.push_str(" | ")?;
+    show_committed(log, committed)
+}
+
+/// What is committed of the one job.
+fn play(alloc: Global, row: Lent, log: &mut String) -> Result<(), Fail> {
     let mut front = front_of(alloc, &ONE)?;
+    let taken = taken_of(alloc, row)?;
     let (committed, note) = turn_of(alloc, &mut front, taken)?;
-    told(alloc, &committed, &note)
+    Ok(show_turn(log, &committed, &note)?)
+}
+
+fn log_of(alloc: Global, row: Lent) -> Result<String, Fail> {
+    let mut log = String::new(alloc);
+    play(alloc, row, &mut log)?;
+    Ok(log)
 }
 
 #[test]
 fn a_turn_commits_the_same_whatever_is_lent(rt: HostRuntime) -> Result<(), Fail> {
     for (row, wanted) in &ROWS {
-        let (committed, note) = turned(rt.alloc(), *row)?;
-        assert_eq!(rt; note.as_str(), *wanted);
-        assert!(rt;
-            committed.as_str() == "/b made 3 / /b",
-            "{wanted}: {committed}"
-        );
+        let log = log_of(rt.alloc(), *row)?;
+        assert_eq!(rt; log.as_str(), *wanted);
     }
     Ok(())
 }

@@ -56,7 +56,7 @@ const FAULTS: [Row; 35] = [
 ];
 
 /// What isn't supported, by its name.
-const REFUSED: [Row; 34] = [
+const REFUSED: [Row; 38] = [
     (b"a:: b\n", b"*** Makefile:1: refused ::"),
     (b"a &:: b\n", b"*** Makefile:1: refused ::"),
     (b"a &: b\n", b"*** Makefile:1: refused &:"),
@@ -108,6 +108,14 @@ const REFUSED: [Row; 34] = [
     (b"a: $(shell ls)\n", b"*** Makefile:1: refused shell"),
     (b"a :: $(shell x)\n", b"*** Makefile:1: refused ::"),
     (b"a: $(shell x) .WAIT\n", b"*** Makefile:1: refused shell"),
+    // a word that a refused function stands right behind isn't known as a whole
+    (b"a: .WAIT$(shell x)\n", b"*** Makefile:1: refused shell"),
+    (b"a: .WAIT $(shell x)\n", b"*** Makefile:1: refused .WAIT"),
+    (b".SUFFIXES:$(shell x)\n", b"*** Makefile:1: refused shell"),
+    (
+        b".SUFFIXES: .c$(shell x)\n",
+        b"*** Makefile:1: refused .SUFFIXES",
+    ),
     (
         b"V := $(eval X = 1)$(realpath x)\n",
         b"*** Makefile:1: refused realpath",

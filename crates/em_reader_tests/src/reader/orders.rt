@@ -37,34 +37,38 @@ fn texts_are_at_most_64_deep(rt: HostRuntime) -> Result<(), Fail> {
     compare(rt.alloc(), &DEEP)
 }
 
+/// The order's makefile, if one is named.
+fn makefile(alloc: Global, name: &[u8]) -> Result<Option<Text>, NoMemory> {
+    if name.is_empty() {
+        return Ok(None);
+    }
+    Ok(Some(Text::from_slice(alloc, name)?))
+}
+
 #[test]
 fn the_makefile_is_found_by_its_name(rt: HostRuntime) -> Result<(), Fail> {
-    let alloc = rt.alloc();
     for (file, name, wanted) in &NAMES {
-        let mut order = order(alloc)?;
-        if !name.is_empty() {
-            order.makefile = Some(Text::from_slice(alloc, name)?);
-        }
-        let state = state(alloc, file, b"a:\n")?;
-        let text = shown(alloc, &state, &order)?;
-        assert!(rt; text.bytes() == *wanted);
+        let mut order = order(rt.alloc())?;
+        order.makefile = makefile(rt.alloc(), name)?;
+        assert!(rt; is_read(rt.alloc(), &order, (file, b"a:\n"), wanted)?);
     }
     Ok(())
 }
 
+/// A variable of the command line.
+fn pair(alloc: Global) -> Result<(Text, Text), NoMemory> {
+    let name = Text::from_slice(alloc, b"V")?;
+    let text = Text::from_slice(alloc, b"$(x)")?;
+    Ok((name, text))
+}
+
 #[test]
 fn the_command_line_keeps_its_variables(rt: HostRuntime) -> Result<(), Fail> {
-    let alloc = rt.alloc();
-    let mut order = order(alloc)?;
-    let pair = (
-        Text::from_slice(alloc, b"V")?,
-        Text::from_slice(alloc, b"$(x)")?,
-    );
+    let pair = pair(rt.alloc())?;
+    let mut order = order(rt.alloc())?;
     order.assigned.push(pair)?;
     for (makefile, wanted) in &ASSIGNED {
-        let state = state(alloc, b"/Makefile", makefile)?;
-        let text = shown(alloc, &state, &order)?;
-        assert!(rt; text.bytes() == *wanted);
+        assert!(rt; is_read(rt.alloc(), &order, (b"/Makefile", makefile), wanted)?);
     }
     Ok(())
 }

@@ -1,12 +1,12 @@
 //! Boards, call after call.
 ghost use Rattle.std.specs.Prelude.{◌↔◌, ◌<◌, ℕ, [], IsTrue, All, slice_index_or};
 
-use super::marks::{Mark, root, run_on};
-use em_base::Seq;
+use super::marks::{Mark, run_at_root};
+use crate::common::{path, root};
+use em_base::{NoMemory, Seq};
 use em_engine::{Board, Claim, Taken};
-use em_path::Path;
-use em_run::Spec;
-use em_tree::{Answer, Entry, Kind, Question};
+use em_run::{Run, Spec};
+use em_tree::{Answer, Delta, Entry, Kind, Outcome, Question};
 use std::alloc::{AllocError, Global};
 use std::test::Fail;
 
@@ -105,20 +105,26 @@ fn are_lower(waits: &[Seq<u32>]) -> bool
     true
 }
 
-fn waits_of(alloc: Global, rows: &[&[u32]]) -> Result<Seq<Seq<u32>>, Fail> {
+fn wait_of(alloc: Global, row: &[u32]) -> Result<Seq<u32>, NoMemory> {
+    let jobs = Vec::from_slice(alloc, row)?;
+    Ok(Seq::from_vec(jobs))
+}
+
+fn waits_of(alloc: Global, rows: &[&[u32]]) -> Result<Seq<Seq<u32>>, NoMemory> {
     let mut waits = Seq::new(alloc);
     for row in rows {
-        waits.push(Seq::from_vec(Vec::from_slice(alloc, row)?))?;
+        waits.push(wait_of(alloc, row)?)?;
     }
     Ok(waits)
 }
 
 fn board_of(alloc: Global, rows: &[&[u32]]) -> Result<Board<Mark>, Fail> {
+    let root = root(alloc)?;
     let waits = waits_of(alloc, rows)?;
     if waits.len() > 10 || !are_lower(waits.items()) {
         return Err("waits".into());
     }
-    Ok(Board::new(alloc, root(alloc)?, waits)?)
+    Ok(Board::new(alloc, root, waits)?)
 }
 
 fn show_claim(claim: Claim, log: &mut String) -> Result<(), AllocError> {
@@ -166,23 +172,31 @@ fn front(board: &mut Board<Mark>, job: u32) -> &'static str {
     }
 }
 
-fn ask(alloc: Global, board: &mut Board<Mark>, job: u32, log: &mut String) -> Result<(), Fail> {
+fn ask_of(
+    board: &mut Board<Mark>,
+    job: u32,
+    question: &Question,
+    log: &mut String,
+) -> Result<(), NoMemory> {
     if !board.is_claimed(job) {
         return Ok(log.push_str("phase ")?);
     }
-    let path = Path::from_text(alloc, b"/x")?.ok_or("no path")?;
-    let answer = board.ask(job, &Question::Kind(path))?;
+    let answer = board.ask(job, question)?;
     Ok(show_answer(&answer, log)?)
 }
 
-fn publish(alloc: Global, board: &mut Board<Mark>, job: u32) -> Result<&'static str, Fail> {
-    let run = run_on(alloc, job, 20, &root(alloc)?)?;
+fn ask(alloc: Global, board: &mut Board<Mark>, job: u32, log: &mut String) -> Result<(), NoMemory> {
+    let question = Question::Kind(path(alloc, b"/x")?);
+    ask_of(board, job, &question, log)
+}
+
+fn publish(board: &mut Board<Mark>, run: Run<Mark>) -> &'static str {
     if !board.is_claimed(run.spec().job()) {
-        return Ok("phase ");
+        return "phase ";
     }
     match board.publish(run) {
-        Ok(()) => Ok("posted "),
-        Err(_) => Err(AllocError.into()),
+        Ok(()) => "posted ",
+        Err(_) => "memory ",
     }
 }
 
@@ -201,13 +215,40 @@ fn take(board: &mut Board<Mark>, job: u32, log: &mut String) -> Result<(), Alloc
     show_taken(&board.take(job), log)
 }
 
-fn settle(alloc: Global, board: &mut Board<Mark>, job: u32) -> Result<&'static str, Fail> {
-    let parts = run_on(alloc, job, 20, &root(alloc)?)?.into_parts();
+/// What a run has changed, and how it ended.
+fn effect_of(run: Run<Mark>) -> (Delta, Outcome) {
+    let parts = run.into_parts();
+    (parts.delta, parts.outcome)
+}
+
+fn settle(board: &mut Board<Mark>, job: u32, effect: (Delta, Outcome)) -> &'static str {
     if job != board.settled() || !board.can_settle(job) {
-        return Ok("phase ");
+        return "phase ";
     }
-    board.settle(job, parts.delta, parts.outcome)?;
-    Ok("settled ")
+    match board.settle(job, effect.0, effect.1) {
+        Ok(()) => "settled ",
+        Err(_) => "memory ",
+    }
+}
+
+fn stop(board: &mut Board<Mark>) -> &'static str {
+    board.stop();
+    "stopped "
+}
+
+/// A call that a word answers.
+fn word(alloc: Global, board: &mut Board<Mark>, step: &Step) -> Result<&'static str, NoMemory> {
+    Ok(match step {
+        Front(job) => front(board, *job),
+        Publish(job) => publish(board, run_at_root(alloc, *job)?),
+        GiveUp(job) => give_up(board, *job),
+        Settle(job) => settle(board, *job, effect_of(run_at_root(alloc, *job)?)),
+        _ => stop(board),
+    })
+}
+
+fn next(board: &mut Board<Mark>, log: &mut String) -> Result<(), AllocError> {
+    show_claim(board.claim(), log)
 }
 
 fn take_step(
@@ -215,29 +256,26 @@ fn take_step(
     board: &mut Board<Mark>,
     step: &Step,
     log: &mut String,
-) -> Result<(), Fail> {
+) -> Result<(), NoMemory> {
     match step {
-        Next => show_claim(board.claim(), log)?,
-        Front(job) => log.push_str(front(board, *job))?,
-        Ask(job) => ask(alloc, board, *job, log)?,
-        Publish(job) => log.push_str(publish(alloc, board, *job)?)?,
-        GiveUp(job) => log.push_str(give_up(board, *job))?,
-        Take(job) => take(board, *job, log)?,
-        Settle(job) => log.push_str(settle(alloc, board, *job)?)?,
-        Stop => {
-            board.stop();
-            log.push_str("stopped ")?;
-        }
+        Next => Ok(next(board, log)?),
+        Ask(job) => ask(alloc, board, *job, log),
+        Take(job) => Ok(take(board, *job, log)?),
+        _ => Ok(log.push_str(word(alloc, board, step)?)?),
+    }
+}
+
+fn play(alloc: Global, row: &Row, log: &mut String) -> Result<(), Fail> {
+    let mut board = board_of(alloc, row.0)?;
+    for step in row.1 {
+        take_step(alloc, &mut board, step, log)?;
     }
     Ok(())
 }
 
 fn log_of(alloc: Global, row: &Row) -> Result<String, Fail> {
-    let mut board = board_of(alloc, row.0)?;
     let mut log = String::new(alloc);
-    for step in row.1 {
-        take_step(alloc, &mut board, step, &mut log)?;
-    }
+    play(alloc, row, &mut log)?;
     Ok(log)
 }
 
@@ -245,8 +283,7 @@ fn log_of(alloc: Global, row: &Row) -> Result<String, Fail> {
 fn boards_answer_call_after_call(rt: HostRuntime) -> Result<(), Fail> {
     for row in &ROWS {
         let log = log_of(rt.alloc(), row)?;
-        let wanted = row.2;
-        assert!(rt; log.as_str() == wanted, "{wanted}: {log}");
+        assert_eq!(rt; log.as_str(), row.2);
     }
     Ok(())
 }

@@ -3,13 +3,13 @@ ghost use Rattle.std.specs.Prelude.{◌≡◌, ◌≤◌, ◌++◌, ◌∷◌, I
 ghost use Rattle.em_tree.specs.Answers.{Agrees};
 ghost use Rattle.em_engine.specs.Fronts.{AreNumbered, next_of};
 
-use super::marks::{Mark, mark_of, root, run_on};
-use em_base::Seq;
+use super::marks::{Mark, mark_of, run_on};
+use crate::common::{path, root, show_bytes};
+use em_base::{NoMemory, Seq, Text};
 use em_engine::{Front, Verdict};
-use em_path::Path;
 use em_run::Run;
 use em_tree::{Entry, Question};
-use std::alloc::Global;
+use std::alloc::{AllocError, Global};
 use std::test::Fail;
 
 /// Whether job i has the number i.
@@ -24,14 +24,21 @@ fn are_numbered(specs: &[Mark]) -> bool
     true
 }
 
-fn front(alloc: Global) -> Result<Front<Mark>, Fail> {
+fn specs(alloc: Global) -> Result<Seq<Mark>, NoMemory> {
     let mut specs = Seq::new(alloc);
-    specs.push(mark_of(alloc, 0, 20)?)?;
-    specs.push(mark_of(alloc, 1, 20)?)?;
+    for job in 0..2 {
+        specs.push(mark_of(alloc, job, 20)?)?;
+    }
+    Ok(specs)
+}
+
+fn front(alloc: Global) -> Result<Front<Mark>, Fail> {
+    let root = root(alloc)?;
+    let specs = specs(alloc)?;
     if specs.len() > 2 || !are_numbered(specs.items()) {
         return Err("numbers".into());
     }
-    Ok(Front::new(alloc, root(alloc)?, specs)?)
+    Ok(Front::new(alloc, root, specs)?)
 }
 
 /// What the front finds of a run, where there is a next job.
@@ -42,76 +49,148 @@ fn verdict(front: &Front<Mark>, run: &Run<Mark>, asked: &[Entry]) -> Option<Verd
     Some(front.check(run, asked))
 }
 
-/// Commits a run with whose usage the front agrees, and gives whether its output is this.
-fn commits(front: &mut Front<Mark>, run: Run<Mark>, output: &str) -> bool {
-    if front.next().is_none() {
-        return false;
-    }
-    match front.check(&run, run.usage().items()) {
-        Verdict::Same => {}
-        _ => return false,
-    }
-    match front.commit(run) {
-        Ok(text) => text.bytes() == output.as_bytes(),
-        Err(_) => false,
+fn show_verdict(verdict: Option<Verdict>, log: &mut String) -> Result<(), AllocError> {
+    match verdict {
+        None => log.push_str("no job "),
+        Some(Verdict::Same) => log.push_str("same "),
+        Some(Verdict::Foreign) => log.push_str("foreign "),
+        Some(Verdict::Differ { place }) => write!(log, "differ {place} "),
+        Some(Verdict::Strange { place }) => write!(log, "strange {place} "),
     }
 }
 
 /// A run that agrees, with what it asked, with less of it, and one of another spec.
-fn are_found(front: &Front<Mark>, run: &Run<Mark>, other: &Run<Mark>) -> bool {
+fn show_found(
+    front: &Front<Mark>,
+    run: &Run<Mark>,
+    other: &Run<Mark>,
+    log: &mut String,
+) -> Result<(), AllocError> {
     let asked = run.usage().items();
-    asked.len() == 3
-        && verdict(front, run, asked) == Some(Verdict::Same)
-        && verdict(front, run, &asked[..2]) == Some(Verdict::Strange { place: 2 })
-        && verdict(front, run, &asked[2..]) == Some(Verdict::Strange { place: 0 })
-        && verdict(front, other, asked) == Some(Verdict::Foreign)
+    if asked.len() != 3 {
+        return log.push_str("not three ");
+    }
+    show_verdict(verdict(front, run, asked), log)?;
+    show_verdict(verdict(front, run, &asked[..2]), log)?;
+    show_verdict(verdict(front, run, &asked[2..]), log)?;
+    show_verdict(verdict(front, other, asked), log)
 }
 
-fn finds(alloc: Global) -> Result<bool, Fail> {
-    let front = front(alloc)?;
+fn find(alloc: Global, front: &Front<Mark>, log: &mut String) -> Result<(), NoMemory> {
     let run = run_on(alloc, 0, 20, front.state())?;
     let other = run_on(alloc, 0, 19, front.state())?;
-    Ok(are_found(&front, &run, &other))
+    Ok(show_found(front, &run, &other, log)?)
 }
 
-/// Whether the run of the second job, begun before the first is committed, no longer agrees then; and who made `/x`.
-fn is_stale(front: &Front<Mark>, stale: &Run<Mark>, made: &Question) -> bool {
-    verdict(front, stale, stale.usage().items()) == Some(Verdict::Differ { place: 0 })
-        && front.last_change(made) == Some(0)
-        && front.last_change(&Question::Outcome(0)) == Some(0)
-        && front.last_change(&Question::Outcome(1)).is_none()
-}
-
-fn commits_first(alloc: Global, front: &mut Front<Mark>) -> Result<bool, Fail> {
-    let run = run_on(alloc, 0, 20, front.state())?;
-    let stale = run_on(alloc, 1, 20, front.state())?;
-    let made = Question::Kind(Path::from_text(alloc, b"/x")?.ok_or("no path")?);
-    Ok(
-        front.last_change(&made).is_none()
-            && commits(front, run, "made")
-            && is_stale(front, &stale, &made),
-    )
-}
-
-fn commits_second(alloc: Global, front: &mut Front<Mark>) -> Result<bool, Fail> {
-    let run = run_on(alloc, 1, 20, front.state())?;
-    Ok(commits(front, run, "there") && front.next().is_none())
+fn find_all(alloc: Global, log: &mut String) -> Result<(), Fail> {
+    let front = front(alloc)?;
+    Ok(find(alloc, &front, log)?)
 }
 
 #[test]
 fn a_run_is_checked_against_the_front_and_what_it_asked(rt: HostRuntime) -> Result<(), Fail> {
-    let is_found = finds(rt.alloc())?;
-    assert!(rt; is_found);
+    let mut log = String::new(rt.alloc());
+    find_all(rt.alloc(), &mut log)?;
+    assert_eq!(rt; log.as_str(), "same strange 2 strange 0 foreign ");
     Ok(())
+}
+
+/// Commits a run with whose usage the front agrees, and gives its output.
+fn commit(front: &mut Front<Mark>, run: Run<Mark>) -> Option<Text> {
+    if front.next().is_none() {
+        return None;
+    }
+    match front.check(&run, run.usage().items()) {
+        Verdict::Same => {}
+        _ => return None,
+    }
+    match front.commit(run) {
+        Ok(text) => Some(text),
+        Err(_) => None,
+    }
+}
+
+fn show_output(output: Option<Text>, log: &mut String) -> Result<(), AllocError> {
+    match output {
+        Some(text) => show_bytes(log, text.bytes()),
+        None => log.push_str("not committed"),
+    }
+}
+
+/// Runs a job on the front's state and commits it.
+fn commit_job(
+    alloc: Global,
+    front: &mut Front<Mark>,
+    job: u32,
+    log: &mut String,
+) -> Result<(), NoMemory> {
+    let run = run_on(alloc, job, 20, front.state())?;
+    show_output(commit(front, run), log)?;
+    Ok(log.push_str(" ")?)
+}
+
+/// Commits the first job, and tries a run of the second that was begun before.
+fn commit_first(alloc: Global, front: &mut Front<Mark>, log: &mut String) -> Result<(), NoMemory> {
+    let stale = run_on(alloc, 1, 20, front.state())?;
+    commit_job(alloc, front, 0, log)?;
+    Ok(show_verdict(verdict(front, &stale, stale.usage().items()), log)?)
+}
+
+fn show_maker(
+    front: &Front<Mark>,
+    question: &Question,
+    log: &mut String,
+) -> Result<(), AllocError> {
+    match front.last_change(question) {
+        Some(job) => write!(log, "{job} "),
+        None => log.push_str("none "),
+    }
+}
+
+/// Who made `/x` and the outcomes of both jobs.
+fn show_makers(alloc: Global, front: &Front<Mark>, log: &mut String) -> Result<(), NoMemory> {
+    let made = Question::Kind(path(alloc, b"/x")?);
+    show_maker(front, &made, log)?;
+    show_maker(front, &Question::Outcome(0), log)?;
+    Ok(show_maker(front, &Question::Outcome(1), log)?)
+}
+
+fn commit_both(alloc: Global, front: &mut Front<Mark>, log: &mut String) -> Result<(), NoMemory> {
+    show_makers(alloc, front, log)?;
+    commit_first(alloc, front, log)?;
+    show_makers(alloc, front, log)?;
+    commit_job(alloc, front, 1, log)
+}
+
+fn show_fuel(fuel: &[u64], log: &mut String) -> Result<(), AllocError> {
+    for units in fuel {
+        write!(log, " {units}")?;
+    }
+    Ok(())
+}
+
+/// Whether there is no next job, how many outcomes there are, and the fuel of each job.
+fn show_end(front: Front<Mark>, log: &mut String) -> Result<(), AllocError> {
+    let is_done = front.next().is_none();
+    let (state, fuel) = front.close();
+    let outcomes = state.outcomes.len();
+    write!(log, "{is_done} {outcomes}")?;
+    show_fuel(fuel.as_slice(), log)
+}
+
+fn commit_all(alloc: Global, log: &mut String) -> Result<(), Fail> {
+    let mut front = front(alloc)?;
+    commit_both(alloc, &mut front, log)?;
+    Ok(show_end(front, log)?)
 }
 
 #[test]
 fn a_commit_is_seen_by_the_next_job(rt: HostRuntime) -> Result<(), Fail> {
-    let mut front = front(rt.alloc())?;
-    let is_first = commits_first(rt.alloc(), &mut front)?;
-    let is_second = commits_second(rt.alloc(), &mut front)?;
-    assert!(rt; is_first && is_second);
-    let (state, fuel) = front.close();
-    assert!(rt; state.outcomes.len() == 2 && fuel.as_slice() == [3, 1].as_slice());
+    let mut log = String::new(rt.alloc());
+    commit_all(rt.alloc(), &mut log)?;
+    assert_eq!(rt;
+        log.as_str(),
+        "none none none made differ 0 0 0 none there true 2 3 1"
+    );
     Ok(())
 }

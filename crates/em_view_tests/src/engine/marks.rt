@@ -1,5 +1,5 @@
 //! A small job, and who runs it.
-ghost use Rattle.std.specs.Prelude.{◌≡◌, [], false, refl, IfOk, OnOk};
+ghost use Rattle.std.specs.Prelude.{◌≡◌, false, refl, IfOk, OnOk};
 ghost use Rattle.std.proofs.Common.{ap, ◌∙◌};
 ghost use Rattle.em_view.specs.Performs.{is_free};
 ghost use Rattle.em_view.specs.Rows.{is_memory};
@@ -7,13 +7,13 @@ ghost use Rattle.em_view.specs.Steps.{Does, Works};
 ghost use Rattle.em_run.specs.Examples.{said, mark, end_of, is_failed, same_parts};
 ghost use Rattle.em_run.specs.Meanings.{fresh, end_in, effect_by, used_by};
 
+use crate::common::{path, root};
 use em_base::{Fuel, NoMemory, Seq, Text};
 use em_path::Path;
 use em_run::{Run, Spec, Work};
-use em_tree::{Kind, Outcome, Outcomes, State, Tree};
+use em_tree::{Kind, Outcome, State};
 use em_view::{Desk, DeskNo, PlainView, View};
 use std::alloc::Global;
-use std::test::Fail;
 
 /// Where nothing is at the path, makes a file of one byte; says what it found.
 #[derive(Drop, PartialEq, Eq)]
@@ -117,24 +117,25 @@ impl Work<Mark> for Marker {
     }
 }
 
-/// A root with stamp 1, and no outcomes.
-pub(super) fn root(alloc: Global) -> Result<State, NoMemory>
-    ensures { IfOk result (λ s. s.outcomes ≡ []) }
-{
-    Ok(State {
-        tree: Tree::new(alloc, 1)?,
-        outcomes: Outcomes::new(alloc),
-    })
-}
-
 /// The job of this number, which makes `/x` where nothing is there.
-pub(super) fn mark_of(alloc: Global, job: u32, fuel: u16) -> Result<Mark, Fail> {
-    let path = Path::from_text(alloc, b"/x")?.ok_or("no path")?;
+pub(super) fn mark_of(alloc: Global, job: u32, fuel: u16) -> Result<Mark, NoMemory> {
+    let path = path(alloc, b"/x")?;
     Ok(Mark { job, fuel, path })
 }
 
 /// Its run on a state.
-pub(super) fn run_on(alloc: Global, job: u32, fuel: u16, state: &State) -> Result<Run<Mark>, Fail> {
+pub(super) fn run_on(
+    alloc: Global,
+    job: u32,
+    fuel: u16,
+    state: &State,
+) -> Result<Run<Mark>, NoMemory> {
     let spec = mark_of(alloc, job, fuel)?;
-    Ok(Marker.run(alloc, &spec, PlainView::new(state))?)
+    Marker.run(alloc, &spec, PlainView::new(state))
+}
+
+/// Its run on a root alone, with 20 units.
+pub(super) fn run_at_root(alloc: Global, job: u32) -> Result<Run<Mark>, NoMemory> {
+    let state = root(alloc)?;
+    run_on(alloc, job, 20, &state)
 }

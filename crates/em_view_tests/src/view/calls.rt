@@ -1,9 +1,10 @@
 //! Each call on an absent path, a file, a directory with and without children and the root, at fuel 0, 1 and exactly enough.
+use super::Row;
 
 /// The state of the rows: two directories, one of them empty, and two files.
 pub static STATE: &str = "d2/e d3/d f4/d/x g5/f";
 
-pub static KINDS_AND_STAMPS: [(&str, u16, &str); 12] = [
+pub static KINDS_AND_STAMPS: [Row; 12] = [
     ("k/a", 0, "!Spent | | 0+0 |"),
     ("k/a", 1, "Absent | K/a=Absent | 0+1 |"),
     ("k/f", 1, "File | K/f=File | 0+1 |"),
@@ -18,7 +19,7 @@ pub static KINDS_AND_STAMPS: [(&str, u16, &str); 12] = [
     ("s/", 1, "1 | S/=1 | 0+1 |"),
 ];
 
-pub static CONTENTS_AND_NAMES: [(&str, u16, &str); 18] = [
+pub static CONTENTS_AND_NAMES: [Row; 18] = [
     ("c/f", 0, "!Spent | | 0+0 |"),
     ("c/f", 1, "!Spent | C/f=300b | 0+1 |"),
     ("c/f", 2, "!Spent | C/f=300b | 1+1 |"),
@@ -39,7 +40,7 @@ pub static CONTENTS_AND_NAMES: [(&str, u16, &str); 18] = [
     ("o/", 1, "Made | O0=Made | 0+1 |"),
 ];
 
-pub static PUTS: [(&str, u16, &str); 13] = [
+pub static PUTS: [Row; 13] = [
     ("p/a", 0, "!Spent | | 0+0 |"),
     ("p/a", 1, "!Spent | K/a=Absent K/=Dir | 0+1 |"),
     ("p/a", 2, "ok | K/a=Absent K/=Dir | 0+2 | /=d101 /a=1b101"),
@@ -55,7 +56,7 @@ pub static PUTS: [(&str, u16, &str); 13] = [
     ("p/f/a", 1, "!NotDir | K/f/a=Absent K/f=File | 1+0 |"),
 ];
 
-pub static PLACES: [(&str, u16, &str); 9] = [
+pub static PLACES: [Row; 9] = [
     ("l/a", 0, "!Spent | | 0+0 |"),
     ("l/a", 1, "!Spent | K/a=Absent K/=Dir | 0+1 |"),
     ("l/a", 2, "ok | K/a=Absent K/=Dir | 0+2 | /=d101 /a=1b7"),
@@ -67,7 +68,7 @@ pub static PLACES: [(&str, u16, &str); 9] = [
     ("l/f/a", 1, "!NotDir | K/f/a=Absent K/f=File | 1+0 |"),
 ];
 
-pub static DIRECTORIES: [(&str, u16, &str); 8] = [
+pub static DIRECTORIES: [Row; 8] = [
     ("m/a", 0, "!Spent | | 0+0 |"),
     ("m/a", 1, "ok | K/a=Absent K/=Dir | 0+1 | /=d101 /a=d101"),
     ("m/f", 1, "!Exists | K/f=File K/=Dir | 1+0 |"),
@@ -78,7 +79,7 @@ pub static DIRECTORIES: [(&str, u16, &str); 8] = [
     ("m/f/a", 1, "!NotDir | K/f/a=Absent K/f=File | 1+0 |"),
 ];
 
-pub static REMOVALS: [(&str, u16, &str); 8] = [
+pub static REMOVALS: [Row; 8] = [
     ("r/f", 0, "!Spent | | 0+0 |"),
     ("r/", 0, "!Spent | | 0+0 |"),
     ("r/", 1, "!Root | | 1+0 |"),
@@ -89,7 +90,7 @@ pub static REMOVALS: [(&str, u16, &str); 8] = [
     ("r/d/x", 1, "ok | K/d/x=File | 0+1 | /d=d101 /d/x=-"),
 ];
 
-pub static TOUCHES: [(&str, u16, &str); 6] = [
+pub static TOUCHES: [Row; 6] = [
     ("t/f", 0, "!Spent | | 0+0 |"),
     ("t/a", 1, "!Absent | K/a=Absent | 1+0 |"),
     ("t/f", 1, "ok | K/f=File C/f=300b | 0+1 | /f=300b101"),

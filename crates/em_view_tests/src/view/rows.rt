@@ -1,6 +1,7 @@
 //! Calls over the root alone, and over states whose answers don't fit together.
+use super::Row;
 
-pub static ROOT_ALONE: [(&str, u16, &str); 4] = [
+pub static ROOT_ALONE: [Row; 4] = [
     ("P/a", 2, "!Spent | K/a=Absent K/=Dir | 1+1 |"),
     ("p/d/x", 2, "!NoParent | K/d/x=Absent K/d=Absent | 2+0 |"),
     (

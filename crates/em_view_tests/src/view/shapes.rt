@@ -67,23 +67,76 @@ fn show_first<V: View>(
     }
 }
 
+/// Reads a file that is there and one that isn't.
+fn show_both<V: View>(
+    desk: &mut Desk<V>,
+    file: &Path,
+    absent: &Path,
+    outputs: &mut (Text, Text),
+    log: &mut String,
+) -> Result<(), AllocError> {
+    show_done(log, show_first(desk, file, outputs))?;
+    show_done(log, show_first(desk, absent, outputs))
+}
+
+fn read_both<V: View>(
+    alloc: Global,
+    desk: &mut Desk<V>,
+    file: &Path,
+    absent: &Path,
+    log: &mut String,
+) -> Result<(), AllocError> {
+    let mut outputs = (Text::new(alloc), Text::new(alloc));
+    show_both(desk, file, absent, &mut outputs, log)?;
+    show_bytes(log, outputs.0.bytes())
+}
+
+fn waits<V: View>(desk: &mut Desk<V>, p: &Path) -> &'static str {
+    match wait(desk, p, 3) {
+        Ok(true) => "there ",
+        Ok(false) => "absent ",
+        Err(_) => "refused ",
+    }
+}
+
+fn knows<V: View>(desk: &mut Desk<V>, p: &Path) -> &'static str {
+    match known(desk, p) {
+        Ok(_) => "there ",
+        Err(None) => "absent ",
+        Err(Some(_)) => "refused ",
+    }
+}
+
+fn ask_both<V: View>(
+    desk: &mut Desk<V>,
+    absent: &Path,
+    log: &mut String,
+) -> Result<(), AllocError> {
+    log.push_str(waits(desk, absent))?;
+    log.push_str(knows(desk, absent))?;
+    let left = desk.left();
+    write!(log, "{left}")
+}
+
+fn run_each<V: View>(alloc: Global, desk: &mut Desk<V>, log: &mut String) -> Result<(), NoMemory> {
+    let file = path(alloc, b"/a")?;
+    let absent = path(alloc, b"/b")?;
+    read_both(alloc, desk, &file, &absent, log)?;
+    Ok(ask_both(desk, &absent, log)?)
+}
+
+fn run_shapes(alloc: Global, log: &mut String) -> Result<(), NoMemory> {
+    let state = state(alloc, "f2/a")?;
+    let view = PlainView::new(&state);
+    let mut desk = Desk::new(alloc, view, 100, 1, Fuel::new(20));
+    run_each(alloc, &mut desk, log)
+}
+
+/// The units: 2 for the file's content, 1 for that of an absent one, 3 for the turns, and 1.
 #[test]
 fn each_shape_runs(rt: HostRuntime) -> Result<(), Fail> {
-    let state = state(rt.alloc(), "f2/a")?;
-    let view = PlainView::new(&state);
-    let mut desk = Desk::new(rt.alloc(), view, 100, 1, Fuel::new(20));
-    let mut outputs = (Text::new(rt.alloc()), Text::new(rt.alloc()));
-    let Some(file) = Path::from_text(rt.alloc(), b"/a")? else {
-        return Ok(());
-    };
-    let Some(absent) = Path::from_text(rt.alloc(), b"/b")? else {
-        return Ok(());
-    };
-    assert!(rt; show_first(&mut desk, &file, &mut outputs).is_ok());
-    assert!(rt; show_first(&mut desk, &absent, &mut outputs) == Err(DeskNo::File(FileNo::Absent)));
-    assert!(rt; outputs.0.bytes() == b"read abread ".as_slice());
-    assert!(rt; wait(&mut desk, &absent, 3) == Ok(false));
-    assert!(rt; known(&mut desk, &absent) == Err(None));
-    assert_eq!(rt; desk.left(), 20 - 2 - 1 - 3 - 1);
+    let mut log = String::new(rt.alloc());
+    run_shapes(rt.alloc(), &mut log)?;
+    assert_eq!(rt; log.as_str(), "ok!Absentread abread absent absent 13");
     Ok(())
 }

@@ -1,6 +1,4 @@
-//! Small trees. A state is a text of words like `d/a` and `f/a/x`: d a directory, f an empty file, then the path; the
-//! root is always there.
-
+//! Small trees.
 ghost use Rattle.std.specs.Prelude.{◌≡◌, Some};
 ghost use Rattle.std.specs.FinMap as map;
 ghost use Rattle.em_path.specs.Paths.{IsPath, parent_text};
@@ -12,6 +10,9 @@ use em_path::Path;
 use em_tree::{Body, Kind, Node, Outcomes, State, Tree};
 use std::alloc::Global;
 use std::test::Fail;
+
+/// A path, the bytes of a file or none of a directory, and the stamp.
+pub(super) type Item = (&'static [u8], Option<&'static [u8]>, u64);
 
 /// Puts a node where there is none.
 fn put(tree: &mut Tree, above: &Path, path: Path, node: Node) -> Result<(), NoMemory>
@@ -26,10 +27,7 @@ fn put(tree: &mut Tree, above: &Path, path: Path, node: Node) -> Result<(), NoMe
 }
 
 /// Puts a node at an absent path of a directory that is there, and else does nothing.
-fn add(alloc: Global, tree: &mut Tree, text: &[u8], node: Node) -> Result<(), Fail> {
-    let Some(path) = Path::from_text(alloc, text)? else {
-        return Ok(());
-    };
+fn add_at(alloc: Global, tree: &mut Tree, path: Path, node: Node) -> Result<(), Fail> {
     let Some(above) = path.parent(alloc)? else {
         return Ok(());
     };
@@ -40,20 +38,36 @@ fn add(alloc: Global, tree: &mut Tree, text: &[u8], node: Node) -> Result<(), Fa
     Ok(())
 }
 
-pub(super) fn state(alloc: Global, text: &str) -> Result<State, Fail> {
-    let mut tree = Tree::new(alloc, 1)?;
-    for word in text.split(' ') {
-        match word.as_bytes() {
-            [b'd', path @ ..] => add(alloc, &mut tree, path, Node::Dir { stamp: 1 })?,
-            [b'f', path @ ..] => {
-                let body = Body::from_slice(alloc, b"")?;
-                add(alloc, &mut tree, path, Node::File { body, stamp: 1 })?;
-            }
-            _ => {}
+fn node_of(alloc: Global, item: &Item) -> Result<Node, NoMemory> {
+    let stamp = item.2;
+    match item.1 {
+        Some(bytes) => {
+            let body = Body::from_slice(alloc, bytes)?;
+            Ok(Node::File { body, stamp })
         }
+        None => Ok(Node::Dir { stamp }),
     }
-    Ok(State {
-        tree,
-        outcomes: Outcomes::new(alloc),
-    })
+}
+
+fn add(alloc: Global, tree: &mut Tree, item: &Item) -> Result<(), Fail> {
+    let node = node_of(alloc, item)?;
+    match Path::from_text(alloc, item.0)? {
+        Some(path) => add_at(alloc, tree, path, node),
+        None => Ok(()),
+    }
+}
+
+fn tree(alloc: Global, items: &[Item]) -> Result<Tree, Fail> {
+    let mut tree = Tree::new(alloc, 1)?;
+    for item in items {
+        add(alloc, &mut tree, item)?;
+    }
+    Ok(tree)
+}
+
+/// A state of these, below the root.
+pub(super) fn state(alloc: Global, items: &[Item]) -> Result<State, Fail> {
+    let tree = tree(alloc, items)?;
+    let outcomes = Outcomes::new(alloc);
+    Ok(State { tree, outcomes })
 }

@@ -1,0 +1,105 @@
+//! Small trees, and what was asked of them.
+ghost use Rattle.std.specs.Prelude.{◌≡◌, Some};
+ghost use Rattle.std.specs.FinMap as map;
+ghost use Rattle.em_path.specs.Paths.{IsPath, parent_text};
+ghost use Rattle.em_tree.specs.declared.node.Kind.TheVariants as kind;
+ghost use Rattle.em_tree.specs.Trees.{IsTree, kind_of};
+
+use em_base::{NoMemory, Text};
+use em_path::Path;
+use em_tree::{Body, Entry, Kind, Node, Outcomes, Question, State, Tree};
+use std::alloc::Global;
+use std::test::Fail;
+
+/// Puts a node where there is none.
+fn put(tree: &mut Tree, above: &Path, path: Path, node: Node) -> Result<(), NoMemory>
+    requires tree { IsTree tree.old }
+    requires path { IsPath path }
+    requires parent { parent_text path ≡ Some above.now }
+    requires dir { kind_of (map.get tree.old above.now) ≡ kind.Dir }
+    requires absent { kind_of (map.get tree.old path) ≡ kind.Absent }
+{
+    em_tree::laws::law_put();
+    tree.set(path, node)
+}
+
+/// Puts a node at an absent path of a directory that is there, and else does nothing.
+fn add_at(alloc: Global, tree: &mut Tree, path: Path, node: Node) -> Result<(), Fail> {
+    let Some(above) = path.parent(alloc)? else {
+        return Ok(());
+    };
+    let _ = path.text();
+    if tree.kind(&above) == Kind::Dir && tree.kind(&path) == Kind::Absent {
+        put(tree, &above, path, node)?;
+    }
+    Ok(())
+}
+
+fn add(alloc: Global, tree: &mut Tree, text: &[u8], node: Node) -> Result<(), Fail> {
+    match Path::from_text(alloc, text)? {
+        Some(path) => add_at(alloc, tree, path, node),
+        None => Ok(()),
+    }
+}
+
+fn add_word(alloc: Global, tree: &mut Tree, word: &[u8]) -> Result<(), Fail> {
+    match word {
+        [b'd', path @ ..] => add(alloc, tree, path, Node::Dir { stamp: 1 }),
+        [b'f', path @ ..] => {
+            let body = Body::from_slice(alloc, b"")?;
+            add(alloc, tree, path, Node::File { body, stamp: 1 })
+        }
+        _ => Ok(()),
+    }
+}
+
+fn tree(alloc: Global, text: &str) -> Result<Tree, Fail> {
+    let mut tree = Tree::new(alloc, 1)?;
+    for word in text.split(' ') {
+        add_word(alloc, &mut tree, word.as_bytes())?;
+    }
+    Ok(tree)
+}
+
+/// A state of a text of words like `d/a` and `f/a/x`: d a directory, f an empty file, then the path; the root is always there.
+pub(super) fn state(alloc: Global, text: &str) -> Result<State, Fail> {
+    let tree = tree(alloc, text)?;
+    let outcomes = Outcomes::new(alloc);
+    Ok(State { tree, outcomes })
+}
+
+/// The states of these texts.
+pub(super) fn states(alloc: Global, texts: &[&str]) -> Result<Vec<State>, Fail> {
+    let mut states = Vec::new(alloc);
+    for text in texts {
+        states.push(state(alloc, text)?)?;
+    }
+    Ok(states)
+}
+
+/// Appends this. A part for which there is no memory is left out, and the text isn't what is expected.
+pub(super) fn put_part(to: &mut Text, part: &[u8]) {
+    let _ = to.add(part);
+}
+
+/// Appends these. A part for which there is no memory is left out, and the text isn't what is expected.
+pub(super) fn put_all(to: &mut Text, parts: &[&[u8]]) {
+    for part in parts {
+        let _ = to.add(part);
+    }
+}
+
+fn show_question(to: &mut Text, question: &Question) {
+    match question {
+        Question::Kind(path) => put_all(to, &[b" K", path.text()]),
+        Question::Names(path) => put_all(to, &[b" N", path.text()]),
+        _ => put_all(to, &[b" ?"]),
+    }
+}
+
+/// Each question as a letter (K kind, N names) and its path.
+pub(super) fn show_usage(to: &mut Text, usage: &[Entry]) {
+    for entry in usage {
+        show_question(to, &entry.question);
+    }
+}
