@@ -1,8 +1,7 @@
 -- Counts that stay at the greatest number.
-use Rattle.std.proofs.Common.{◌≡◌, ◌≤◌, ◌<◌, ◌+◌, ◌-◌, ◌^◌, ℕ, List, [], ◌∷◌, min, length, refl, sym, ap, ◌∙◌, arith, cond, not, false}
-use Rattle.std.specs.Prelude.{nat_lt}
-use Rattle.std.specs.List.{filter, sum_by, fold}
-use Rattle.std.specs.FinMap.{len, from_entries, entries, is_sorted}
+use Rattle.std.proofs.Common.{◌≡◌, ◌≤◌, ◌<◌, ◌+◌, ℕ, List, [], ◌∷◌, min, sym, ap, ◌∙◌, arith, cond, not}
+use Rattle.std.specs.List.{filter, fold}
+use Rattle.std.specs.FinMap.{len}
 use Rattle.std.proofs.lemmas.Bool.{lt-ltb, le-ltb}
 use Rattle.em_chain.specs.declared.post.Post.{Post}
 use Rattle.em_chain.specs.Floors.{is_live}

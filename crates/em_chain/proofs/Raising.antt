@@ -3,7 +3,7 @@
 --     raised_held, raised_is          the chains that are held, and what is seen of them, with the floor one higher
 --     raised_none, raised_more        a floor that stays, and one after another
 --     at_first, at_post, at_raise, at_look      posts with a floor, seen as all the posts: none, one more, a higher floor, an answer
-use Rattle.std.proofs.Common.{◌≡◌, ◌<◌, ◌≤◌, ◌+◌, ℕ, zero, suc, Bool, true, false, cond, not, ◌&&◌, ◌⊎◌, inl, inr, List, [], ◌∷◌, Option, Some, None, refl, sym, ap, subst, ◌∙◌, option_map, arith}
+use Rattle.std.proofs.Common.{◌≡◌, ◌<◌, ◌≤◌, ◌+◌, ℕ, Bool, true, false, cond, not, ◌⊎◌, inl, inr, List, [], ◌∷◌, Option, Some, None, refl, sym, ap, subst, ◌∙◌, option_map, arith}
 use Rattle.std.specs.Prelude.{T, IsSome, is_some, nat_lt}
 use Rattle.std.specs.List.{cons_option, filter}
 use Rattle.std.specs.declared.cmp.Ordering.{Ordering}
@@ -22,22 +22,18 @@ use Rattle.em_tree.specs.Answers.{answer_on}
 use Rattle.em_tree.proofs.Laying.{over, same_table}
 use Rattle.em_chain.specs.declared.post.Post.{Post}
 use Rattle.em_chain.specs.Pairs.{Pairs}
-use Rattle.em_chain.specs.Posts.{Posts, Posted, Merged, Floored}
+use Rattle.em_chain.specs.Posts.{Posts, Posted, Floored}
 use Rattle.em_chain.specs.Chains.{chain_of, head_below, from_job, last_from, last_below}
 use Rattle.em_chain.specs.Looking.{table_below, outcome_below, looked}
 use Rattle.em_chain.specs.Floors.{is_live, live, live_from, chain_over, change_over, table_over, outcome_over, looked_over, emptied, kept, IsMerged, IsRaised, IsAt}
 use Rattle.em_chain.specs.Lines.{LineTable, IsHeld, chain_at, merged_in}
 use Rattle.em_chain.specs.Marks.{names, cut_at}
-use Rattle.em_chain.proofs.Pairs.{tied, above_absent}
+use Rattle.em_chain.proofs.Pairs.{tied}
 use Rattle.em_chain.proofs.Marking.{change_in, same_pairs, sorted_chain, found_chain, first_T, second_T}
 use Rattle.em_chain.proofs.Flooring.{lies_below, all_from, head_lies, lower, find_behind, from_all, split_head, split_rest, split_sorted, get_live, same_posts, live_here, live_chain}
 use Rattle.em_chain.proofs.Posting.{stands, stands_plain, get-merged, last_head}
 
 -- ---- the live posts
-
-either_way : {A : Type 0} (b : Bool) (x : A) → cond b x x ≡ x
-either_way true x = refl
-either_way false x = refl
 
 above_both : (f g k : ℕ) → f ≤ g → {A : Type 0} (o : Option A) → cond (is_live g k) (cond (is_live f k) o None) None ≡ cond (is_live g k) o None
 above_both f g k le o = by_case (nat_lt k g) refl

@@ -1,5 +1,5 @@
 //! Where what a command wrote goes.
-ghost use Rattle.std.specs.Prelude.{◌≡◌, ◌++◌, drop, IfOk, OnOk};
+ghost use Rattle.std.specs.Prelude.{◌≡◌, ◌++◌, IfOk, OnOk};
 ghost use Rattle.em_command.specs.Delivering as delivering;
 ghost use Rattle.em_command.specs.Delivering.{sink_of, through, into, append_some, append, told, appended, append_each, delivered};
 ghost use Rattle.em_command.specs.Heres.{written};

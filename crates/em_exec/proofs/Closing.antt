@@ -1,5 +1,5 @@
 -- A script as a whole, from what its commands have done.
-use Rattle.std.proofs.Common.{◌≡◌, ◌∙◌, ℕ, Bool, false, [], Result, Ok, Err, refl, sym, ap}
+use Rattle.std.proofs.Common.{◌≡◌, ◌∙◌, ℕ, false, [], Result, Ok, Err, refl, sym, ap}
 use Rattle.em_view.specs.declared.done.ExecNo.{ExecNo}
 use Rattle.em_view.specs.Actions.{Workspace}
 use Rattle.em_view.specs.Performs.{DeskState, Told}

@@ -1,11 +1,11 @@
 -- The end of what was looked at.
-use Rattle.std.proofs.Common.{◌≡◌, ◌∙◌, Bool, true, false, Result, Ok, Err, refl, sym, ap}
+use Rattle.std.proofs.Common.{◌≡◌, true, false, Result, Ok, Err, refl}
 use Rattle.em_view.specs.declared.no.DeskNo.{DeskNo}
 use Rattle.em_view.specs.declared.no.DeskNo.TheVariants as no
 use Rattle.em_view.specs.Performs.{DeskState, Told}
 use Rattle.em_view.specs.Performs as performs
 use Rattle.em_view.specs.Rows.{is_memory}
-use Rattle.em_view.specs.Steps.{Does, with_state}
+use Rattle.em_view.specs.Steps.{Does}
 use Rattle.em_view.proofs.Doing.{finish_s, refused_s}
 use Rattle.em_command.specs.declared.jump.Jump.{Jump}
 use Rattle.em_command.specs.declared.jump.Jump.TheVariants.{Exit, Break, Continue, End}

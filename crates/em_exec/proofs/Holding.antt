@@ -1,6 +1,5 @@
 -- What a word's plan asks is what its next turn asks, and then what is left.
-use Rattle.std.proofs.Common.{◌≡◌, ◌∙◌, ℕ, Bool, List, [], Option, Some, None, Result, Ok, Err, refl, sym, ap}
-use Rattle.em_glob.specs.declared.glyph.Glyph.{Glyph}
+use Rattle.std.proofs.Common.{◌≡◌, ◌∙◌, ℕ, List, [], Result, Ok, Err, refl, ap}
 use Rattle.em_view.specs.Actions.{Workspace, Oracle, Action, ◌>>=◌, done, fail, lift, spend, go_on}
 use Rattle.em_view.specs.Steps as steps
 use Rattle.em_view.specs.Steps.{and_then, own}
@@ -14,14 +13,13 @@ use Rattle.em_word.specs.Ends.{of_desk}
 use Rattle.em_word.specs.Talk.{Ends, Fails, Pays, Looks, Sets, Asks}
 use Rattle.em_word.specs.Turns.{Stop, Finished, Matching, Setting, Asking, finish, turn, expanded, names_of_each}
 use Rattle.em_word.specs.Values.{Plan}
-use Rattle.em_command.specs.declared.jump.Jump.{Jump}
 use Rattle.em_command.specs.declared.here.Here.{Here}
 use Rattle.em_command.specs.declared.here.Scene.{Scene}
 use Rattle.em_command.specs.Jumps.{Acts}
-use Rattle.em_command.specs.Heres.{faulted, assigned}
+use Rattle.em_command.specs.Heres.{assigned}
 use Rattle.em_exec.specs.declared.expand.Expansion.{Expansion}
 use Rattle.em_exec.specs.declared.expand.Expansion.TheVariants.{Fields, Pattern}
-use Rattle.em_exec.specs.Words.{Deeper, worded, come_to, expansion_of, hold, output, output_if}
+use Rattle.em_exec.specs.Words.{Deeper, worded, come_to, expansion_of, hold, output_if}
 
 module _ (deeper : Deeper) (scene : Scene) where
   abbrev pub then_stop : Mode → Stop → Acts Expansion

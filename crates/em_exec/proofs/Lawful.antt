@@ -1,10 +1,9 @@
 -- The laws of scripts.
-use Rattle.std.proofs.Common.{◌≡◌, ◌∙◌, ℕ, suc, List, [], Result, Ok, Err, refl, ap}
-use Rattle.em_view.specs.Actions.{Oracle, Workspace, go_on, ◌>>=◌}
+use Rattle.std.proofs.Common.{◌≡◌, ℕ, suc, List, [], Ok, Err, refl, ap}
+use Rattle.em_view.specs.Actions.{Oracle, Workspace, ◌>>=◌}
 use Rattle.em_view.specs.Steps.{own, and_then}
 use Rattle.em_syntax.specs.declared.tree.Script.{Script, out-Script}
 use Rattle.em_syntax.specs.declared.tree.AndOr.{AndOr}
-use Rattle.em_command.specs.declared.jump.Jump.{Jump}
 use Rattle.em_command.specs.declared.jump.Jump.TheVariants.{Exit, Break, Continue, End}
 use Rattle.em_command.specs.declared.here.Here.{Here}
 use Rattle.em_command.specs.declared.here.Scene.{Scene}

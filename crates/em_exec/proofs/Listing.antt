@@ -1,5 +1,5 @@
 -- Stages of a pipeline, as their last one and those before it.
-use Rattle.std.proofs.Common.{◌≡◌, ◌==◌, Bool, true, false, List, [], ◌∷◌, ◌++◌, length, refl}
+use Rattle.std.proofs.Common.{◌≡◌, ◌==◌, true, false, List, [], ◌∷◌, ◌++◌, length, refl}
 use Rattle.em_syntax.specs.declared.tree.Command.{Command}
 use Rattle.em_command.specs.declared.here.Scene.{Scene}
 use Rattle.em_command.specs.Jumps.{Acts}

@@ -3,14 +3,14 @@
 --     copied_s     in a copy of the shell, after which a function that has ends as its own goes on
 --     caught_s     a part of a loop's turn
 --     worded_ok, worded_err     what a word does over the desk
-use Rattle.std.proofs.Common.{◌≡◌, ℕ, Bool, true, false, Result, Ok, Err, refl, sym, ap, subst, ◌∙◌}
+use Rattle.std.proofs.Common.{◌≡◌, Bool, true, false, Result, Ok, Err, refl, sym, ap, subst, ◌∙◌}
 use Rattle.em_view.specs.Actions.{Workspace, Action}
 use Rattle.em_view.specs.Performs.{DeskState, Told, Performs}
 use Rattle.em_view.specs.Performs as performs
-use Rattle.em_view.specs.Steps.{Steps, Does, with_state, and_then, own}
+use Rattle.em_view.specs.Steps.{Does, with_state, and_then}
 use Rattle.em_view.specs.Ends.{is_want}
 use Rattle.em_view.proofs.Performing.{grows_then}
-use Rattle.em_view.proofs.Doing.{then_s, owned_s}
+use Rattle.em_view.proofs.Doing.{then_s}
 use Rattle.em_word.specs.declared.fault.WordFault.{WordFault}
 use Rattle.em_word.specs.declared.fault.WordFault.TheVariants as fault
 use Rattle.em_word.specs.Ends as word
@@ -18,7 +18,7 @@ use Rattle.em_command.specs.declared.jump.Jump.{Jump}
 use Rattle.em_command.specs.declared.jump.Jump.TheVariants.{Exit, Break, Continue, End}
 use Rattle.em_command.specs.declared.here.Here.{Here}
 use Rattle.em_command.specs.Jumps.{is_free, Acts}
-use Rattle.em_command.specs.Heres.{ended_as, branch, faulted}
+use Rattle.em_command.specs.Heres.{ended_as, faulted}
 use Rattle.em_exec.specs.declared.turn.Turn.{Turn}
 use Rattle.em_exec.specs.Copies.{Ended, seen, looked_at, turn_of, settled, caught}
 use Rattle.em_exec.specs.Words.{worded, come_to}

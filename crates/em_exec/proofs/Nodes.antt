@@ -1,9 +1,9 @@
 -- The variants of commands, as the code meets them.
-use Rattle.std.proofs.Common.{◌≡◌, ◌∙◌, List, sym, ap}
+use Rattle.std.proofs.Common.{◌≡◌, ◌∙◌, sym, ap}
 use Rattle.em_syntax.specs.declared.tree.Command.TheOpen.{Command-F, Compound-F}
-use Rattle.em_syntax.specs.declared.tree.Command.{Command, out-Command, out-roll-Command}
+use Rattle.em_syntax.specs.declared.tree.Command.{out-Command, out-roll-Command}
 use Rattle.em_syntax.specs.declared.tree.Command.TheVariants as command
-use Rattle.em_syntax.specs.declared.tree.Compound.{Compound, out-Compound, out-roll-Compound}
+use Rattle.em_syntax.specs.declared.tree.Compound.{out-Compound, out-roll-Compound}
 use Rattle.em_syntax.specs.declared.tree.Compound.TheVariants as compound
 use Rattle.em_syntax.specs.declared.tree.Simple.{Simple}
 use Rattle.em_syntax.specs.declared.tree.Script.{Script}

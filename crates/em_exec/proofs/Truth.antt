@@ -1,7 +1,6 @@
 -- `true` changes nothing but the status.
-use Rattle.std.proofs.Common.{◌≡◌, ℕ, Bool, List, [], ◌∷◌, Result, Ok, refl}
+use Rattle.std.proofs.Common.{◌≡◌, ℕ, Bool, List, [], ◌∷◌, Ok, refl}
 use Rattle.std.specs.Prelude.{codes}
-use Rattle.em_view.specs.declared.done.ExecNo.{ExecNo}
 use Rattle.em_view.specs.Actions as action
 use Rattle.em_view.specs.Actions.{Oracle, Workspace}
 use Rattle.em_view.specs.Steps.{own, below, and_then}

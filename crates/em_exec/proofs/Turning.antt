@@ -1,5 +1,5 @@
 -- The turns of `while`.
-use Rattle.std.proofs.Common.{◌≡◌, ℕ, suc, Bool, refl}
+use Rattle.std.proofs.Common.{suc}
 use Rattle.em_view.specs.Performs.{DeskState, Told}
 use Rattle.em_view.specs.Steps.{Does}
 use Rattle.std.specs.Prelude.{Result}

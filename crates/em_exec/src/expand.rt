@@ -1,5 +1,5 @@
 //! What a word comes to.
-ghost use Rattle.std.specs.Prelude.{◌≡◌, IfOk};
+ghost use Rattle.std.specs.Prelude.{◌≡◌};
 ghost use Rattle.em_exec.specs.Words as words;
 
 use em_base::{Seq, Text};

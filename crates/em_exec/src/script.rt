@@ -1,8 +1,7 @@
 //! A script as a whole.
 ghost use Rattle.std.specs.Prelude.{◌≡◌, ◌++◌, false, Ok, Err, IfOk, OnOk};
 ghost use Rattle.em_exec.specs.Exec as runs;
-ghost use Rattle.em_exec.specs.Exec.{Session, said, closed};
-ghost use Rattle.em_exec.specs.Copies.{Ended};
+ghost use Rattle.em_exec.specs.Exec.{said, closed};
 ghost use Rattle.em_view.specs.Ends.{is_want};
 ghost use Rattle.em_view.specs.Performs.{is_free};
 ghost use Rattle.em_view.specs.Steps.{Does, with_state};

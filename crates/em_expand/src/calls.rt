@@ -1,10 +1,10 @@
 //! What the text in the brackets of a reference is: a call of a function, a substitution, or a name.
-ghost use Rattle.std.specs.Prelude.{◌≡◌, ◌==◌, ◌<◌, ◌≤◌, not, length, map, option_map, IfOk, IfSome};
-ghost use Rattle.std.specs.List.{prefix_len, position, list_any};
+ghost use Rattle.std.specs.Prelude.{◌≡◌, ◌==◌, ◌<◌, ◌≤◌, length, map, option_map, IfOk, IfSome};
+ghost use Rattle.std.specs.List.{position, list_any};
 ghost use Rattle.em_base.specs.Blanks.{is_blank};
 ghost use Rattle.em_wordlist.specs.Stems.{is_percent};
 ghost use Rattle.em_expand.specs.Calls as calls;
-ghost use Rattle.em_expand.specs.Calls.{call_seen, substitution_seen, split, commas_of, split_args, word_length, call_in, call_of, substitution_of, with_percent};
+ghost use Rattle.em_expand.specs.Calls.{call_seen, substitution_seen, split, commas_of, word_length, call_in, call_of, substitution_of, with_percent};
 
 use crate::table::{Entry, function_of};
 use em_base::{NoMemory, Text, is_blank, trim_start};

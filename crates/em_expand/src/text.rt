@@ -1,5 +1,5 @@
 //! The expansion of a text.
-ghost use Rattle.std.specs.Prelude.{◌≡◌, [], true, map};
+ghost use Rattle.std.specs.Prelude.{[], true, map};
 ghost use Rattle.em_view.specs.Steps.{Does};
 ghost use Rattle.em_expand.specs.Desks.{is_free};
 ghost use Rattle.em_expand.specs.Scopes.{frames_of, nth};

@@ -2,13 +2,13 @@
 --     whole          the steps: it is prepared, its lines are read, and it is carried out
 --     closing        what it said, and how it ended
 --     same_lines     on each state that agrees with what it was answered, the lines for the shell are those that were read
-use Rattle.std.proofs.Common.{◌≡◌, ◌∙◌, ℕ, Bool, false, List, [], ◌∷◌, ◌++◌, Result, Ok, Err, refl, sym, ap, subst}
+use Rattle.std.proofs.Common.{◌≡◌, ◌∙◌, ℕ, false, List, [], ◌∷◌, ◌++◌, Result, Ok, Err, refl, sym, ap, subst}
 use Rattle.std.specs.Prelude.{IfOk, IfErr}
 use Rattle.em_tree.specs.declared.outcome.Outcome.{Outcome}
 use Rattle.em_tree.specs.declared.question.Entry.{Entry}
 use Rattle.em_tree.specs.declared.state.State.{State}
 use Rattle.em_tree.specs.Answers.{Agrees}
-use Rattle.em_view.specs.Actions.{Workspace, snapshot}
+use Rattle.em_view.specs.Actions.{Workspace}
 use Rattle.em_view.specs.Performs.{DeskState, Told}
 use Rattle.em_view.specs.Performs as performs
 use Rattle.em_view.specs.Steps.{Does, with_state}
@@ -16,7 +16,6 @@ use Rattle.em_view.proofs.Doing.{then_s, exit_s}
 use Rattle.em_run.proofs.Running.{on_agreeing}
 use Rattle.em_expand.specs.declared.spoken.Spoken.{Spoken}
 use Rattle.em_task.specs.declared.job.Job.{Job}
-use Rattle.em_job.specs.declared.prepare.Placed.{Placed}
 use Rattle.em_job.specs.declared.prepare.Prepared.{Prepared}
 use Rattle.em_job.specs.declared.ready.Course.{Course}
 use Rattle.em_job.specs.declared.ready.Ready.{Ready}

@@ -1,5 +1,5 @@
 -- Jobs that get their numbers one after another.
-use Rattle.std.proofs.Common.{◌≡◌, ◌∙◌, ◌+◌, ◌++◌, ◌∷◌, [], ℕ, suc, List, sym, ap, subst, add-one, append_assoc}
+use Rattle.std.proofs.Common.{◌≡◌, ◌∙◌, ◌+◌, ◌++◌, ◌∷◌, [], ℕ, suc, List, ap, add-one, append_assoc}
 use Rattle.em_cmdline.specs.declared.order.Order.{Order}
 use Rattle.em_rules.specs.declared.book.Book.{Book}
 use Rattle.em_plan.specs.declared.planned.PlanJob.{PlanJob}

@@ -1,5 +1,5 @@
 -- Which stops may come freely: those that come of an error that may.
-use Rattle.std.proofs.Common.{◌≡◌, true, false, refl}
+use Rattle.std.proofs.Common.{◌≡◌, refl}
 use Rattle.em_base.specs.declared.place.Place.{Place}
 use Rattle.em_view.specs.declared.done.ExecNo.{ExecNo}
 use Rattle.em_view.specs.declared.done.ExecNo.TheVariants as exec

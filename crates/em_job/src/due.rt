@@ -6,7 +6,7 @@ ghost use Rattle.em_job.specs.Stops.{is_free};
 ghost use Rattle.em_job.specs.Deciding as deciding;
 ghost use Rattle.em_recipe.specs.Automatic as automatic;
 ghost use Rattle.em_view.specs.Rows as rows;
-ghost use Rattle.em_view.specs.Steps.{Does, below};
+ghost use Rattle.em_view.specs.Steps.{Does};
 
 use crate::stop::{Stop, early};
 use em_base::{NoMemory, Seq, Text};

@@ -1,5 +1,5 @@
 //! The specs of a plan's jobs.
-ghost use Rattle.std.specs.Prelude.{◌≡◌, ◌≤◌, ◌^◌, [], ◌∷◌, ◌++◌, ℕ, List, None, length, IfOk, OnOk};
+ghost use Rattle.std.specs.Prelude.{◌≡◌, ◌≤◌, ◌^◌, ◌∷◌, ℕ, None, length, IfOk};
 ghost use Rattle.std.specs.List.{filter};
 ghost use Rattle.em_job.specs.Making as making;
 ghost use Rattle.em_path.specs.Paths.{root_text};

@@ -1,5 +1,5 @@
 //! What a job does before the first line of its recipe runs.
-ghost use Rattle.std.specs.Prelude.{◌≡◌, [], ◌++◌, map, false, IfOk, OnOk};
+ghost use Rattle.std.specs.Prelude.{◌≡◌, [], ◌++◌, map, OnOk};
 ghost use Rattle.em_job.specs.Stops.{is_free};
 ghost use Rattle.em_job.specs.Preparing as preparing;
 ghost use Rattle.em_recipe.specs.Messages as messages;

@@ -1,5 +1,5 @@
 //! The lines of a recipe, read by the shell's grammar.
-ghost use Rattle.std.specs.Prelude.{◌≡◌, IfOk};
+ghost use Rattle.std.specs.Prelude.{IfOk};
 ghost use Rattle.em_job.specs.Carrying.{AreRead, IsReadAs};
 
 use crate::prepare::{Opened, Placed, Prepared};

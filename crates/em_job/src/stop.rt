@@ -1,5 +1,5 @@
 //! Why a job goes no further.
-ghost use Rattle.std.specs.Prelude.{◌≡◌, ◌++◌, false, IfOk, OnOk};
+ghost use Rattle.std.specs.Prelude.{◌≡◌, ◌++◌, false, OnOk};
 ghost use Rattle.em_job.specs.declared.stop.Stop.TheVariants.{Refused, Halted, NoMemory as OutOfMemory};
 ghost use Rattle.em_recipe.specs.Messages as messages;
 ghost use Rattle.em_view.specs.declared.no.DeskNo.TheVariants as desk;

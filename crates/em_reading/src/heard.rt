@@ -1,5 +1,4 @@
 //! What a statement has expanded.
-ghost use Rattle.std.specs.Prelude.{◌≡◌};
 
 use em_base::Text;
 

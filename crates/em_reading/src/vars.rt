@@ -1,8 +1,8 @@
 //! What assignments and directives make of the variables.
-ghost use Rattle.std.specs.Prelude.{◌≡◌, IfOk, OnOk, fold, map, option_copied};
+ghost use Rattle.std.specs.Prelude.{◌≡◌, IfOk, OnOk, map, option_copied};
 ghost use Rattle.em_reading.specs.Variables as variables;
 ghost use Rattle.em_reading.specs.Variables.{all_marked, all_unmarked, assigned, has_text, is_expanded, is_simple, marked, new_value, set, set_if, undefined, unmarked, var, was_exported};
-ghost use Rattle.em_vars.specs.Entries.{keeps, value_of};
+ghost use Rattle.em_vars.specs.Entries.{value_of};
 
 use em_base::{NoMemory, Text};
 use em_statement::{Modifiers, Operator};

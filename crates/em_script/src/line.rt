@@ -1,6 +1,5 @@
 //! A line for the shell.
-ghost use Rattle.std.specs.Prelude.{◌≡◌, IfOk};
-ghost use Rattle.em_exec.specs.Exec.{Session};
+ghost use Rattle.std.specs.Prelude.{IfOk};
 ghost use Rattle.em_script.specs.Lines.{IsRead, run_line};
 ghost use Rattle.em_view.specs.Ends.{is_want};
 ghost use Rattle.em_view.specs.Steps.{Does};

@@ -1,5 +1,5 @@
 //! A text utility by its name.
-ghost use Rattle.std.specs.Prelude.{◌≡◌, false, IfOk};
+ghost use Rattle.std.specs.Prelude.{◌≡◌, IfOk};
 ghost use Rattle.em_view.specs.Performs.{Performs};
 ghost use Rattle.em_view.specs.Ends.{is_want};
 ghost use Rattle.em_textutil.specs.Jobs as jobs;

@@ -1,8 +1,7 @@
 -- The substitutions that stand before what is left.
-use Rattle.std.proofs.Common.{◌≡◌, ◌∙◌, ℕ, zero, suc, ◌+◌, List, [], ◌∷◌, ◌++◌, length, map, drop, Option, Some, None, refl, sym, ap, append_assoc, append-nil, arith}
+use Rattle.std.proofs.Common.{◌≡◌, ◌∙◌, ℕ, zero, suc, ◌+◌, List, [], ◌∷◌, ◌++◌, length, map, drop, Some, None, sym, ap, append_assoc, arith}
 use Rattle.std.specs.Prelude.{slice_get}
-use Rattle.em_syntax.specs.declared.tree.Script.{Script}
-use Rattle.em_syntax.specs.declared.tree.Word.{Word, out-Word}
+use Rattle.em_syntax.specs.declared.tree.Word.{Word}
 use Rattle.em_syntax.specs.declared.tree.WordPiece.{WordPiece}
 use Rattle.em_syntax.specs.declared.tree.Value.{Value, out-Value}
 use Rattle.em_syntax.specs.Scripts.{scripts, piece_scripts, in_all}

@@ -1,18 +1,14 @@
 -- What an expander stands for, step by step.
-use Rattle.std.proofs.Common.{◌≡◌, ◌∙◌, ℕ, Bool, true, false, suc, List, [], ◌∷◌, ◌++◌, map, length, Option, Some, None, refl, sym, ap, append-nil}
+use Rattle.std.proofs.Common.{◌≡◌, ◌∙◌, ℕ, Bool, true, false, suc, List, [], ◌∷◌, ◌++◌, map, length, Option, Some, None, refl, ap}
 use Rattle.std.specs.Option.{option_map}
 use Rattle.em_syntax.specs.declared.tree.Script.{Script}
-use Rattle.em_syntax.specs.declared.tree.Word.{Word, out-Word}
-use Rattle.em_syntax.specs.declared.tree.WordPiece.{WordPiece}
+use Rattle.em_syntax.specs.declared.tree.Word.{Word}
 use Rattle.em_fields.specs.declared.part.Part.{Part}
-use Rattle.em_fields.specs.declared.form.Late.{Late}
 use Rattle.em_fields.specs.Parts.{glyphs, marked, mark, part_of}
 use Rattle.em_word.specs.Talk.{Talk, Ends, Fails, Pays, Looks, Sets, Asks, and_then}
-use Rattle.em_word.specs.Values.{Plan, argument, close, in_order}
-use Rattle.em_word.specs.Words.{word_plan, piece_plan}
-use Rattle.em_word.specs.Held.{inside, outside, pieces_in, with_piece}
-use Rattle.em_word.specs.declared.expander.Expander.{Expander}
-use Rattle.em_word.specs.declared.expander.Open.{Open}
+use Rattle.em_word.specs.Values.{Plan, argument}
+use Rattle.em_word.specs.Words.{word_plan}
+use Rattle.em_word.specs.Held.{inside, pieces_in}
 use Rattle.em_word.proofs.Plans.{assoc}
 use Rattle.em_word.proofs.Planned.{word_is}
 

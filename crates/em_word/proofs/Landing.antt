@@ -16,7 +16,6 @@ use Rattle.em_word.specs.declared.fault.WordFault.{WordFault}
 use Rattle.em_word.specs.declared.turn.Mode.{Mode}
 use Rattle.em_word.specs.declared.expander.Expander.{Expander}
 use Rattle.em_word.specs.declared.expander.Open.{Open}
-use Rattle.em_word.specs.declared.expander.Stage.{Stage}
 use Rattle.em_word.specs.declared.expander.Stage.TheVariants.{Ready, Waiting, Given}
 use Rattle.em_word.specs.declared.step.Step.{Step}
 use Rattle.em_word.specs.declared.step.Step.TheVariants as step
@@ -24,7 +23,7 @@ use Rattle.em_word.specs.Talk.{Ends, Pays, and_then}
 use Rattle.em_word.specs.Values.{Plan, charged, taken, close, argument, assigned, output_piece}
 use Rattle.em_word.specs.Words.{piece_plan, word_plan}
 use Rattle.em_word.specs.Ends.{is_want, of_desk}
-use Rattle.em_word.specs.Held.{plan_of, plan_given, waits, pieces_in, with_piece, inside, outside, staged, left, argument_pieces, value_scripts, Entered, IsCounted, IsSteady, IsBehind}
+use Rattle.em_word.specs.Held.{plan_of, plan_given, waits, pieces_in, with_piece, inside, outside, staged, left, argument_pieces, value_scripts, Entered, IsCounted, IsBehind}
 use Rattle.em_word.specs.Leads.{Leads, Failed, GoesOn, Turned, Stepped}
 use Rattle.em_word.specs.Turns.{Setting, Asking, turn}
 use Rattle.em_word.specs.declared.turn.WordTurn.TheVariants as wordturn

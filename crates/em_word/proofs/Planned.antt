@@ -6,13 +6,13 @@ use Rattle.em_fields.specs.Parts.{marked}
 use Rattle.em_word.specs.Talk.{Ends}
 use Rattle.em_word.specs.Values.{Plan, output_piece, value_piece, in_order}
 use Rattle.em_word.specs.Words.{word_plan, piece_plan, what_step, value_step, word_step, piece_step}
-use Rattle.em_syntax.specs.declared.tree.Command.TheOpen.{WordWhat-F, Value-F, Word-F, WordPiece-F}
+use Rattle.em_syntax.specs.declared.tree.Command.TheOpen.{WordWhat-F}
 use Rattle.em_syntax.specs.declared.tree.Command.TheShapes.{former-Value-arg}
 use Rattle.em_syntax.specs.declared.tree.Script.{Script}
 use Rattle.em_syntax.specs.declared.tree.WordWhat.{WordWhat, para-WordWhat, para-roll-WordWhat}
 use Rattle.em_syntax.specs.declared.tree.Value.{Value, para-Value, para-roll-Value, out-Value, roll-out-Value}
-use Rattle.em_syntax.specs.declared.tree.Word.{Word, para-Word, para-roll-Word, out-Word, roll-out-Word}
-use Rattle.em_syntax.specs.declared.tree.WordPiece.{WordPiece, para-WordPiece, para-roll-WordPiece, out-WordPiece, roll-out-WordPiece}
+use Rattle.em_syntax.specs.declared.tree.Word.{Word, para-roll-Word, out-Word, roll-out-Word}
+use Rattle.em_syntax.specs.declared.tree.WordPiece.{WordPiece, para-roll-WordPiece, out-WordPiece, roll-out-WordPiece}
 use Rattle.em_syntax.specs.declared.tree.WordWhat.TheVariants.{Bytes, Value as the-Value, Output, rolls-Bytes, rolls-Value, rolls-Output}
 
 what_of : WordWhat → Bool → Plan Script

@@ -1,5 +1,5 @@
 -- Plans, one after another.
-use Rattle.std.proofs.Common.{◌≡◌, ◌∙◌, List, [], ◌∷◌, ◌++◌, map, refl, sym, ap}
+use Rattle.std.proofs.Common.{◌≡◌, refl, ap}
 use Rattle.em_word.specs.Talk.{Talk, Ends, Fails, Pays, Looks, Sets, Asks, and_then}
 
 pub assoc : {Q F A B C : Type 0} → (t : Talk Q F A) (k : A → Talk Q F B) (l : B → Talk Q F C) → and_then (and_then t k) l ≡ and_then t (λ a. and_then (k a) l)

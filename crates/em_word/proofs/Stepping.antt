@@ -1,24 +1,22 @@
 -- Steps of an expander, one after another.
-use Rattle.std.proofs.Common.{◌≡◌, ◌∙◌, ◌++◌, ℕ, Bool, true, false, List, [], ◌∷◌, map, length, refl, sym, ap, subst, append_assoc}
-use Rattle.std.specs.Prelude.{Result, Ok, Err, Option, Some, MatchResult, IfOk}
+use Rattle.std.proofs.Common.{◌≡◌, ℕ, List, refl, sym, subst}
+use Rattle.std.specs.Prelude.{Result, Ok, Err, Some, MatchResult, IfOk}
 use Rattle.std.specs.Result.{IsErrAnd}
 use Rattle.em_view.specs.declared.no.DeskNo.{DeskNo}
 use Rattle.em_view.specs.declared.no.DeskNo.TheVariants as desk
 use Rattle.em_view.specs.Actions.{Action, lift, spend}
 use Rattle.em_view.specs.Performs.{DeskState, Told, Performs}
-use Rattle.em_view.specs.Rows.{is_memory, blocks}
-use Rattle.em_view.proofs.Performing.{then, exit, finish, refused, ran_out, lifted, lifted_exit}
+use Rattle.em_view.specs.Rows.{is_memory}
+use Rattle.em_view.proofs.Performing.{then, exit, finish, refused, ran_out, lifted_exit}
 use Rattle.em_syntax.specs.declared.tree.Script.{Script}
-use Rattle.em_fields.specs.Parts.{glyphs, marked, mark, part_of}
 use Rattle.em_word.specs.declared.shell.Shell.{Shell}
 use Rattle.em_word.specs.declared.fault.WordFault.{WordFault}
 use Rattle.em_word.specs.declared.fault.WordFault.TheVariants as fault
 use Rattle.em_word.specs.declared.turn.Mode.{Mode}
-use Rattle.em_word.specs.declared.step.Step.{Step}
-use Rattle.em_word.specs.Talk.{Talk, Ends, Fails, Pays, Looks, Sets, Asks, and_then}
+use Rattle.em_word.specs.Talk.{Fails, Pays, Looks, Sets, Asks}
 use Rattle.em_word.specs.Values.{Plan}
 use Rattle.em_word.specs.Ends.{is_want, of_desk}
-use Rattle.em_word.specs.Turns.{Stop, Setting, Asking, turn}
+use Rattle.em_word.specs.Turns.{Setting, Asking, turn}
 use Rattle.em_word.specs.Leads.{Leads, Failed}
 
 pub desk_same : (x : DeskNo) → is_want (of_desk x) ≡ is_memory x

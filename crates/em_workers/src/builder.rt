@@ -1,8 +1,8 @@
 //! The build.
-ghost use Rattle.std.specs.Prelude.{◌≡◌, ◌<◌, ◌≤◌, ◌^◌, ℕ, [], None, All, IfOk, OnOk, length, slice_index_or};
+ghost use Rattle.std.specs.Prelude.{◌≡◌, ◌<◌, ◌≤◌, ◌^◌, ℕ, [], None, All, OnOk, length, slice_index_or};
 ghost use Rattle.std.specs.Thread.{IsSync};
-ghost use Rattle.em_engine.specs.Fronts.{AreNumbered, IsStanding, next_of};
-ghost use Rattle.em_workers.specs.Builds.{IsOnce, Builds};
+ghost use Rattle.em_engine.specs.Fronts.{AreNumbered, next_of};
+ghost use Rattle.em_workers.specs.Builds.{Builds};
 ghost use Rattle.em_workers.specs.Commits.{Commits, notes_in};
 ghost use Rattle.em_workers.specs.Printing.{faults_after};
 

@@ -1,5 +1,5 @@
 //! The committer.
-ghost use Rattle.std.specs.Prelude.{◌≡◌, ◌++◌, ◌∷◌, Ok, Err, true, [], None, Some, IfOk, IfErr, IfSome, IsSome, OnOk, MatchOption, All};
+ghost use Rattle.std.specs.Prelude.{◌≡◌, ◌++◌, ◌∷◌, Ok, Err, true, [], None, Some, IfOk, IfErr, OnOk, All};
 ghost use Rattle.em_host.specs.Outside.{Tells};
 ghost use Rattle.em_engine.specs.Fronts.{next_of};
 ghost use Rattle.em_workers.specs.Builds.{IsOnce};

@@ -1,4 +1,4 @@
-use Rattle.std.proofs.Common.{◌≡◌, ◌∙◌, sym, ap, subst, refl, List, ℕ, ◌∷◌, Option}
+use Rattle.std.proofs.Common.{◌∙◌, sym, ap, List, ℕ, Option}
 use Rattle.em_tree.specs.declared.node.Node.{Node}
 use Rattle.std.specs.Ordering.{eq_by_cmp}
 use Rattle.em_tree.proofs.Maps.{order}

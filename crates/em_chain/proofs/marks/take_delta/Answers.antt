@@ -1,11 +1,10 @@
-use Rattle.std.proofs.Common.{◌≡◌, ◌∙◌, ap, sym, cond, Some, None, Option, ℕ, List, option_map, refl}
-use Rattle.std.specs.Ordering.{nat_cmp, eq_by_cmp}
-use Rattle.std.specs.FinMap.{get, insert, from_entries, empty}
+use Rattle.std.proofs.Common.{◌∙◌, ap, sym, Some, ℕ, option_map}
+use Rattle.std.specs.Ordering.{nat_cmp}
+use Rattle.std.specs.FinMap.{get, insert, from_entries}
 use Rattle.std.specs.BTreeMap.{BTreeMap}
 use Rattle.em_tree.specs.Trees.{Changes}
 use Rattle.em_chain.specs.Posts.{Posts}
 use Rattle.em_chain.specs.declared.post.Post.{Post}
-use Rattle.em_chain.specs.Floors.{emptied}
 use Rattle.em_chain.proofs.Posting.{post_found, post_put, left_at, left_none}
 use Rattle.em_tree.proofs.Indexes.{some_is}
 use Rattle.em_chain.proofs.marks.take_delta.Goals as goal

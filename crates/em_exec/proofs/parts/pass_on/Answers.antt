@@ -1,4 +1,4 @@
-use Rattle.std.proofs.Common.{◌≡◌, ◌∙◌, sym, Ok, Err}
+use Rattle.std.proofs.Common.{◌∙◌, sym}
 use Rattle.em_view.proofs.Doing.{then_s, leave_s, owned_s}
 use Rattle.em_exec.proofs.Ending.{jumped_s, free_end}
 use Rattle.em_exec.proofs.parts.pass_on.Goals as goal

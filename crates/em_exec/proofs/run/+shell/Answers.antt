@@ -1,7 +1,6 @@
-use Rattle.std.proofs.Common.{◌≡◌, ◌∙◌, ◌+◌, ◌-◌, ◌*◌, ◌<◌, ◌==◌, ◌++◌, ◌∷◌, [], ℕ, suc, pred, Bool, true, false, length, drop, refl, sym, ap, Ok, Err, Some, None, arith}
+use Rattle.std.proofs.Common.{◌∙◌, ◌+◌, ◌-◌, suc, true, false, drop, refl, sym, ap, Ok, None, arith}
 use Rattle.em_base.proofs.Lemmas.{left_at, none_at}
-use Rattle.em_view.specs.Steps.{own}
-use Rattle.em_view.proofs.Doing.{then_s, exit_s, leave_s, finish_s, out_s, owned_s, refused_s, gave_s, more_s, stop_s, end_s}
+use Rattle.em_view.proofs.Doing.{then_s, exit_s, leave_s, finish_s, out_s, owned_s, refused_s, more_s, stop_s, end_s}
 use Rattle.em_syntax.specs.declared.tree.Command.{out-Command, out-roll-Command}
 use Rattle.em_syntax.specs.declared.tree.Command.TheVariants as command
 use Rattle.em_syntax.specs.declared.tree.Joined.{out-Joined}
@@ -12,13 +11,13 @@ use Rattle.em_word.specs.declared.turn.Mode.TheVariants as mode
 use Rattle.em_word.specs.Turns.{turn}
 use Rattle.em_word.specs.Held.{plan_of, mode_of, word_of}
 use Rattle.em_command.specs.declared.here.Here.{Here}
-use Rattle.em_command.specs.Heres.{branch, rejoined, overheard}
-use Rattle.em_exec.specs.Copies.{apart, unwritten, put_back, looked_at, subshell, heard, substituted, substitute, collected}
+use Rattle.em_command.specs.Heres.{branch}
+use Rattle.em_exec.specs.Copies.{apart, unwritten, put_back, subshell, heard, substituted, collected}
 use Rattle.em_syntax.specs.declared.tree.Compound.{out-Compound}
-use Rattle.em_exec.specs.Words.{expanded, whole, pattern, fields, first_in, hold}
-use Rattle.em_exec.specs.Running.{by_status, if_goes, if_zero, if_goes_on, goes_with, goes_on, branches, pipeline_of, and_or_of, joined_one, command_of, simple_of, act, assignment, redirect_one, compound_of, routed, passed_on, body_of, if_of, loop_of, turns, one_turn, body_turn, for_of, round, case_of, script_at}
+use Rattle.em_exec.specs.Words.{expanded, whole, pattern, first_in}
+use Rattle.em_exec.specs.Running.{if_goes, if_zero, if_goes_on, goes_with, goes_on, branches, pipeline_of, and_or_of, joined_one, command_of, simple_of, act, assignment, redirect_one, compound_of, routed, body_of, if_of, one_turn, body_turn, for_of, round, case_of, script_at}
 use Rattle.em_exec.proofs.Looking.{looked_s, kept_by, caught_s, worded_ok, worded_err}
-use Rattle.em_exec.proofs.Holding.{then_stop, by_turns}
+use Rattle.em_exec.proofs.Holding.{by_turns}
 use Rattle.em_exec.proofs.Nodes.{is_simple, is_subshell, is_group, is_if, is_loop, is_for, is_case}
 use Rattle.em_exec.proofs.Turning.{from_fuel}
 use Rattle.em_exec.proofs.Listing.{not_last, some_piped}

@@ -1,16 +1,13 @@
-use Rattle.std.proofs.Common.{◌≡◌, ◌+◌, ◌-◌, ◌*◌, ◌<◌, ◌++◌, ◌∷◌, [], ℕ, suc, drop}
-use Rattle.std.specs.Prelude.{Result}
+use Rattle.std.proofs.Common.{◌≡◌, ◌+◌, ◌*◌, ◌<◌, ◌++◌, ◌∷◌, [], ℕ, suc, drop}
 use Rattle.em_view.proofs.Doing.{Goes}
-use Rattle.em_view.specs.Steps.{Does}
 use Rattle.em_syntax.specs.declared.tree.Loop.{out-Loop}
 use Rattle.em_syntax.specs.declared.tree.For.{out-For}
-use Rattle.em_syntax.specs.declared.tree.Case.{out-Case}
 use Rattle.em_word.specs.Held.{IsReady, word_of}
 use Rattle.em_exec.specs.Leads.{rest_of}
 use Rattle.em_command.specs.Jumps.{is_free}
 use Rattle.em_command.specs.Streams.{around}
 use Rattle.em_exec.specs.Words.{fields}
-use Rattle.em_exec.specs.Running.{script_at, in_order, joined, piped, assignments, redirects, branches, items, matches_one, rounds, turns, loop_of}
+use Rattle.em_exec.specs.Running.{script_at, in_order, joined, piped, assignments, redirects, branches, items, matches_one, rounds, turns}
 use Rattle.em_exec.proofs.run.+shell.Given as goal
 
 abbrev pub decreases-script_in : goal.decreases-script_in

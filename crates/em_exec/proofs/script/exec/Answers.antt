@@ -1,4 +1,4 @@
-use Rattle.std.proofs.Common.{◌≡◌, refl}
+use Rattle.std.proofs.Common.{refl}
 use Rattle.em_view.proofs.Doing.{out_s}
 use Rattle.em_exec.proofs.Closing.{closing}
 use Rattle.em_exec.proofs.script.exec.Goals as goal

@@ -1,4 +1,4 @@
-use Rattle.std.proofs.Common.{◌≡◌, ◌++◌, [], drop, take, map, true}
+use Rattle.std.proofs.Common.{drop}
 use Rattle.em_view.proofs.Doing.{Goes}
 use Rattle.em_expand.specs.declared.spoken.Spoken.{Spoken}
 use Rattle.em_job.specs.Stops.{is_free}

@@ -1,4 +1,4 @@
-use Rattle.std.proofs.Common.{◌≡◌, take, map}
+use Rattle.std.proofs.Common.{◌≡◌, take}
 use Rattle.em_recipe.specs.Automatic.{names_of}
 use Rattle.em_job.proofs.due.names_of.Given as goal
 

@@ -1,6 +1,6 @@
-use Rattle.std.proofs.Common.{◌≡◌, ◌∙◌, ◌+◌, ◌++◌, ◌∷◌, [], drop, take, map, refl, sym, ap, Ok, Err, Some, None}
-use Rattle.em_view.proofs.Doing.{then_s, leave_s, exit_s, finish_s, out_s, owned_s, refused_s, gave_s, below_ok, below_err, within_ok, within_err, more_s, stop_s, end_s}
-use Rattle.em_base.proofs.Lemmas.{left_at, none_at}
+use Rattle.std.proofs.Common.{◌≡◌, ◌∙◌, [], refl, sym}
+use Rattle.em_view.proofs.Doing.{finish_s, out_s, more_s, stop_s, end_s}
+use Rattle.em_base.proofs.Lemmas.{none_at}
 use Rattle.em_job.specs.Carrying.{environment}
 use Rattle.em_job.proofs.Entries.{next_entry, ok_is}
 use Rattle.em_job.proofs.environment.environment.Goals as goal

@@ -1,4 +1,4 @@
-use Rattle.std.proofs.Common.{◌≡◌, ◌∙◌, ◌+◌, ◌++◌, ◌∷◌, [], ℕ, refl, sym, ap, append-nil}
+use Rattle.std.proofs.Common.{◌∙◌, ◌+◌, ℕ, sym, ap, append-nil}
 use Rattle.em_base.proofs.Lemmas.{left_at, none_at}
 use Rattle.em_job.specs.Making.{jobs_of}
 use Rattle.em_job.proofs.Numbered.{numbered}

@@ -1,6 +1,5 @@
-use Rattle.std.proofs.Common.{◌≡◌, ◌++◌, [], drop, take, map, true}
+use Rattle.std.proofs.Common.{[], drop}
 use Rattle.em_view.proofs.Doing.{Goes}
-use Rattle.em_expand.specs.declared.spoken.Spoken.{Spoken}
 use Rattle.em_job.specs.Stops.{is_free}
 use Rattle.em_job.specs.Preparing as preparing
 use Rattle.em_job.proofs.prepare.expand_lines.Given as goal

@@ -1,4 +1,4 @@
-use Rattle.std.proofs.Common.{◌≡◌, ◌++◌, take, map}
+use Rattle.std.proofs.Common.{◌≡◌, ◌++◌, map}
 use Rattle.em_job.specs.Preparing as preparing
 use Rattle.em_job.proofs.prepare.put_placed.Given as goal
 

@@ -1,5 +1,4 @@
-use Rattle.std.proofs.Common.{◌≡◌, ◌∙◌, ◌<◌, ℕ, zero, suc, true, false, List, All, [], ◌∷◌, length, map, refl, ap, arith}
-use Rattle.std.specs.Prelude.{if◌then◌else◌}
+use Rattle.std.proofs.Common.{◌≡◌, ◌∙◌, ℕ, zero, suc, true, false, List, All, [], ◌∷◌, map, refl, ap, arith}
 use Rattle.em_glob.specs.declared.glyph.Glyph.{Glyph}
 use Rattle.em_glob.specs.Patterns.{is_pattern, bytes_of}
 use Rattle.em_view.specs.Actions.{◌>>=◌, done}

@@ -1,4 +1,4 @@
-use Rattle.std.proofs.Common.{◌≡◌, ◌∙◌, refl, sym}
+use Rattle.std.proofs.Common.{◌∙◌, refl, sym}
 use Rattle.em_view.proofs.Performing.{then, finish, ran_out, lifted, lifted_leave}
 use Rattle.em_word.specs.Ends.{of_desk}
 use Rattle.em_word.specs.Turns.{names_of, names_that_match}

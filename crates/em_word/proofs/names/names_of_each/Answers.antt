@@ -1,4 +1,4 @@
-use Rattle.std.proofs.Common.{◌≡◌, ◌∷◌, [], refl}
+use Rattle.std.proofs.Common.{refl}
 use Rattle.em_view.proofs.Performing.{more, stop, end, then, finish, ran_out}
 use Rattle.em_base.proofs.Lemmas.{left_at, none_at}
 use Rattle.em_word.proofs.names.names_of_each.Goals as goal

@@ -1,5 +1,5 @@
-use Rattle.std.proofs.Common.{◌≡◌, ◌≤◌, ◌+◌, ◌-◌, ◌^◌, ◌∙◌, ◌∷◌, List, ℕ, length, min, ap, sym, subst, arith, is_some, cond, true, false}
-use Rattle.std.specs.FinMap.{entries, len}
+use Rattle.std.proofs.Common.{◌≡◌, ◌+◌, ◌-◌, ◌^◌, ◌∙◌, List, ℕ, length, min, ap, sym, arith, true, false}
+use Rattle.std.specs.FinMap.{entries}
 use Rattle.em_chain.specs.declared.lines.Line.{Line}
 use Rattle.em_chain.specs.Lines.{LineTable}
 use Rattle.em_chain.proofs.Lining.{line_entries}

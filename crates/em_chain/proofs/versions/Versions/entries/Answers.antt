@@ -1,8 +1,7 @@
-use Rattle.std.proofs.Common.{◌≡◌, ◌∙◌, ◌+◌, ◌-◌, ◌^◌, ap, sym, min, ℕ, List, arith}
+use Rattle.std.proofs.Common.{◌∙◌, ap, ℕ, List, arith}
 use Rattle.std.specs.List.{filter, sum_by}
 use Rattle.std.specs.FinMap.{len, from_entries}
 use Rattle.em_chain.specs.declared.post.Post.{Post}
-use Rattle.em_chain.specs.Lines.{merged_in}
 use Rattle.em_chain.specs.Floors.{is_live}
 use Rattle.em_chain.proofs.Flooring.{entries-live}
 use Rattle.em_chain.proofs.Posting.{post_entries}

@@ -1,9 +1,8 @@
-use Rattle.std.proofs.Common.{◌∙◌, ◌≤◌, ap, subst, sym, List, ℕ}
-use Rattle.std.specs.FinMap.{get, from_entries}
+use Rattle.std.proofs.Common.{◌≤◌, subst, sym, List, ℕ}
+use Rattle.std.specs.FinMap.{from_entries}
 use Rattle.em_chain.specs.Posts.{Floored}
 use Rattle.em_chain.specs.Listing.{IsListing, changed_at}
 use Rattle.em_chain.specs.Floors.{change_over, table_over}
-use Rattle.em_chain.proofs.Flooring.{lies_below}
 use Rattle.em_chain.proofs.Naming.{listing_touched, listing_untouched, parents_of}
 use Rattle.em_chain.proofs.Posting.{stands, untouched, lies_seen}
 use Rattle.em_tree.specs.Names.{children_of}

@@ -1,8 +1,7 @@
-use Rattle.std.proofs.Common.{◌≡◌, ◌∙◌, ◌+◌, ◌≤◌, ap, sym, subst, refl, ℕ, List, arith}
+use Rattle.std.proofs.Common.{◌≡◌, ◌+◌, ap, sym, subst, ℕ, List, arith}
 use Rattle.std.specs.FinMap.{get, from_entries}
 use Rattle.em_chain.specs.Posts.{Floored}
 use Rattle.em_chain.specs.Floors.{IsRaised}
-use Rattle.em_chain.specs.Lines.{merged_in}
 use Rattle.em_chain.proofs.Flooring.{lies_below}
 use Rattle.em_chain.proofs.Posting.{lies_seen}
 use Rattle.em_chain.proofs.Raising.{raised_none, raised_more}

@@ -1,4 +1,4 @@
-use Rattle.std.proofs.Common.{◌≡◌, ◌≤◌}
+use Rattle.std.proofs.Common.{◌≤◌}
 use Rattle.em_chain.specs.Floors.{IsRaised}
 use Rattle.em_chain.proofs.versions.Versions.raise.Given as goal
 

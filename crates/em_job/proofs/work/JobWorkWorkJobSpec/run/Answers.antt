@@ -1,5 +1,4 @@
-use Rattle.std.proofs.Common.{◌≡◌, ◌∙◌, Result, Ok, List, refl, sym, subst}
-use Rattle.em_tree.specs.declared.outcome.Outcome.{Outcome}
+use Rattle.std.proofs.Common.{◌∙◌, Result, List, refl, sym, subst}
 use Rattle.em_tree.specs.declared.state.State.{State}
 use Rattle.em_run.proofs.Running.{valid, told}
 use Rattle.em_job.specs.declared.prepare.Placed.{Placed}

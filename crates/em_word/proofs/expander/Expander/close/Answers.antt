@@ -1,4 +1,4 @@
-use Rattle.std.proofs.Common.{◌≡◌, ◌++◌, List, length, drop, append_assoc}
+use Rattle.std.proofs.Common.{◌≡◌, ◌++◌, length, drop, append_assoc}
 use Rattle.em_syntax.specs.Scripts.{scripts}
 use Rattle.em_fields.specs.Cuts.{cut_off}
 use Rattle.em_fields.specs.Forms as forms

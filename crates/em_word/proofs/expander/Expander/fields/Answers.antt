@@ -1,4 +1,3 @@
-use Rattle.std.proofs.Common.{◌≡◌}
 use Rattle.em_word.proofs.expander.Expander.fields.Goals as goal
 
 pub returns-clause-turn : goal.returns-clause-turn

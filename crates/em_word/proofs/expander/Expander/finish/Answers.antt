@@ -1,4 +1,3 @@
-use Rattle.std.proofs.Common.{◌≡◌, refl}
 use Rattle.em_view.proofs.Performing.{then, exit, finish}
 use Rattle.em_word.specs.Held.{mode_of}
 use Rattle.em_word.specs.Turns.{expanded}

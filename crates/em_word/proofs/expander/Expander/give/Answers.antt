@@ -1,4 +1,4 @@
-use Rattle.std.proofs.Common.{◌≡◌, ◌∙◌, Bool, true, false, List, ℕ, refl, sym, ap}
+use Rattle.std.proofs.Common.{◌≡◌, ◌∙◌, false, List, ℕ, refl, ap}
 use Rattle.em_word.specs.Held.{plan_of, plan_given, word_of, mode_of, IsCounted, given, waits}
 use Rattle.em_word.specs.declared.expander.Stage.{Stage}
 use Rattle.em_word.specs.declared.expander.Stage.TheVariants.{Ready, Waiting, Given}

@@ -1,4 +1,4 @@
-use Rattle.std.proofs.Common.{◌≡◌, ◌∙◌, refl}
+use Rattle.std.proofs.Common.{◌∙◌, refl}
 use Rattle.std.specs.Prelude.{Err}
 use Rattle.em_view.proofs.Performing.{ran_out}
 use Rattle.em_word.specs.declared.fault.WordFault.TheVariants as fault

@@ -1,4 +1,4 @@
-use Rattle.std.proofs.Common.{◌≡◌, ◌∙◌}
+use Rattle.std.proofs.Common.{◌∙◌}
 use Rattle.em_word.specs.Held.{left, mode_of, IsCounted}
 use Rattle.em_word.proofs.Stepping.{is_same}
 use Rattle.em_word.proofs.Landing.{led, ended_plan, left_plan}

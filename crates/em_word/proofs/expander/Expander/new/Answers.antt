@@ -1,8 +1,6 @@
-use Rattle.std.proofs.Common.{◌≡◌, ◌∙◌, [], map, refl, sym, ap, append-nil}
-use Rattle.em_syntax.specs.Scripts.{piece_scripts, in_all}
+use Rattle.std.proofs.Common.{◌∙◌, refl, sym, append-nil}
 use Rattle.em_syntax.proofs.Parted.{word_is as scripts_is}
-use Rattle.em_word.specs.Held.{plan_of, word_of, mode_of, IsCounted, inside, outside}
-use Rattle.em_word.specs.Talk.{and_then}
+use Rattle.em_word.specs.Held.{plan_of, word_of, mode_of, IsCounted}
 use Rattle.em_word.proofs.Holding.{ends_right}
 use Rattle.em_word.proofs.Planned.{word_is}
 use Rattle.em_word.proofs.expander.Expander.new.Goals as goal

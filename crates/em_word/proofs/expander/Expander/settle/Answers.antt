@@ -1,4 +1,4 @@
-use Rattle.std.proofs.Common.{◌≡◌, ◌+◌, length}
+use Rattle.std.proofs.Common.{◌+◌, length}
 use Rattle.em_syntax.specs.Scripts.{scripts}
 use Rattle.em_fields.specs.Parts.{marked}
 use Rattle.em_word.specs.Held.{left, value_scripts}

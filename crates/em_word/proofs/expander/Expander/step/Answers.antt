@@ -1,4 +1,4 @@
-use Rattle.std.proofs.Common.{◌≡◌, ◌∙◌, ◌∷◌, ◌++◌, List, [], length, drop, sym, ap, refl}
+use Rattle.std.proofs.Common.{◌≡◌, ◌∙◌, ◌∷◌, ◌++◌, List, [], length, drop, ap, refl}
 use Rattle.em_syntax.specs.Scripts.{scripts, piece_scripts}
 use Rattle.em_syntax.specs.declared.tree.WordPiece.{WordPiece, out-WordPiece}
 use Rattle.em_syntax.proofs.Parted.{piece_Bytes as scripts_Bytes, piece_Output as scripts_Output}

@@ -1,4 +1,4 @@
-use Rattle.std.proofs.Common.{◌≡◌, ◌∙◌, ◌⊎◌, inl, inr, Bool, false, true, refl, sym, ap}
+use Rattle.std.proofs.Common.{◌≡◌, ◌∙◌, ◌⊎◌, inl, inr, Bool, refl, sym, ap}
 use Rattle.em_word.specs.Held.{plan_of, word_of, mode_of, IsCounted, staged, outside}
 use Rattle.em_word.specs.Talk.{and_then}
 use Rattle.em_word.specs.declared.expander.Expander.{Expander}

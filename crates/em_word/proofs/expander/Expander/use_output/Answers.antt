@@ -1,4 +1,4 @@
-use Rattle.std.proofs.Common.{◌≡◌, length, refl}
+use Rattle.std.proofs.Common.{length, refl}
 use Rattle.em_fields.specs.Parts.{marked, without_newlines}
 use Rattle.em_word.specs.Held.{word_of, mode_of, IsCounted}
 use Rattle.em_word.proofs.Holding.{marked_size}

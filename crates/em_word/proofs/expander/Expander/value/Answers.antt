@@ -1,4 +1,4 @@
-use Rattle.std.proofs.Common.{◌≡◌, ◌∙◌, List, ℕ, Option, Some, None, refl, sym, ap}
+use Rattle.std.proofs.Common.{◌≡◌, ◌∙◌, Option, Some, None, refl, sym, ap}
 use Rattle.std.specs.Option.{option_map, is_some}
 use Rattle.em_fields.specs.Forms.{form_of, early_value, late_value, told}
 use Rattle.em_syntax.specs.declared.tree.Word.{Word}
