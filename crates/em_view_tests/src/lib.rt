@@ -1,11 +1,7 @@
-//! The tests of desks, of what jobs have posted, and of the board with its front.
+//! The tests of desks.
 #![tactic(auto)]
 
 #[cfg(test)]
-mod chain;
-#[cfg(test)]
 mod common;
-#[cfg(test)]
-mod engine;
 #[cfg(test)]
 mod view;

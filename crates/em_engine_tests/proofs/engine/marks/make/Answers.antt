@@ -1,7 +1,7 @@
 use Rattle.std.proofs.Common.{refl}
 use Rattle.em_view.proofs.Doing.{then_s, leave_s, finish_s, owned_s, below_ok, below_err}
 use Rattle.em_run.specs.Examples.{mark, said, itself}
-use Rattle.em_view_tests.proofs.engine.marks.make.Goals as goal
+use Rattle.em_engine_tests.proofs.engine.marks.make.Goals as goal
 
 pub returns-in_err-kind : goal.returns-in_err-kind
 unfolding mark

@@ -1,7 +1,7 @@
 use Rattle.std.proofs.Common.{refl, ◌∙◌}
 use Rattle.em_run.specs.Examples.{end_of}
 use Rattle.em_run.proofs.Running.{valid, told}
-use Rattle.em_view_tests.proofs.engine.marks.MarkerWorkMark.run.Goals as goal
+use Rattle.em_engine_tests.proofs.engine.marks.MarkerWorkMark.run.Goals as goal
 
 pub new-run-requires : goal.new-run-requires
 new-run-requires g c =

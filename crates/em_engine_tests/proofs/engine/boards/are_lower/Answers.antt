@@ -1,7 +1,7 @@
 use Rattle.std.proofs.Common.{◌<◌, ℕ, List, [], All, arith, sym, subst, get_or, inl, inr}
 use Rattle.std.proofs.lemmas.Bool.{cases_lt}
 use Rattle.std.proofs.lemmas.List.{get_or_past}
-use Rattle.em_view_tests.proofs.engine.boards.are_lower.Goals as goal
+use Rattle.em_engine_tests.proofs.engine.boards.are_lower.Goals as goal
 
 pub returns : goal.returns
 returns c = λ _ j.

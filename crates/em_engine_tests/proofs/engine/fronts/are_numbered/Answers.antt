@@ -2,8 +2,8 @@ use Rattle.std.proofs.Common.{◌≡◌, arith, sym, subst, slice_get, inl, inr,
 use Rattle.std.specs.Prelude.{IfSome}
 use Rattle.std.proofs.lemmas.Bool.{cases_lt}
 use Rattle.std.proofs.lemmas.Option.{slice_get_past}
-use Rattle.em_view_tests.specs.declared.engine.marks.Mark.{Mark}
-use Rattle.em_view_tests.proofs.engine.fronts.are_numbered.Goals as goal
+use Rattle.em_engine_tests.specs.declared.engine.marks.Mark.{Mark}
+use Rattle.em_engine_tests.proofs.engine.fronts.are_numbered.Goals as goal
 
 pub returns : goal.returns
 returns c = λ _ k.
