@@ -1,9 +1,9 @@
 //! Expansions over a small tree, with a few variables. What is expected is a text: the result, or a refusal between `!` and its
 //! name. Values are GNU make's.
-use crate::trees::{put_all, put_part, state};
 use em_base::{Fuel, NoMemory, Place, Text};
 use em_expand::{ExpandNo, Spoken, expand};
 use em_path::Path;
+use em_states::{put_all, put_part, state};
 use em_tree::State;
 use em_vars::{Flavour, Origin, Var, Vars};
 use em_view::{Desk, PlainView, View};

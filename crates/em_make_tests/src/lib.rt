@@ -1,8 +1,6 @@
-//! Tests of command lines, of expansion, of functions on names, of pathnames and of recipes.
+//! Tests of expansion, of functions on names, of pathnames and of recipes.
 #![tactic(auto)]
 
-#[cfg(test)]
-mod cmdline;
 #[cfg(test)]
 mod expand;
 #[cfg(test)]
@@ -12,4 +10,4 @@ mod pathname;
 #[cfg(test)]
 mod recipe;
 #[cfg(test)]
-mod trees;
+mod usage;

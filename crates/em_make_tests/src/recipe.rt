@@ -1,4 +1,3 @@
-use crate::trees::{put_all, put_part};
 use em_base::{Construct, NoMemory, Place, Seq, Text};
 use em_expand::ExpandNo;
 use em_plan::{PlanJob, Pre};
@@ -6,6 +5,7 @@ use em_recipe::{
     Marks, bare, commands, fault_text, marks_of, put_deleted, put_failed, put_halted, put_ignored,
     put_no_rule, put_refused, put_spent, put_spent_early, with_automatic,
 };
+use em_states::{put_all, put_part};
 use em_vars::{Flavour, Origin, Var, Vars};
 use std::alloc::Global;
 use std::test::Fail;

@@ -1,4 +1,4 @@
-//! Tests of the rules of makefiles, of statements, of implicit rules and of the plan.
+//! Tests of the rules of makefiles, of implicit rules and of the plan.
 #![tactic(auto)]
 
 #[cfg(test)]
@@ -7,7 +7,5 @@ mod implicit;
 mod plan;
 #[cfg(test)]
 mod rules;
-#[cfg(test)]
-mod statement;
 #[cfg(test)]
 mod written;

@@ -4,9 +4,10 @@
 //! follows isn't run: `E` for `exit`, `B` for `break` and `C` for `continue`. A command without an
 //! end has `!` and what is refused, or `$` for spent fuel. A command in capitals makes a call that
 //! em_exec makes.
-use crate::trees::{self, put_all, state, states};
+use crate::shells;
 use em_base::{Construct, Fuel, NoMemory, Seq, Text};
 use em_command::{Flow, Here, Jump, Streams, deliver, hand, perform, redirect};
+use em_states::{put_all, state, states};
 use em_syntax::RedirectKind;
 use em_tree::{Body, State};
 use em_utility::Reason;
@@ -331,7 +332,7 @@ fn show(ended: &Result<(), Jump>, here: &Here, log: &mut Text) {
 
 /// A shell in the root that has written nothing.
 fn shell(alloc: Global) -> Result<Here, NoMemory> {
-    let shell = trees::shell(Vars::new(alloc)?, 0);
+    let shell = shells::shell(Vars::new(alloc)?, 0);
     Ok(Here::new(alloc, shell))
 }
 

@@ -1,13 +1,9 @@
-//! The tests of the shell's words, of its simple commands, of a whole line, and of a job.
+//! The tests of the shell's words and of its simple commands.
 #![tactic(auto)]
 
 #[cfg(test)]
 mod command;
 #[cfg(test)]
-mod job;
-#[cfg(test)]
-mod script;
-#[cfg(test)]
-mod trees;
+mod shells;
 #[cfg(test)]
 mod word;

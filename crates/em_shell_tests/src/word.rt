@@ -3,9 +3,10 @@
 ghost use Rattle.std.specs.Prelude.{◌≡◌, true, IfOk};
 ghost use Rattle.em_word.specs.Held.{IsReady};
 
-use crate::trees::{self, put_all, put_part, state, states};
+use crate::shells;
 use em_base::{Fuel, NoMemory, Seq, Text};
 use em_glob::Glyph;
+use em_states::{put_all, put_part, state, states};
 use em_syntax::{Script, Value, Word, WordPiece, WordWhat};
 use em_tree::{Entry, Question, State};
 use em_vars::{Flavour, Origin, Var, Vars};
@@ -112,7 +113,7 @@ fn shell(alloc: Global, x: Option<&str>) -> Result<Shell, NoMemory> {
         Some(value) => variables(alloc, value)?,
         None => Vars::new(alloc)?,
     };
-    Ok(trees::shell(vars, 3))
+    Ok(shells::shell(vars, 3))
 }
 
 fn say_names(text: &mut Text, names: &Seq<Text>) {

@@ -1,9 +1,10 @@
 //! What is said, kept, asked and paid. What is expected is the result, `|`, what was said, `|`, each text for `eval` with `;`, `|`,
 //! each question as a letter (K kind, N names) and its path, `|` and the units used.
 use super::{expand_on, set, show, variable, variables};
-use crate::trees::{put_all, show_usage, state, states};
+use crate::usage::show_usage;
 use em_base::{Fuel, NoMemory, Text};
 use em_expand::Spoken;
+use em_states::{put_all, state, states};
 use em_tree::State;
 use em_vars::{Flavour, Origin, Vars};
 use em_view::{Desk, PlainView, ScriptView, View};

@@ -1,6 +1,6 @@
 use super::{Row, compare, is_given, variables};
-use crate::trees::{put_all, state};
 use em_base::Text;
+use em_states::{put_all, state};
 use em_tree::State;
 use em_vars::Vars;
 use std::alloc::Global;

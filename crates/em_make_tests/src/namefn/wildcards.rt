@@ -1,9 +1,10 @@
 //! `wildcard` over small trees. What is expected is a text: the result, `|`, each question as a letter (K kind, N names) and its path,
 //! `|`, and the units used.
-use crate::trees::{put_all, show_usage, state, states};
+use crate::usage::show_usage;
 use em_base::{Fuel, Text};
 use em_namefn::wildcard;
 use em_path::Path;
+use em_states::{put_all, state, states};
 use em_tree::State;
 use em_view::{Desk, DeskNo, PlainView, ScriptView, View};
 use std::alloc::Global;

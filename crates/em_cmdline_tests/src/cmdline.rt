@@ -1,6 +1,6 @@
-use crate::trees::put_all;
 use em_base::Text;
 use em_cmdline::{HistoryMode, Order, WordNo, read_words};
+use em_states::put_all;
 use std::alloc::Global;
 use std::process::Abort;
 use std::test::Fail;

@@ -1,15 +1,13 @@
-//! Small trees, and shells that have done nothing.
+//! Small trees, written as words.
 ghost use Rattle.std.specs.Prelude.{◌≡◌, Some};
 ghost use Rattle.std.specs.FinMap as map;
 ghost use Rattle.em_path.specs.Paths.{IsPath, parent_text};
 ghost use Rattle.em_tree.specs.declared.node.Kind.TheVariants as kind;
 ghost use Rattle.em_tree.specs.Trees.{IsTree, kind_of};
 
-use em_base::{NoMemory, Text};
+use em_base::NoMemory;
 use em_path::Path;
 use em_tree::{Body, Kind, Node, Outcomes, State, Tree};
-use em_vars::Vars;
-use em_word::Shell;
 use std::alloc::Global;
 use std::test::Fail;
 
@@ -68,38 +66,17 @@ fn tree(alloc: Global, text: &str) -> Result<Tree, Fail> {
 
 /// A state of a text of words like `d/a` and `f/a/x`: d a directory, f an empty file, b one that holds `b` and a newline, then the
 /// path; the root is always there.
-pub(super) fn state(alloc: Global, text: &str) -> Result<State, Fail> {
+pub fn state(alloc: Global, text: &str) -> Result<State, Fail> {
     let tree = tree(alloc, text)?;
     let outcomes = Outcomes::new(alloc);
     Ok(State { tree, outcomes })
 }
 
 /// The states of these texts.
-pub(super) fn states(alloc: Global, texts: &[&str]) -> Result<Vec<State>, Fail> {
+pub fn states(alloc: Global, texts: &[&str]) -> Result<Vec<State>, Fail> {
     let mut states = Vec::new(alloc);
     for text in texts {
         states.push(state(alloc, text)?)?;
     }
     Ok(states)
-}
-
-/// Appends this. A part for which there is no memory is left out, and the text isn't what is expected.
-pub(super) fn put_part(to: &mut Text, part: &[u8]) {
-    let _ = to.add(part);
-}
-
-/// Appends these. A part for which there is no memory is left out, and the text isn't what is expected.
-pub(super) fn put_all(to: &mut Text, parts: &[&[u8]]) {
-    for part in parts {
-        let _ = to.add(part);
-    }
-}
-
-/// A shell in the root.
-pub(super) fn shell(vars: Vars, status: u8) -> Shell {
-    Shell {
-        vars,
-        cwd: Path::root(),
-        status,
-    }
 }

@@ -1,9 +1,11 @@
 //! What is expected is a text: what was written, then `|` and the status, or why there is none: `!` and a letter, `$` for spent fuel.
-use crate::trees::{put_all, shell, state};
 use em_base::{Construct, Fuel, Text};
+use em_path::Path;
 use em_script::Line;
+use em_states::{put_all, state};
 use em_vars::Vars;
 use em_view::{Desk, ExecNo, PlainView, View};
+use em_word::Shell;
 use std::alloc::Global;
 use std::test::Fail;
 use tables::{COSTS, LINES};
@@ -47,6 +49,15 @@ fn say_end(alloc: Global, out: &mut Text, end: &Result<u8, ExecNo>) -> Result<()
     }
 }
 
+/// A shell in the root that has done nothing.
+fn shell(alloc: Global) -> Result<Shell, Fail> {
+    Ok(Shell {
+        vars: Vars::new(alloc)?,
+        cwd: Path::root(),
+        status: 0,
+    })
+}
+
 /// Runs a line over a desk.
 fn run<V: View>(
     alloc: Global,
@@ -54,7 +65,7 @@ fn run<V: View>(
     desk: &mut Desk<V>,
     out: &mut Text,
 ) -> Result<(), Fail> {
-    let mut shell = shell(Vars::new(alloc)?, 0);
+    let mut shell = shell(alloc)?;
     let end = line.run(alloc, &mut shell, desk, out);
     say_end(alloc, out, &end)
 }

@@ -1,0 +1,5 @@
+//! Tests of statements.
+#![tactic(auto)]
+
+#[cfg(test)]
+mod statement;

@@ -1,0 +1,8 @@
+//! What the tests of makefiles, of recipes and of the shell share: states over small trees, and texts of what was found.
+#![tactic(auto)]
+
+mod texts;
+mod trees;
+
+pub use texts::{put_all, put_part};
+pub use trees::{state, states};
