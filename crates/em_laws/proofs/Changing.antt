@@ -33,15 +33,15 @@ module _ (d : Changes) (t : Table) where
   elsewhere : (p : List ℕ) (c : Option Node) (q : List ℕ) → q ≢ p → get (laid_over (insert d p c) t) q ≡ get before q
   elsewhere p c q h = ap (λ (u : Table). get u q) (laid_insert d t p c) ∙ changed-other before p c q (by_cases (eq_by_cmp order q p) (λ b. b ≡ false) (λ is. absurd (h (same_key q p is))) (λ _. refl))
 
-same_key_or : (q p : List ℕ) (P : Type 0) → (q ≡ p → P) → ((q ≡ p → ⊥) → P) → P
+pub same_key_or : (q p : List ℕ) (P : Type 0) → (q ≡ p → P) → ((q ≡ p → ⊥) → P) → P
 same_key_or q p P equal other = by_cases (eq_by_cmp order q p) (λ b. eq_by_cmp order q p ≡ b → P) (λ _ is. equal (same_key q p is)) (λ _ isnt. other (λ e. (let t : eq_by_cmp order q p ≡ true = ap (λ (x : List ℕ). eq_by_cmp order x p) e ∙ own_key p in cc))) refl
 
-dir_alike : (a : Option Node) (n : ℕ) → kind_of a ≡ kind.Dir → AreAlike a (Some (Dir n))
+pub dir_alike : (a : Option Node) (n : ℕ) → kind_of a ≡ kind.Dir → AreAlike a (Some (Dir n))
 dir_alike None n e = absurd cc
 dir_alike (Some (File body stamp)) n e = absurd cc
 dir_alike (Some (Dir stamp)) n e = (refl, refl)
 
-alike_by : (a b : Option Node) → b ≡ a → AreAlike a b
+pub alike_by : (a b : Option Node) → b ≡ a → AreAlike a b
 alike_by a b e = (ap kind_of (sym e), ap content_of (sym e))
 
 -- the directory that is stamped, where one is, stands above, and is one
@@ -77,31 +77,31 @@ module _ (s : State) (d : Changes) where
   on_further (Ok a) w P k R h g b e = let f = h a refl in g a f.0 w f.1 b e
   on_further (Err x) w P k R h g b e = absurd cc
 
-  leaves_then : {A B : Type 0} (m : Action DeskNo A) (P : A → Type 0) (k : A → Action DeskNo B) (R : Changes → Type 0) → Gives s d m P → ((a : A) → P a → Leaves (k a) R) → Leaves (m >>= k) R
+  pub leaves_then : {A B : Type 0} (m : Action DeskNo A) (P : A → Type 0) (k : A → Action DeskNo B) (R : Changes → Type 0) → Gives s d m P → ((a : A) → P a → Leaves (k a) R) → Leaves (m >>= k) R
   unfolding ◌>>=◌
   leaves_then m P k R h g w same b e = on_further (m (snapshot s) w).0 (m (snapshot s) w).1 P k R (λ a is. h w same a is) g b e
 
-  gives_ready : Gives s d ready (λ _. Unit {0})
+  pub gives_ready : Gives s d ready (λ _. Unit {0})
   unfolding ready
   gives_ready w same a e = (tt, same)
 
-  gives_number : Gives s d number (λ _. Unit {0})
+  pub gives_number : Gives s d number (λ _. Unit {0})
   unfolding number
   gives_number w same a e = (tt, same)
 
-  gives_pay : (n : ℕ) → Gives s d (pay n) (λ _. Unit {0})
+  pub gives_pay : (n : ℕ) → Gives s d (pay n) (λ _. Unit {0})
   unfolding pay
   gives_pay n = gives_then s d (spend 1) (λ _. Unit {0}) (λ u. spend n) (λ _. Unit {0}) (gives_spend s d 1) (λ _ _. gives_spend s d n)
 
-  gives_refuse : (f : Option FileNo) → Gives s d (refuse f) (λ _. f ≡ None)
+  pub gives_refuse : (f : Option FileNo) → Gives s d (refuse f) (λ _. f ≡ None)
   unfolding fail
   gives_refuse None = gives_done s d (λ _. None ≡ None) tt refl
   gives_refuse (Some f) = λ w same a e. absurd cc
 
-  abbrev Spot : Type 0
+  abbrev pub Spot : Type 0
   Spot = Kind × Option Kind
 
-  abbrev spot : List ℕ → Spot
+  abbrev pub spot : List ℕ → Spot
   spot p = (kind_there s d p, option_map (kind_there s d) (parent_text p))
 
   gives_look_by : (p : List ℕ) (o : Option (List ℕ)) (k : Kind) → k ≡ kind_there s d p → Gives s d (look_by o k) (λ z. z ≡ (kind_there s d p, option_map (kind_there s d) o))
@@ -109,17 +109,17 @@ module _ (s : State) (d : Changes) where
   gives_look_by p (Some q) k e = gives_then s d (kind_below q) (λ x. x ≡ kind_there s d q) (λ x. done (k, Some x)) (λ (z : Spot). z ≡ (kind_there s d p, Some (kind_there s d q))) (gives_kind_below s d q) (λ x is.
       gives_done s d (λ (z : Spot). z ≡ (kind_there s d p, Some (kind_there s d q))) (k, Some x) (ap (λ (y : Kind). (let z : Spot = (y, Some x) in z)) e ∙ ap (λ (y : Kind). (let z : Spot = (kind_there s d p, Some y) in z)) is))
 
-  gives_look : (p : List ℕ) → Gives s d (look p) (λ z. z ≡ spot p)
+  pub gives_look : (p : List ℕ) → Gives s d (look p) (λ z. z ≡ spot p)
   unfolding look
   gives_look p = gives_then s d (kind_below p) (λ k. k ≡ kind_there s d p) (λ k. look_by (parent_text p) k) (λ z. z ≡ spot p) (gives_kind_below s d p) (λ k is. gives_look_by p (parent_text p) k is)
 
-  leaves_change : (p : List ℕ) (c : Option Node) (above : Option (List ℕ)) → Leaves (change p c above) (λ x. (n : ℕ) × (x ≡ becomes p c above n d))
+  pub leaves_change : (p : List ℕ) (c : Option Node) (above : Option (List ℕ)) → Leaves (change p c above) (λ x. (n : ℕ) × (x ≡ becomes p c above n d))
   unfolding change
   leaves_change p c above w same a e = (change_number w.base w.job (w.count + 1), ap (becomes p c above (change_number w.base w.job (w.count + 1))) same)
 
   -- ---- put and place
 
-  no_dir : (k : Kind) (o : Option Kind) (n : ℕ) → put_refusal k o n ≡ None → (k ≢ kind.Dir) × ((a : Kind) → o ≡ Some a → a ≡ kind.Dir)
+  pub no_dir : (k : Kind) (o : Option Kind) (n : ℕ) → put_refusal k o n ≡ None → (k ≢ kind.Dir) × ((a : Kind) → o ≡ Some a → a ≡ kind.Dir)
   no_dir k None n e = absurd cc
   no_dir kind.Dir (Some a) n e = absurd cc
   no_dir kind.Absent (Some kind.Absent) n e = absurd cc
@@ -133,7 +133,7 @@ module _ (s : State) (d : Changes) where
   Fresh p P x = (node : Node) × P node × ((above : Option (List ℕ)) × (n : ℕ) × (x ≡ becomes p (Some node) above n d) × ((above ≡ None) ⊎ (above ≡ parent_text p)))
       × ((size : ℕ) × (put_refusal (kind_there s d p) (option_map (kind_there s d) (parent_text p)) size ≡ None))
 
-  stamped_by : (k : Kind) (p : List ℕ) → (stamped k (parent_text p) ≡ None) ⊎ (stamped k (parent_text p) ≡ parent_text p)
+  pub stamped_by : (k : Kind) (p : List ℕ) → (stamped k (parent_text p) ≡ None) ⊎ (stamped k (parent_text p) ≡ parent_text p)
   stamped_by kind.Absent p = inr refl
   stamped_by kind.File p = inl refl
   stamped_by kind.Dir p = inl refl
@@ -177,7 +177,7 @@ module _ (s : State) (d : Changes) where
     pub now : get (laid_over x s.tree) p ≡ c
     pub others : OthersStay p tree (laid_over x s.tree)
 
-  effect : (p : List ℕ) (c : Option Node) (above : Option (List ℕ)) (n : ℕ) (x : Changes) → x ≡ becomes p c above n d → IsAbove tree p above → Effect p c x
+  pub effect : (p : List ℕ) (c : Option Node) (above : Option (List ℕ)) (n : ℕ) (x : Changes) → x ≡ becomes p c above n d → IsAbove tree p above → Effect p c x
   effect p c above n x is up = subst (Effect p c) (sym is) (record { now = becomes_here s.tree d p c above n (above_up p above up); others = becomes_others s.tree d p c above n up })
 
   pub fresh_effect : (p : List ℕ) (P : Node → Type 0) (x : Changes) → Fresh p P x → (node : Node) × P node × Effect p (Some node) x × (kind_there s d p ≢ kind.Dir)
@@ -187,10 +187,10 @@ module _ (s : State) (d : Changes) where
 
   -- ---- make_dir
 
-  abbrev Made : List ℕ → Changes → Type 0
+  abbrev pub Made : List ℕ → Changes → Type 0
   Made p x = (n : ℕ) × (m : ℕ) × (x ≡ becomes p (Some (Dir m)) (parent_text p) n d) × (dir_refusal (kind_there s d p) (option_map (kind_there s d) (parent_text p)) ≡ None)
 
-  leaves_make : (p : List ℕ) → Leaves (make_dir p) (Made p)
+  pub leaves_make : (p : List ℕ) → Leaves (make_dir p) (Made p)
   unfolding make_dir
   leaves_make p =
       leaves_then ready (λ _. Unit {0}) (λ r. look p >>= (λ z. refuse (dir_refusal z.0 z.1) >>= (λ f. pay 0 >>= (λ u. number >>= (λ n. change p (Some (Dir n)) (parent_text p)))))) (Made p) gives_ready (λ _ _.
@@ -201,7 +201,7 @@ module _ (s : State) (d : Changes) where
       let c = leaves_change p (Some (Dir n)) (parent_text p) w same a e in
       (c.0, n, c.1, subst (λ (y : Spot). dir_refusal y.0 y.1 ≡ None) at free))))))
 
-  was_absent : (k : Kind) (o : Option Kind) → dir_refusal k o ≡ None → (k ≡ kind.Absent) × ((a : Kind) → o ≡ Some a → a ≡ kind.Dir)
+  pub was_absent : (k : Kind) (o : Option Kind) → dir_refusal k o ≡ None → (k ≡ kind.Absent) × ((a : Kind) → o ≡ Some a → a ≡ kind.Dir)
   was_absent kind.File o e = absurd cc
   was_absent kind.Dir o e = absurd cc
   was_absent kind.Absent None e = absurd cc
@@ -209,7 +209,7 @@ module _ (s : State) (d : Changes) where
   was_absent kind.Absent (Some kind.File) e = absurd cc
   was_absent kind.Absent (Some kind.Dir) e = (refl, λ a h. (let same : kind.Dir ≡ a = cc in sym same))
 
-  made_effect : (p : List ℕ) (x : Changes) → Made p x → (m : ℕ) × Effect p (Some (Dir m)) x × (kind_there s d p ≡ kind.Absent)
+  pub made_effect : (p : List ℕ) (x : Changes) → Made p x → (m : ℕ) × Effect p (Some (Dir m)) x × (kind_there s d p ≡ kind.Absent)
   made_effect p x (n, m, is, free) =
       let k = was_absent (kind_there s d p) (option_map (kind_there s d) (parent_text p)) free in
       (m, effect p (Some (Dir m)) (parent_text p) n x is (is_above p (parent_text p) (parent_text p) refl k.1 (inr refl)), k.0)
@@ -219,7 +219,7 @@ module _ (s : State) (d : Changes) where
   abbrev pub Taken : List ℕ → List ℕ → Changes → Type 0
   Taken p above x = (n : ℕ) × (x ≡ becomes p None (Some above) n d)
 
-  leaves_take : (p above : List ℕ) → Leaves (take_away p above) (Taken p above)
+  pub leaves_take : (p above : List ℕ) → Leaves (take_away p above) (Taken p above)
   unfolding take_away
   leaves_take p above = leaves_then (pay 0) (λ _. Unit {0}) (λ u. change p None (Some above)) (Taken p above) (gives_pay 0) (λ _ _. leaves_change p None (Some above))
 
@@ -244,7 +244,7 @@ module _ (s : State) (d : Changes) where
   unfolding remove
   leaves_remove p = leaves_then ready (λ _. Unit {0}) (λ r. remove_under (parent_text p) p) (Removed p) gives_ready (λ _ _. leaves_under p (parent_text p) refl)
 
-  some_there : (a : Option Node) → kind_of a ≢ kind.Absent → IsSome a
+  pub some_there : (a : Option Node) → kind_of a ≢ kind.Absent → IsSome a
   some_there None h = absurd (h refl)
   some_there (Some n) h = refl
 
@@ -252,7 +252,7 @@ module _ (s : State) (d : Changes) where
   removed_gone p x (above, up, (n, is), there) =
       (ap (λ (y : Changes). get (laid_over y s.tree) p) is ∙ becomes_here s.tree d p None (Some above) n (λ q e. up ∙ e), there)
 
-  removed_others : (p : List ℕ) (x : Changes) → IsTree tree → Removed p x → OthersStay p tree (laid_over x s.tree)
+  pub removed_others : (p : List ℕ) (x : Changes) → IsTree tree → Removed p x → OthersStay p tree (laid_over x s.tree)
   removed_others p x whole (above, up, (n, is), there) =
       subst (λ (y : Changes). OthersStay p tree (laid_over y s.tree)) (sym is) (becomes_others s.tree d p None (Some above) n (up, whole.parents p above (some_there (get tree p) there) up))
 

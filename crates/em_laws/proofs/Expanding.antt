@@ -91,7 +91,7 @@ module _ (s : State) (d : Changes) where
       let own = own_names (get w.changes p) p w same ns e in
       (own.0 ∙ ap (λ (c : Changes). names_by (get c p) s d p) same, own.1)
 
-  gives_names : (p : List ℕ) → Gives (names p) (λ ns. ns ≡ names_seen s d p)
+  pub gives_names : (p : List ℕ) → Gives (names p) (λ ns. ns ≡ names_seen s d p)
   unfolding names
   gives_names p =
       gives_then (spend 1) (λ _. Unit {0}) (λ u. names_below p >>= (λ ns. spend (blocks (names_size ns)) >>= (λ v. done ns))) (λ ns. ns ≡ names_seen s d p) (gives_spend 1) (λ _ _.

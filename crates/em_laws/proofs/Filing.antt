@@ -41,10 +41,10 @@ module _ (s : State) (d : Changes) where
   stamp_seen w p None n e = (ap (λ (x : Option Node). let r : Result (Option ℕ) DeskNo = Ok (stamp_of x) in r) e, refl)
   stamp_seen w p (Some c) n e = (ap (λ (x : Option Node). let r : Result (Option ℕ) DeskNo = Ok (stamp_of x) in r) e, refl)
 
-  abbrev node_there : List ℕ → Option Node
+  abbrev pub node_there : List ℕ → Option Node
   node_there p = get (laid_over d s.tree) p
 
-  gives_content_below : (p : List ℕ) → Gives s d (content_below p) (λ b. b ≡ content_of (node_there p))
+  pub gives_content_below : (p : List ℕ) → Gives s d (content_below p) (λ b. b ≡ content_of (node_there p))
   unfolding content_below mine ◌>>=◌
   gives_content_below p w same b e =
       let seen = content_seen w p (get w.changes p) (get (laid_over w.changes s.tree) p) (sym (get-laid_over w.changes s.tree p)) in
@@ -58,32 +58,32 @@ module _ (s : State) (d : Changes) where
       let is : b ≡ stamp_of (get (laid_over w.changes s.tree) p) = (let f : ◌≡◌ {A = Result (Option ℕ) DeskNo} (Ok b) (Ok (stamp_of (get (laid_over w.changes s.tree) p))) = sym e ∙ seen.0 in cc) in
       (is ∙ ap (λ (c : Changes). stamp_of (get (laid_over c s.tree) p)) same, seen.1 ∙ same)
 
-  gives_content : (p : List ℕ) → Gives s d (content p) (λ b. b ≡ content_of (node_there p))
+  pub gives_content : (p : List ℕ) → Gives s d (content p) (λ b. b ≡ content_of (node_there p))
   unfolding content
   gives_content p =
       gives_then s d (spend 1) (λ _. Unit {0}) (λ u. content_below p >>= (λ body. spend (blocks (size_of body)) >>= (λ v. done body))) (λ b. b ≡ content_of (node_there p)) (gives_spend s d 1) (λ _ _.
       gives_then s d (content_below p) (λ b. b ≡ content_of (node_there p)) (λ body. spend (blocks (size_of body)) >>= (λ v. done body)) (λ b. b ≡ content_of (node_there p)) (gives_content_below p) (λ body is.
       gives_then s d (spend (blocks (size_of body))) (λ _. Unit {0}) (λ v. done body) (λ b. b ≡ content_of (node_there p)) (gives_spend s d (blocks (size_of body))) (λ _ _. gives_done s d (λ b. b ≡ content_of (node_there p)) body is)))
 
-  gives_stamp : (p : List ℕ) → Gives s d (stamp_at p) (λ b. b ≡ stamp_of (node_there p))
+  pub gives_stamp : (p : List ℕ) → Gives s d (stamp_at p) (λ b. b ≡ stamp_of (node_there p))
   unfolding stamp_at
   gives_stamp p = gives_then s d (spend 1) (λ _. Unit {0}) (λ u. stamp_below p) (λ b. b ≡ stamp_of (node_there p)) (gives_spend s d 1) (λ _ _. gives_stamp_below p)
 
 -- ---- steps
 
 module _ (s : State) where
-  abbrev GivesS : {A : Type 0} → Changes → Steps Done OperandNo A → (A → Type 0) → Type 0
+  abbrev pub GivesS : {A : Type 0} → Changes → Steps Done OperandNo A → (A → Type 0) → Type 0
   GivesS {A} d m P = (x : Done) (w : Workspace) → w.changes ≡ d → (r : A × Done) → (m x (snapshot s) w).0 ≡ Ok r → P r.0 × ((m x (snapshot s) w).1.changes ≡ d)
 
-  abbrev LeavesS : {A : Type 0} → Changes → Steps Done OperandNo A → (Changes → Type 0) → Type 0
+  abbrev pub LeavesS : {A : Type 0} → Changes → Steps Done OperandNo A → (Changes → Type 0) → Type 0
   LeavesS {A} d m R = (x : Done) (w : Workspace) → w.changes ≡ d → (r : A × Done) → (m x (snapshot s) w).0 ≡ Ok r → R (m x (snapshot s) w).1.changes
 
-  step_on : {A B : Type 0} (d : Changes) (r : Result (A × Done) (OperandNo × Done)) (w : Workspace) (P : A → Type 0) (k : A → Steps Done OperandNo B) (R : Changes → Type 0) → ((z : A × Done) → r ≡ Ok z → P z.0 × (w.changes ≡ d)) → ((a : A) → P a → LeavesS d (k a) R) →
+  pub step_on : {A B : Type 0} (d : Changes) (r : Result (A × Done) (OperandNo × Done)) (w : Workspace) (P : A → Type 0) (k : A → Steps Done OperandNo B) (R : Changes → Type 0) → ((z : A × Done) → r ≡ Ok z → P z.0 × (w.changes ≡ d)) → ((a : A) → P a → LeavesS d (k a) R) →
       (b : B × Done) → (go_on r w (λ z. k z.0 z.1) (snapshot s)).0 ≡ Ok b → R (go_on r w (λ z. k z.0 z.1) (snapshot s)).1.changes
   step_on d (Ok z) w P k R h g b e = let f = h z refl in g z.0 f.0 z.1 w f.1 b e
   step_on d (Err x) w P k R h g b e = absurd cc
 
-  then_s : {A B : Type 0} (d : Changes) (m : Steps Done OperandNo A) (P : A → Type 0) (k : A → Steps Done OperandNo B) (R : Changes → Type 0) → GivesS d m P → ((a : A) → P a → LeavesS d (k a) R) → LeavesS d (and_then m k) R
+  pub then_s : {A B : Type 0} (d : Changes) (m : Steps Done OperandNo A) (P : A → Type 0) (k : A → Steps Done OperandNo B) (R : Changes → Type 0) → GivesS d m P → ((a : A) → P a → LeavesS d (k a) R) → LeavesS d (and_then m k) R
   unfolding and_then ◌>>=◌
   then_s d m P k R h g x w same b e = step_on d (m x (snapshot s) w).0 (m x (snapshot s) w).1 P k R (λ z is. h x w same z is) g b e
 
@@ -92,41 +92,41 @@ module _ (s : State) where
   seq_on (Ok z) w Q k R h g b e = g z.0 w.changes (h z refl) z.1 w refl b e
   seq_on (Err x) w Q k R h g b e = absurd cc
 
-  seq_s : {A B : Type 0} (d : Changes) (m : Steps Done OperandNo A) (Q : Changes → Type 0) (k : A → Steps Done OperandNo B) (R : Changes → Type 0) → LeavesS d m Q → ((a : A) (c : Changes) → Q c → LeavesS c (k a) R) → LeavesS d (and_then m k) R
+  pub seq_s : {A B : Type 0} (d : Changes) (m : Steps Done OperandNo A) (Q : Changes → Type 0) (k : A → Steps Done OperandNo B) (R : Changes → Type 0) → LeavesS d m Q → ((a : A) (c : Changes) → Q c → LeavesS c (k a) R) → LeavesS d (and_then m k) R
   unfolding and_then ◌>>=◌
   seq_s d m Q k R h g x w same b e = seq_on (m x (snapshot s) w).0 (m x (snapshot s) w).1 Q k R (λ z is. h x w same z is) g b e
 
-  any_s : {A B : Type 0} (d : Changes) (m : Steps Done OperandNo A) (k : A → Steps Done OperandNo B) (R : Changes → Type 0) → ((a : A) (c : Changes) → LeavesS c (k a) R) → LeavesS d (and_then m k) R
+  pub any_s : {A B : Type 0} (d : Changes) (m : Steps Done OperandNo A) (k : A → Steps Done OperandNo B) (R : Changes → Type 0) → ((a : A) (c : Changes) → LeavesS c (k a) R) → LeavesS d (and_then m k) R
   any_s d m k R g = seq_s d m (λ _. Unit {0}) k R (λ x w same r e. tt) (λ a c _. g a c)
 
-  told_ok : {A : Type 0} (f : DeskNo → OperandNo) (x : Done) (q : Result A DeskNo) (r : A × Done) → with_state (renamed f q) x ≡ Ok r → q ≡ Ok r.0
+  pub told_ok : {A : Type 0} (f : DeskNo → OperandNo) (x : Done) (q : Result A DeskNo) (r : A × Done) → with_state (renamed f q) x ≡ Ok r → q ≡ Ok r.0
   told_ok {A} f x (Ok a) r e = let same : ◌≡◌ {A = A × Done} (a, x) r = cc in ap (λ (z : A × Done). (let q : Result A DeskNo = Ok z.0 in q)) same
   told_ok f x (Err y) r e = absurd cc
 
-  at_gives : {A : Type 0} (d : Changes) (name : List ℕ) (m : Action DeskNo A) (P : A → Type 0) → Gives s d m P → GivesS d (at name m) P
+  pub at_gives : {A : Type 0} (d : Changes) (name : List ℕ) (m : Action DeskNo A) (P : A → Type 0) → Gives s d m P → GivesS d (at name m) P
   unfolding at below
   at_gives d name m P h x w same r e = h w same r.0 (told_ok (refused name) x (m (snapshot s) w).0 r e)
 
-  at_leaves : {A : Type 0} (d : Changes) (name : List ℕ) (m : Action DeskNo A) (R : Changes → Type 0) → Leaves s d m R → LeavesS d (at name m) R
+  pub at_leaves : {A : Type 0} (d : Changes) (name : List ℕ) (m : Action DeskNo A) (R : Changes → Type 0) → Leaves s d m R → LeavesS d (at name m) R
   unfolding at below
   at_leaves d name m R h x w same r e = h w same r.0 (told_ok (refused name) x (m (snapshot s) w).0 r e)
 
 -- the types of operands, and of how things are removed
-abbrev DomainOf : {X Y : Type 0} → (X → Y) → Type 0
+abbrev pub DomainOf : {X Y : Type 0} → (X → Y) → Type 0
 DomainOf {X} f = X
 
-abbrev Operand : Type 0
+abbrev pub Operand : Type 0
 Operand = DomainOf copy_file
 
 abbrev Removal : Type 0
 Removal = DomainOf remove_beneath
 
-there_ok : {A : Type 0} (o : Operand) (x : Done) (q : Result (Option A) DeskNo) (r : A × Done) → with_state (there_by o q) x ≡ Ok r → q ≡ Ok (Some r.0)
+pub there_ok : {A : Type 0} (o : Operand) (x : Done) (q : Result (Option A) DeskNo) (r : A × Done) → with_state (there_by o q) x ≡ Ok r → q ≡ Ok (Some r.0)
 there_ok {A} o x (Ok (Some a)) r e = let same : ◌≡◌ {A = A × Done} (a, x) r = cc in ap (λ (z : A × Done). (let q : Result (Option A) DeskNo = Ok (Some z.0) in q)) same
 there_ok o x (Ok None) r e = absurd cc
 there_ok o x (Err y) r e = absurd cc
 
-there_gives : {A : Type 0} (s : State) (d : Changes) (o : Operand) (m : Action DeskNo (Option A)) (P : Option A → Type 0) → Gives s d m P → GivesS s d (there o m) (λ a. P (Some a))
+pub there_gives : {A : Type 0} (s : State) (d : Changes) (o : Operand) (m : Action DeskNo (Option A)) (P : Option A → Type 0) → Gives s d m P → GivesS s d (there o m) (λ a. P (Some a))
 unfolding there
 there_gives s d o m P h x w same r e = h w same (Some r.0) (there_ok o x (m (snapshot s) w).0 r e)
 
@@ -169,13 +169,13 @@ module _ (s : State) where
 
   -- ---- cp
 
-  abbrev HasBytes : List ℕ → Node → Type 0
+  abbrev pub HasBytes : List ℕ → Node → Type 0
   HasBytes bytes node = content_of (Some node) ≡ Some bytes
 
-  abbrev Copied : Changes → List ℕ → List ℕ → Changes → Type 0
+  abbrev pub Copied : Changes → List ℕ → List ℕ → Changes → Type 0
   Copied d p q x = (bytes : List ℕ) × (content_of (node_there s d p) ≡ Some bytes) × Fresh s d q (HasBytes bytes) x
 
-  copies : (d : Changes) (a b : Operand) → LeavesS s d (copy_file a b) (Copied d a.path b.path)
+  pub copies : (d : Changes) (a b : Operand) → LeavesS s d (copy_file a b) (Copied d a.path b.path)
   unfolding copy_file
   copies d a b = then_s s d (there a (content a.path)) (λ bytes. Some bytes ≡ content_of (node_there s d a.path)) (λ bytes. at b.name (put b.path bytes)) (Copied d a.path b.path)
       (there_gives s d a (content a.path) (λ o. o ≡ content_of (node_there s d a.path)) (gives_content s d a.path)) (λ bytes is x w same r e.
@@ -238,7 +238,7 @@ module _ (s : State) where
 
 -- ---- the laws
 
-abbrev operand : List ℕ → List ℕ → Operand
+abbrev pub operand : List ℕ → List ℕ → Operand
 operand name p = record { name = name; path = p }
 
 abbrev removal : Bool → Bool → Removal

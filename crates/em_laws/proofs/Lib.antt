@@ -9,3 +9,10 @@ mod Expanding
 mod Changing
 mod Filing
 mod Shortening
+mod Printing
+mod Testing
+mod Making
+mod Listing
+mod Copying
+mod Ending
+mod Commanding

@@ -2,6 +2,8 @@ pub mod Patterns
 pub mod References
 pub mod Expansions
 pub mod Rows
+pub mod Printed
+pub mod Tested
 pub mod Joined
 pub mod Expanded
 pub mod Nodes

@@ -3,6 +3,9 @@ use Rattle.std.specs.Prelude.{◌≡◌, ◌≢◌, ◌<◌, All, ℕ, Bool, tru
 use Rattle.std.specs.List.{flat_map}
 use Rattle.em_lineutil.specs.declared.search.Search.{Search}
 use Rattle.em_lineutil.specs.declared.sort.Order.{Order}
+use Rattle.em_view.specs.declared.done.Piece.{Piece}
+use Rattle.em_textutil.specs.declared.source.Source.{Source}
+use Rattle.em_textutil.specs.declared.source.Found.TheVariants.{Bytes}
 use Rattle.em_laws.specs.References.{HasNo}
 
 abbrev pub ended : List ℕ → List ℕ
@@ -41,3 +44,12 @@ Turned false P = P
 
 abbrev pub IsWanted : Search → List ℕ → List ℕ → Type 0
 IsWanted s p row = Turned s.inverted (Fits s.whole p row)
+
+-- ---- files that were read, each with its name
+
+abbrev pub read_as : List ℕ × List ℕ → Source
+read_as file = record { name = file.0; found = Bytes file.1 }
+
+-- what is written at once to the output
+abbrev pub on_output : List ℕ → Piece
+on_output text = record { stream = 1; text = text }

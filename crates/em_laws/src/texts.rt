@@ -35,6 +35,10 @@ ghost use Rattle.em_lineutil.specs.Lines.{head, tail, line_count, word_count, co
 ghost use Rattle.em_lineutil.specs.Sorting.{sort_text};
 ghost use Rattle.em_lineutil.specs.Runs.{uniq_text, in_seven};
 ghost use Rattle.em_lineutil.specs.Searching.{selected, comparison};
+ghost use Rattle.em_textutil.specs.declared.job.Grep.{Grep};
+ghost use Rattle.em_textutil.specs.declared.source.Source.{Source};
+ghost use Rattle.em_textutil.specs.declared.source.Found.TheVariants.{No};
+ghost use Rattle.em_textutil.specs.Jobs.{grep_done};
 ghost use Rattle.em_laws.specs.References.{HasNo, how_many};
 ghost use Rattle.em_laws.specs.Expansions.{IsSpace};
 ghost use Rattle.em_laws.specs.Rows.{
@@ -45,6 +49,8 @@ ghost use Rattle.em_laws.specs.Rows.{
   repeated,
   AreRuns,
   IsWanted,
+  read_as,
+  on_output,
 };
 
 /// `head -n N` gives the first N lines, and all where there are no more; a last line without a newline is one too.
@@ -128,6 +134,28 @@ pub fn law_grep()
         → IsWanted s p (b ∷ bs) → selected s p (b ∷ bs) ≡ (b ∷ bs) ∷ [] }
     ensures last_passed { (s : Search) (p : List ℕ) (b : ℕ) (bs : List ℕ) → HasNo 10 (b ∷ bs)
         → ¬ IsWanted s p (b ∷ bs) → selected s p (b ∷ bs) ≡ [] }
+{}
+
+/// `grep` has the status 0 where a line of some file was selected, 1 where none was, and 2 where a file couldn't be read. With `-q` it
+/// writes nothing, with `-c` how many lines of a file are selected, behind its name where there are several files.
+pub fn law_grep_end()
+    ensures some { (g : Grep) (before after : List (List ℕ × List ℕ)) (name text : List ℕ)
+        → selected g.search g.pattern text ≢ []
+        → (grep_done g (map read_as (before ++ (name, text) ∷ after))).status ≡ 0 }
+    ensures none { (g : Grep) (files : List (List ℕ × List ℕ))
+        → All (λ f. selected g.search g.pattern f.1 ≡ []) files
+        → (grep_done g (map read_as files)).status ≡ 1 }
+    ensures fault { (g : Grep) (before after : List Source) (name : List ℕ) (r : _)
+        → (grep_done g (before ++ (record { name = name; found = No r }) ∷ after)).status ≡ 2 }
+    ensures quiet { (g : Grep) (files : List (List ℕ × List ℕ)) → g.quiet ≡ true
+        → (grep_done g (map read_as files)).pieces ≡ [] }
+    ensures counted { (g : Grep) (name text : List ℕ) → g.quiet ≡ false → g.counted ≡ true
+        → g.several ≡ false → (grep_done g (read_as (name, text) ∷ [])).pieces
+        ≡ on_output (decimal (length (selected g.search g.pattern text)) ++ 10 ∷ []) ∷ [] }
+    ensures counted_each { (g : Grep) (files : List (List ℕ × List ℕ)) → g.quiet ≡ false
+        → g.counted ≡ true → g.several ≡ true
+        → (grep_done g (map read_as files)).pieces ≡ map (λ f. on_output (f.0
+        ++ 58 ∷ decimal (length (selected g.search g.pattern f.1)) ++ 10 ∷ [])) files }
 {}
 
 /// `cmp` tells the first byte that differs and its line, both counted from 1, or the text that is a front of the other.

@@ -1,0 +1,8 @@
+use Rattle.em_laws.proofs.Copying.{mkdir_dirs, mkdir_kept}
+use Rattle.em_laws.proofs.files.law_mkdir_all.Goals as goal
+
+pub returns-clause-dirs : goal.returns-clause-dirs
+returns-clause-dirs c = mkdir_dirs
+
+pub returns-clause-kept : goal.returns-clause-kept
+returns-clause-kept c = mkdir_kept
