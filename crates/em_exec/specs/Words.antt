@@ -64,7 +64,8 @@ glyphs_in (Fields ts) = []
 glyphs_in (Pattern gs) = gs
 
 module _ (deeper : Deeper) (scene : Scene) where
-  -- the output of a command substitution, which reads what its command reads
+  -- the output of a command substitution: it reads the standard input that stands around its
+  -- command, never that command's own redirections
   abbrev pub output : Script → Acts (List ℕ)
   output s = substituted (deeper s (in_copy scene.input))
 
