@@ -1,4 +1,5 @@
 mod Dollars
+mod Layering
 mod Making
 mod Splits
 mod Undefined

@@ -30,6 +30,7 @@ use Rattle.em_expand.specs.declared.text.Setting as code
 use Rattle.em_expand.specs.declared.table.Plain as declared
 use Rattle.em_expand.specs.declared.table.Plain.TheVariants.{Text, Name, Wildcard, Value, Origin, Flavour, Eval, Info, Warning, Error}
 use Rattle.em_expand.specs.Desks.{Says, of_desk, pay}
+use Rattle.em_expand.specs.Layered.{entries_of}
 use Rattle.em_expand.specs.Scopes.{Frame, each, called, within, nth, is_open, argument}
 use Rattle.em_expand.specs.Table.{Row}
 use Rattle.em_expand.specs.Calls as calls
@@ -43,7 +44,7 @@ pub record Setting : Type 0 where
   pub place : Place
 
 abbrev pub setting_of : code.Setting → Setting
-setting_of s = record { vars = s.vars.now; cwd = s.cwd.now; place = s.place.now }
+setting_of s = record { vars = entries_of s.vars.now; cwd = s.cwd.now; place = s.place.now }
 
 -- how a text one level deeper is expanded
 abbrev pub Deeper : Type 0

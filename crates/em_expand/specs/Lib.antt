@@ -7,6 +7,7 @@ pub use Rattle.em_view.specs.Steps
 pub use Rattle.em_view.specs.Do
 pub use Rattle.em_vars.specs.Entries
 pub mod Desks
+pub mod Layered
 pub mod Scopes
 pub mod Table
 pub mod Calls

@@ -3,6 +3,7 @@
 
 mod calls;
 pub mod laws;
+mod layers;
 mod no;
 mod pick;
 mod put;
@@ -12,6 +13,7 @@ mod table;
 mod text;
 mod values;
 
+pub use layers::{Layers, OwnVar, own_text};
 pub use no::ExpandNo;
 pub use spoken::Spoken;
 pub use text::expand;

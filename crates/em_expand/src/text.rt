@@ -2,12 +2,14 @@
 ghost use Rattle.std.specs.Prelude.{[], true, map};
 ghost use Rattle.em_view.specs.Steps.{Does};
 ghost use Rattle.em_expand.specs.Desks.{is_free};
+ghost use Rattle.em_expand.specs.Layered.{entries_of};
 ghost use Rattle.em_expand.specs.Scopes.{frames_of, nth};
 ghost use Rattle.em_expand.specs.Table.{row_of};
 ghost use Rattle.em_expand.specs.Expansion as steps;
 ghost use Rattle.em_expand.specs.Expansion.{expansion, setting_of, expand_text, reference, evaluate, put_part, put_call, named, variable, enough, choose, until, foreach, turns, arguments};
 
 use crate::calls::{call_of, substitution_of};
+use crate::layers::Layers;
 use crate::no::{ExpandNo, bad_argument, refused, self_reference};
 use crate::pick::{cost, ends, length_of, nth, picked};
 use crate::put::{pay, put, put_value, substituted};
@@ -18,7 +20,6 @@ use crate::values::{Meaning, meaning_of};
 use em_base::{Place, Seq, Text, trim};
 use em_path::Path;
 use em_refs::{Bracket, Part, Parted, parts_before};
-use em_vars::Vars;
 use em_view::{Desk, View};
 use em_wordlist::texts;
 use std::alloc::Global;
@@ -26,7 +27,7 @@ use std::alloc::Global;
 /// What stays the same throughout an expansion.
 #[derive(Clone, Copy)]
 pub(crate) struct Setting<'a> {
-    pub(crate) vars: &'a Vars,
+    pub(crate) vars: &'a Layers<'a>,
     pub(crate) cwd: &'a Path,
     pub(crate) place: &'a Place,
 }
@@ -222,7 +223,7 @@ fn variable<V: View>(
     out: Text,
 ) -> Result<Text, ExpandNo>
     ensures { Does is_free V.tells desk.old desk.new spoken.old spoken.new result
-        (variable (expand_text left (setting_of setting.now)) setting.now.vars.now
+        (variable (expand_text left (setting_of setting.now)) (entries_of setting.now.vars.now)
         (frames_of scope.now) name.now out) }
 {
     match meaning_of(setting.vars, scope, name) {
@@ -396,7 +397,7 @@ fn call<V: View>(
     out: Text,
 ) -> Result<Text, ExpandNo>
     ensures { Does is_free V.tells desk.old desk.new spoken.old spoken.new result
-        (steps.call (expand_text left (setting_of setting.now)) setting.now.vars.now
+        (steps.call (expand_text left (setting_of setting.now)) (entries_of setting.now.vars.now)
         (frames_of scope.now) args.now out) }
 {
     let name = argument(args, 0);
@@ -426,14 +427,14 @@ fn call<V: View>(
 pub fn expand<V: View>(
     alloc: Global,
     text: &[u8],
-    vars: &Vars,
+    vars: &Layers,
     cwd: &Path,
     place: &Place,
     desk: &mut Desk<V>,
     spoken: &mut Spoken,
 ) -> Result<Text, ExpandNo>
     ensures { Does is_free V.tells desk.old desk.new spoken.old spoken.new result
-        (expansion vars.now cwd.now place.now text.now) }
+        (expansion (entries_of vars.now) cwd.now place.now text.now) }
 {
     let setting = Setting { vars, cwd, place };
     let out = Text::new(alloc);

@@ -16,7 +16,7 @@ use Rattle.em_job.specs.declared.prepare.Prepared.{Prepared}
 use Rattle.em_job.specs.declared.prepare.Prepared.TheVariants.{Ended, Lines}
 use Rattle.em_job.specs.declared.ready.Ready.{Ready}
 use Rattle.em_job.specs.declared.stop.Stop.{Stop}
-use Rattle.em_job.specs.Preparing.{say, prepare}
+use Rattle.em_job.specs.Preparing.{Autos, say, prepare}
 use Rattle.em_job.specs.Stops.{of_line}
 use Rattle.em_job.specs.Carrying.{AreRead, environment_once, session_of, said_in, shell_of, in_shell, run, if_runs, does_run, echo, run_line, after_line, turn_of, lines_by, lines_from, course_of, carry_out}
 use Rattle.em_job.specs.Effects.{saying, steps, closed, job, begin, no_end, Makes}
@@ -28,23 +28,23 @@ same_shell : (j : Job) (env : Entries) (p : Place) (a b : Line) → Alike a b �
 unfolding in_shell
 same_shell j env p a b h = λ i. within (session_of (shell_of j env)) said_in (of_line p) (h i)
 
-same_run : (j : Job) (vars : Entries) (env : Option Entries) (p : Place) (a b : Line) → Alike a b → run j vars env p a ≡ run j vars env p b
+same_run : (j : Job) (autos : Autos) (env : Option Entries) (p : Place) (a b : Line) → Alike a b → run j autos env p a ≡ run j autos env p b
 unfolding run
-same_run j vars env p a b h = λ i. and_then (environment_once j vars p env) (λ e. and_then (same_shell j e p a b h i) (λ status. done (Some e, status)))
+same_run j autos env p a b h = λ i. and_then (environment_once j autos p env) (λ e. and_then (same_shell j e p a b h i) (λ status. done (Some e, status)))
 
-same_choice : (j : Job) (vars : Entries) (env : Option Entries) (l : Placed) (a b : Line) → Alike a b → (runs : Bool) → if_runs j vars env l a runs ≡ if_runs j vars env l b runs
-same_choice j vars env l a b h true = same_run j vars env l.place a b h
-same_choice j vars env l a b h false = refl
+same_choice : (j : Job) (autos : Autos) (env : Option Entries) (l : Placed) (a b : Line) → Alike a b → (runs : Bool) → if_runs j autos env l a runs ≡ if_runs j autos env l b runs
+same_choice j autos env l a b h true = same_run j autos env l.place a b h
+same_choice j autos env l a b h false = refl
 
-same_line : (j : Job) (vars : Entries) (env : Option Entries) (l : Placed) (a b : Line) → Alike a b → run_line j vars env l a ≡ run_line j vars env l b
+same_line : (j : Job) (autos : Autos) (env : Option Entries) (l : Placed) (a b : Line) → Alike a b → run_line j autos env l a ≡ run_line j autos env l b
 unfolding run_line
-same_line j vars env l a b h = λ i. and_then (own (say (echo j l))) (λ u. same_choice j vars env l a b h (does_run j l) i)
+same_line j autos env l a b h = λ i. and_then (own (say (echo j l))) (λ u. same_choice j autos env l a b h (does_run j l) i)
 
 same_turn : (j : Job) (x : Opened) (env : Option Entries) (r q : Ready) → r.placed ≡ q.placed → Alike r.line q.line → turn_of j x env r ≡ turn_of j x env q
 unfolding turn_of
 same_turn j x env r q e h =
-    (λ i. and_then (run_line j x.vars env (e i) r.line) (λ ran. after_line j x.stamp (e i) ran.0 ran.1))
-    ∙ (λ i. and_then (same_line j x.vars env q.placed r.line q.line h i) (λ ran. after_line j x.stamp q.placed ran.0 ran.1))
+    (λ i. and_then (run_line j x.autos env (e i) r.line) (λ ran. after_line j x.stamp (e i) ran.0 ran.1))
+    ∙ (λ i. and_then (same_line j x.autos env q.placed r.line q.line h i) (λ ran. after_line j x.stamp q.placed ran.0 ran.1))
 
 module _ (one : (text : List ℕ) (a b : Line) → script.IsRead text a → script.IsRead text b → Alike a b) where
   same_lines : (j : Job) (x : Opened) (ps : List Placed) (rs qs : List Ready) → AreRead ps rs → AreRead ps qs → (env : Option Entries) → lines_from j x env rs ≡ lines_from j x env qs

@@ -4,7 +4,7 @@
 --     run_line ..               a line: it is echoed, and it runs
 --     delete ..                 what becomes of the target where a line failed, under `.DELETE_ON_ERROR`
 --     carry_out j course        all lines in order
-use Rattle.std.specs.Prelude.{◌≡◌, ℕ, ◌==◌, Bool, true, false, not, ◌&&◌, ◌||◌, List, [], ◌∷◌, ◌++◌, Option, Some, None, Result, Ok, Err, if◌then◌else◌}
+use Rattle.std.specs.Prelude.{◌≡◌, ℕ, ◌==◌, Bool, true, false, not, ◌&&◌, ◌||◌, List, [], ◌∷◌, ◌++◌, Option, Some, None, is_some, Result, Ok, Err, if◌then◌else◌}
 use Rattle.em_base.specs.declared.place.Place.{Place}
 use Rattle.em_tree.specs.declared.node.Kind.{Kind}
 use Rattle.em_tree.specs.declared.node.Kind.TheVariants as kind
@@ -21,6 +21,7 @@ use Rattle.em_vars.specs.declared.var.Flavour.{Flavour}
 use Rattle.em_vars.specs.declared.var.Flavour.TheVariants as flavour
 use Rattle.em_vars.specs.declared.var.Origin.{Origin}
 use Rattle.em_vars.specs.declared.var.Origin.TheVariants as origin
+use Rattle.em_expand.specs.Layered.{own_text}
 use Rattle.em_vars.specs.Entries.{Entries, value_of, keeps, with_value}
 use Rattle.em_expand.specs.declared.spoken.Spoken.{Spoken}
 use Rattle.em_exec.specs.Exec.{Session}
@@ -43,7 +44,7 @@ use Rattle.em_job.specs.declared.stop.Stop.{Stop}
 use Rattle.em_job.specs.declared.stop.Stop.TheVariants.{Spent, NoMemory}
 use Rattle.em_job.specs.Stops.{Acts, of_desk, of_line}
 use Rattle.em_job.specs.Deciding.{path_of, same_stamp}
-use Rattle.em_job.specs.Preparing.{say, expand_at}
+use Rattle.em_job.specs.Preparing.{Autos, say, expand_at}
 
 -- each line with what it is by the grammar
 abbrev pub AreRead : List Placed → List Ready → Type 0
@@ -90,37 +91,41 @@ put env name v = if keeps (value_of env name) v then env else with_value env nam
 abbrev pub is_expanded : Var → Bool
 is_expanded v = is_recursive v.flavour && not (is_of_order v.origin)
 
-abbrev pub handed_text : Job → Entries → Place → Var → Acts (List ℕ)
-handed_text j vars p v = if is_expanded v then expand_at j vars p v.text else done v.text
+abbrev pub handed_text : Job → Autos → Place → Var → Acts (List ℕ)
+handed_text j autos p v = if is_expanded v then expand_at j autos p v.text else done v.text
 
 abbrev pub simple : Var → List ℕ → Var
 simple v text = record v { flavour = flavour.Simple; text = text }
 
-unfoldable pub hand_over : Job → Entries → Place → Entries → List ℕ → Var → Acts Entries
-hand_over j vars p env name v = do
-  t ← handed_text j vars p v
+unfoldable pub hand_over : Job → Autos → Place → Entries → List ℕ → Var → Acts Entries
+hand_over j autos p env name v = do
+  t ← handed_text j autos p v
   done (put env name (simple v t))
 
-abbrev pub hand : Job → Entries → Place → Entries → List ℕ → Var → Acts Entries
-hand j vars p env name v = if is_handed v then hand_over j vars p env name v else done env
+abbrev pub hand : Job → Autos → Place → Entries → List ℕ → Var → Acts Entries
+hand j autos p env name v = if is_handed v then hand_over j autos p env name v else done env
 
-abbrev pub hand_entry : Job → Entries → Place → Entries → Option (List ℕ × Var) → Acts Entries
-hand_entry j vars p env None = done env
-hand_entry j vars p env (Some e) = hand j vars p env e.0 e.1
+-- a variable of makefiles: an automatic one of its name hides it, and isn't handed over itself
+abbrev pub hand_shared : Job → Autos → Place → Entries → List ℕ → Var → Acts Entries
+hand_shared j autos p env name v = if is_some (own_text autos name) then done env else hand j autos p env name v
 
-abbrev pub environment_from : Job → Entries → Place → Entries → Entries → Acts Entries
-environment_from j vars p [] env = done env
-environment_from j vars p (e ∷ es) env = do
-  next ← hand j vars p env e.0 e.1
-  environment_from j vars p es next
+abbrev pub hand_entry : Job → Autos → Place → Entries → Option (List ℕ × Var) → Acts Entries
+hand_entry j autos p env None = done env
+hand_entry j autos p env (Some e) = hand_shared j autos p env e.0 e.1
 
-unfoldable pub environment : Job → Entries → Place → Acts Entries
-environment j vars p = environment_from j vars p vars []
+abbrev pub environment_from : Job → Autos → Place → Entries → Entries → Acts Entries
+environment_from j autos p [] env = done env
+environment_from j autos p (e ∷ es) env = do
+  next ← hand_shared j autos p env e.0 e.1
+  environment_from j autos p es next
+
+unfoldable pub environment : Job → Autos → Place → Acts Entries
+environment j autos p = environment_from j autos p j.vars []
 
 -- it is made once, before the first line that runs
-abbrev pub environment_once : Job → Entries → Place → Option Entries → Acts Entries
-environment_once j vars p (Some env) = done env
-environment_once j vars p None = environment j vars p
+abbrev pub environment_once : Job → Autos → Place → Option Entries → Acts Entries
+environment_once j autos p (Some env) = done env
+environment_once j autos p None = environment j autos p
 
 -- ---- a line
 
@@ -146,21 +151,21 @@ shell_of j env = record { vars = env; cwd = j.cwd; status = 0 }
 unfoldable pub in_shell : Job → Entries → Place → Line → Acts ℕ
 in_shell j env p line = within (session_of (shell_of j env)) said_in (of_line p) (script.run_line line)
 
-unfoldable pub run : Job → Entries → Option Entries → Place → Line → Acts (Option Entries × ℕ)
-run j vars env p line = do
-  e ← environment_once j vars p env
+unfoldable pub run : Job → Autos → Option Entries → Place → Line → Acts (Option Entries × ℕ)
+run j autos env p line = do
+  e ← environment_once j autos p env
   status ← in_shell j e p line
   done (Some e, status)
 
 -- one that is only shown has status 0
-abbrev pub if_runs : Job → Entries → Option Entries → Placed → Line → Bool → Acts (Option Entries × ℕ)
-if_runs j vars env l line true = run j vars env l.place line
-if_runs j vars env l line false = done (env, 0)
+abbrev pub if_runs : Job → Autos → Option Entries → Placed → Line → Bool → Acts (Option Entries × ℕ)
+if_runs j autos env l line true = run j autos env l.place line
+if_runs j autos env l line false = done (env, 0)
 
-unfoldable pub run_line : Job → Entries → Option Entries → Placed → Line → Acts (Option Entries × ℕ)
-run_line j vars env l line = do
+unfoldable pub run_line : Job → Autos → Option Entries → Placed → Line → Acts (Option Entries × ℕ)
+run_line j autos env l line = do
   u ← own (say (echo j l))
-  if_runs j vars env l line (does_run j l)
+  if_runs j autos env l line (does_run j l)
 
 -- ---- a line that failed
 
@@ -232,7 +237,7 @@ after_line j before l next status = if status == 0 then done (Next next) else if
 
 unfoldable pub turn_of : Job → Opened → Option Entries → Ready → Acts Turn
 turn_of j x env r = do
-  ran ← run_line j x.vars env r.placed r.line
+  ran ← run_line j x.autos env r.placed r.line
   after_line j x.stamp r.placed ran.0 ran.1
 
 abbrev pub lines_by : (Option Entries → Acts Outcome) → Turn → Acts Outcome

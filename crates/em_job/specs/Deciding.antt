@@ -3,7 +3,7 @@
 --     stamp_of cwd name       the stamp of what the name says; a name that is no path is absent and isn't asked
 --     newer_among ..          the normal prerequisites that make remaking due
 --     is_due, decision        remaking is due; what becomes of the job
-use Rattle.std.specs.Prelude.{ℕ, nat_lt, ◌==◌, Bool, true, false, not, ◌&&◌, ◌||◌, List, [], ◌∷◌, ◌++◌, length, map, Option, Some, None, if◌then◌else◌}
+use Rattle.std.specs.Prelude.{ℕ, nat_lt, ◌==◌, Bool, true, false, not, ◌&&◌, ◌||◌, List, [], ◌∷◌, ◌++◌, length, Option, Some, None, if◌then◌else◌}
 use Rattle.std.specs.List.{list_any}
 use Rattle.std.specs.Str.{bytes_eq}
 use Rattle.em_path.specs.declared.path.PathNo.{PathNo}
@@ -15,7 +15,6 @@ use Rattle.em_view.specs.Rows as rows
 use Rattle.em_view.specs.Steps.{done, below}
 use Rattle.em_view.specs.Do.{◌>>=◌}
 use Rattle.em_plan.specs.declared.planned.Pre.{Pre}
-use Rattle.em_plan.specs.declared.planned.PlanJob.{PlanJob}
 use Rattle.em_rules.specs.declared.rule.RecipeLine.{RecipeLine}
 use Rattle.em_recipe.specs.Automatic.{names_of}
 use Rattle.em_task.specs.declared.job.Job.{Job}

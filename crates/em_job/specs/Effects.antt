@@ -14,8 +14,6 @@ use Rattle.em_run.specs.Meanings.{fresh, effect_by, used_by}
 use Rattle.em_expand.specs.declared.spoken.Spoken.{Spoken}
 use Rattle.em_task.specs.declared.job.Job.{Job}
 use Rattle.em_job.specs.declared.prepare.Placed.{Placed}
-use Rattle.em_job.specs.declared.prepare.Prepared.{Prepared}
-use Rattle.em_job.specs.declared.prepare.Prepared.TheVariants.{Ended, Lines}
 use Rattle.em_job.specs.declared.ready.Ready.{Ready}
 use Rattle.em_job.specs.declared.stop.Stop.{Stop}
 use Rattle.em_job.specs.declared.stop.Stop.TheVariants as stop

@@ -1,28 +1,26 @@
 -- What a job does before the first line of its recipe runs: it decides, and expands all lines.
---     expand_at j vars p text     the expansion of a text at a place; a text for `eval` in it is refused
+--     expand_at j autos p text    the expansion of a text at a place; a text for `eval` in it is refused
 --     expand_lines ..             the lines for the shell
 --     prepare j                   the whole: how the job ends, or what it is to run
-use Rattle.std.specs.Prelude.{ℕ, Bool, true, false, List, [], ◌∷◌, ◌++◌, map, unwrap_or, Option, Some, None, Result, Ok, Err}
+use Rattle.std.specs.Prelude.{ℕ, Bool, true, false, List, [], ◌∷◌, ◌++◌, map, unwrap_or, Option, Result, Ok, Err}
 use Rattle.em_base.specs.declared.construct.Construct.TheVariants as construct
 use Rattle.em_base.specs.declared.place.Place.{Place}
-use Rattle.em_tree.specs.declared.outcome.Outcome.{Outcome}
 use Rattle.em_tree.specs.declared.outcome.Outcome.TheVariants as outcome
-use Rattle.em_view.specs.Steps.{done, refuse, own, within}
+use Rattle.em_view.specs.Steps.{done, own, within}
 use Rattle.em_view.specs.Do.{◌>>=◌}
-use Rattle.em_vars.specs.Entries.{Entries}
 use Rattle.em_rules.specs.declared.rule.RecipeLine.{RecipeLine}
 use Rattle.em_expand.specs.declared.spoken.Spoken.{Spoken}
+use Rattle.em_expand.specs.Layered.{with_own}
 use Rattle.em_expand.specs.Expansion.{expansion}
 use Rattle.em_recipe.specs.declared.command.Command.{Command}
 use Rattle.em_recipe.specs.Commands.{commands_of}
-use Rattle.em_recipe.specs.Automatic.{with_automatic}
+use Rattle.em_recipe.specs.Automatic.{texts}
 use Rattle.em_recipe.specs.Messages as messages
 use Rattle.em_task.specs.declared.job.Job.{Job}
 use Rattle.em_job.specs.declared.due.Awaited.{Awaited}
 use Rattle.em_job.specs.declared.due.Verdict.{Verdict}
 use Rattle.em_job.specs.declared.due.Verdict.TheVariants as decision
 use Rattle.em_job.specs.declared.prepare.Placed.{Placed}
-use Rattle.em_job.specs.declared.prepare.Opened.{Opened}
 use Rattle.em_job.specs.declared.prepare.Prepared.{Prepared}
 use Rattle.em_job.specs.declared.prepare.Prepared.TheVariants.{Ended, Lines}
 use Rattle.em_job.specs.declared.stop.Stop.{Stop}
@@ -47,28 +45,32 @@ no_evals p s = by_evals s.evals
     by_evals [] = Ok (tt, s)
     by_evals (e ∷ es) = Err (Refused construct.Eval p, s)
 
-unfoldable pub expand_at : Job → Entries → Place → List ℕ → Acts (List ℕ)
-expand_at j vars p text = do
-  t ← within itself instead (of_expand p) (expansion vars j.cwd p text)
+-- automatic variables, as pairs of a name and a text
+abbrev pub Autos : Type 0
+Autos = List (List ℕ × List ℕ)
+
+unfoldable pub expand_at : Job → Autos → Place → List ℕ → Acts (List ℕ)
+expand_at j autos p text = do
+  t ← within itself instead (of_expand p) (expansion (with_own j.vars autos) j.cwd p text)
   u ← own (no_evals p)
   done t
 
 abbrev pub placed : Place → Command → Placed
 placed p c = record { place = p; command = c }
 
-abbrev pub expand_lines : Job → Entries → List RecipeLine → List Placed → Acts (List Placed)
-expand_lines j vars [] so_far = done so_far
-expand_lines j vars (l ∷ ls) so_far = do
-  t ← expand_at j vars l.place l.text
-  expand_lines j vars ls (so_far ++ map (placed l.place) (commands_of l.text t))
+abbrev pub expand_lines : Job → Autos → List RecipeLine → List Placed → Acts (List Placed)
+expand_lines j autos [] so_far = done so_far
+expand_lines j autos (l ∷ ls) so_far = do
+  t ← expand_at j autos l.place l.text
+  expand_lines j autos ls (so_far ++ map (placed l.place) (commands_of l.text t))
 
 abbrev pub recipe_of : Job → List RecipeLine
 recipe_of j = unwrap_or j.plan.recipe []
 
 unfoldable pub expand_recipe : Job → Option ℕ → List (List ℕ) → Acts Prepared
-expand_recipe j own newer = do
-  lines ← expand_lines j (with_automatic j.vars j.plan newer) (recipe_of j) []
-  done (Lines (record { stamp = own; vars = with_automatic j.vars j.plan newer }) lines)
+expand_recipe j stamp newer = do
+  lines ← expand_lines j (texts j.plan newer) (recipe_of j) []
+  done (Lines (record { stamp = stamp; autos = texts j.plan newer }) lines)
 
 abbrev pub no_rule : Job → Acts Prepared
 no_rule j = do

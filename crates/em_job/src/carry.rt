@@ -88,7 +88,8 @@ fn run_turn<V: View>(
         (carrying.turn_of job.now opened.now env ready.now) }
 {
     let Ready { placed, line } = ready;
-    let (next, status) = run_line(alloc, desk, spoken, job, &opened.vars, env, placed, line)?;
+    let autos = opened.autos.items();
+    let (next, status) = run_line(alloc, desk, spoken, job, autos, env, placed, line)?;
     after_line(alloc, desk, spoken, job, opened.stamp, placed, next, status)
 }
 

@@ -7,7 +7,7 @@ ghost use Rattle.em_view.specs.Steps.{Does};
 use crate::prepare::expand_at;
 use crate::stop::Stop;
 use em_base::{NoMemory, Place, Text};
-use em_expand::Spoken;
+use em_expand::{OwnVar, Spoken, own_text};
 use em_task::Job;
 use em_vars::{Flavour, Origin, Var, Vars};
 use em_view::{Desk, View};
@@ -39,15 +39,15 @@ fn handed_text<V: View>(
     desk: &mut Desk<V>,
     spoken: &mut Spoken,
     job: &Job,
-    vars: &Vars,
+    autos: &[OwnVar],
     place: &Place,
     var: &Var,
 ) -> Result<Text, Stop>
     ensures { Does is_free V.tells desk.old desk.new spoken.old spoken.new result
-        (carrying.handed_text job.now vars.now place.now var.now) }
+        (carrying.handed_text job.now autos.now place.now var.now) }
 {
     if is_expanded(var) {
-        return expand_at(alloc, desk, spoken, job, vars, place, var.text.bytes());
+        return expand_at(alloc, desk, spoken, job, autos, place, var.text.bytes());
     }
     Ok(var.text.copy(alloc)?)
 }
@@ -73,22 +73,43 @@ fn hand<V: View>(
     desk: &mut Desk<V>,
     spoken: &mut Spoken,
     job: &Job,
-    vars: &Vars,
+    autos: &[OwnVar],
     place: &Place,
     env: Vars,
     name: &[u8],
     var: &Var,
 ) -> Result<Vars, Stop>
     ensures { Does is_free V.tells desk.old desk.new spoken.old spoken.new result
-        (carrying.hand job.now vars.now place.now env name.now var.now) }
+        (carrying.hand job.now autos.now place.now env name.now var.now) }
 {
     if !is_handed(var) {
         return Ok(env);
     }
     let mut env = env;
-    let text = handed_text(alloc, desk, spoken, job, vars, place, var)?;
+    let text = handed_text(alloc, desk, spoken, job, autos, place, var)?;
     put(alloc, &mut env, name, var, text)?;
     Ok(env)
+}
+
+/// The same for a variable of makefiles, unless an automatic one hides it.
+fn hand_shared<V: View>(
+    alloc: Global,
+    desk: &mut Desk<V>,
+    spoken: &mut Spoken,
+    job: &Job,
+    autos: &[OwnVar],
+    place: &Place,
+    env: Vars,
+    name: &[u8],
+    var: &Var,
+) -> Result<Vars, Stop>
+    ensures { Does is_free V.tells desk.old desk.new spoken.old spoken.new result
+        (carrying.hand_shared job.now autos.now place.now env name.now var.now) }
+{
+    match own_text(autos, name) {
+        Some(_) => Ok(env),
+        None => hand(alloc, desk, spoken, job, autos, place, env, name, var),
+    }
 }
 
 /// The same for the variable of this number; nothing is handed over where there is none.
@@ -97,16 +118,16 @@ fn hand_entry<V: View>(
     desk: &mut Desk<V>,
     spoken: &mut Spoken,
     job: &Job,
-    vars: &Vars,
+    autos: &[OwnVar],
     place: &Place,
     env: Vars,
     i: usize,
 ) -> Result<Vars, Stop>
     ensures { Does is_free V.tells desk.old desk.new spoken.old spoken.new result
-        (carrying.hand_entry job.now vars.now place.now env (slice_get vars.now i)) }
+        (carrying.hand_entry job.now autos.now place.now env (slice_get job.now.vars i)) }
 {
-    match vars.at(i) {
-        Some((name, var)) => hand(alloc, desk, spoken, job, vars, place, env, name, var),
+    match job.vars.vars().at(i) {
+        Some((name, var)) => hand_shared(alloc, desk, spoken, job, autos, place, env, name, var),
         None => Ok(env),
     }
 }
@@ -117,15 +138,15 @@ pub(crate) fn environment<V: View>(
     desk: &mut Desk<V>,
     spoken: &mut Spoken,
     job: &Job,
-    vars: &Vars,
+    autos: &[OwnVar],
     place: &Place,
 ) -> Result<Vars, Stop>
     ensures { Does is_free V.tells desk.old desk.new spoken.old spoken.new result
-        (carrying.environment job.now vars.now place.now) }
+        (carrying.environment job.now autos.now place.now) }
 {
     let mut env = Vars::new(alloc)?;
-    for i in 0..vars.len() {
-        env = hand_entry(alloc, desk, spoken, job, vars, place, env, i)?;
+    for i in 0..job.vars.vars().len() {
+        env = hand_entry(alloc, desk, spoken, job, autos, place, env, i)?;
     }
     Ok(env)
 }

@@ -9,7 +9,7 @@ use crate::environment::environment;
 use crate::prepare::{Placed, say};
 use crate::stop::{Stop, of_line};
 use em_base::{NoMemory, Place};
-use em_expand::Spoken;
+use em_expand::{OwnVar, Spoken};
 use em_script::Line;
 use em_task::Job;
 use em_vars::Vars;
@@ -23,16 +23,16 @@ fn environment_once<V: View>(
     desk: &mut Desk<V>,
     spoken: &mut Spoken,
     job: &Job,
-    vars: &Vars,
+    autos: &[OwnVar],
     place: &Place,
     env: Option<Vars>,
 ) -> Result<Vars, Stop>
     ensures { Does is_free V.tells desk.old desk.new spoken.old spoken.new result
-        (carrying.environment_once job.now vars.now place.now env) }
+        (carrying.environment_once job.now autos.now place.now env) }
 {
     match env {
         Some(env) => Ok(env),
-        None => environment(alloc, desk, spoken, job, vars, place),
+        None => environment(alloc, desk, spoken, job, autos, place),
     }
 }
 
@@ -99,15 +99,15 @@ fn run<V: View>(
     desk: &mut Desk<V>,
     spoken: &mut Spoken,
     job: &Job,
-    vars: &Vars,
+    autos: &[OwnVar],
     env: Option<Vars>,
     place: &Place,
     line: &Line,
 ) -> Result<(Option<Vars>, u8), Stop>
     ensures { Does is_free V.tells desk.old desk.new spoken.old spoken.new result
-        (carrying.run job.now vars.now env place.now line.now) }
+        (carrying.run job.now autos.now env place.now line.now) }
 {
-    let env = environment_once(alloc, desk, spoken, job, vars, place, env)?;
+    let env = environment_once(alloc, desk, spoken, job, autos, place, env)?;
     let status = in_shell(alloc, desk, spoken, job, &env, place, line)?;
     Ok((Some(env), status))
 }
@@ -118,17 +118,17 @@ pub(crate) fn run_line<V: View>(
     desk: &mut Desk<V>,
     spoken: &mut Spoken,
     job: &Job,
-    vars: &Vars,
+    autos: &[OwnVar],
     env: Option<Vars>,
     placed: &Placed,
     line: &Line,
 ) -> Result<(Option<Vars>, u8), Stop>
     ensures { Does is_free V.tells desk.old desk.new spoken.old spoken.new result
-        (carrying.run_line job.now vars.now env placed.now line.now) }
+        (carrying.run_line job.now autos.now env placed.now line.now) }
 {
     echo(spoken, job, placed)?;
     if does_run(job, placed) {
-        return run(alloc, desk, spoken, job, vars, env, &placed.place, line);
+        return run(alloc, desk, spoken, job, autos, env, &placed.place, line);
     }
     Ok((env, 0))
 }

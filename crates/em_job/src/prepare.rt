@@ -8,12 +8,11 @@ ghost use Rattle.em_view.specs.Steps.{Does, Works};
 use crate::due::{Awaited, Verdict, decision, newer_among, prerequisites, reasons, stamp_of};
 use crate::stop::{Stop, of_expand, refused};
 use em_base::{Construct, NoMemory, Place, Seq, Text};
-use em_expand::{Spoken, expand};
-use em_recipe::{Command, commands, put_no_rule, with_automatic};
+use em_expand::{Layers, OwnVar, Spoken, expand};
+use em_recipe::{Command, automatic_vars, commands, put_no_rule};
 use em_rules::RecipeLine;
 use em_task::Job;
 use em_tree::Outcome;
-use em_vars::Vars;
 use em_view::{Desk, View};
 use std::alloc::Global;
 
@@ -29,8 +28,8 @@ pub(crate) struct Placed {
 pub(crate) struct Opened {
     /// The target's stamp before it.
     pub(crate) stamp: Option<u64>,
-    /// The variables, with the automatic ones.
-    pub(crate) vars: Vars,
+    /// The automatic variables.
+    pub(crate) autos: Seq<OwnVar>,
 }
 
 /// What is left to do of a job.
@@ -59,20 +58,22 @@ fn no_evals(alloc: Global, spoken: &mut Spoken, place: &Place) -> Result<(), Sto
     }
 }
 
-/// Expands a text of the recipe.
+/// Expands a text of the recipe, with these automatic variables.
 pub(crate) fn expand_at<V: View>(
     alloc: Global,
     desk: &mut Desk<V>,
     spoken: &mut Spoken,
     job: &Job,
-    vars: &Vars,
+    autos: &[OwnVar],
     place: &Place,
     text: &[u8],
 ) -> Result<Text, Stop>
     ensures { Does is_free V.tells desk.old desk.new spoken.old spoken.new result
-        (preparing.expand_at job.now vars.now place.now text.now) }
+        (preparing.expand_at job.now autos.now place.now text.now) }
 {
-    match expand(alloc, text, vars, &job.cwd, place, desk, spoken) {
+    let shared = job.vars.vars();
+    let vars = Layers { shared, own: autos };
+    match expand(alloc, text, &vars, &job.cwd, place, desk, spoken) {
         Ok(text) => {
             no_evals(alloc, spoken, place)?;
             Ok(text)
@@ -104,11 +105,11 @@ fn expand_lines<V: View>(
     desk: &mut Desk<V>,
     spoken: &mut Spoken,
     job: &Job,
-    vars: &Vars,
+    autos: &[OwnVar],
     recipe: &[RecipeLine],
 ) -> Result<Seq<Placed>, Stop>
     ensures { Does is_free V.tells desk.old desk.new spoken.old spoken.new result
-        (preparing.expand_lines job.now vars.now recipe.now []) }
+        (preparing.expand_lines job.now autos.now recipe.now []) }
 {
     let mut lines = Seq::new(alloc);
     for line in recipe {
@@ -117,7 +118,7 @@ fn expand_lines<V: View>(
             desk,
             spoken,
             job,
-            vars,
+            autos,
             &line.place,
             line.text.bytes(),
         )?;
@@ -149,9 +150,9 @@ fn expand_recipe<V: View>(
     ensures { Does is_free V.tells desk.old desk.new spoken.old spoken.new result
         (preparing.expand_recipe job.now stamp newer.now) }
 {
-    let vars = with_automatic(alloc, job.vars.vars(), &job.plan, newer)?;
-    let lines = expand_lines(alloc, desk, spoken, job, &vars, recipe_of(job))?;
-    Ok(Prepared::Lines(Opened { stamp, vars }, lines))
+    let autos = automatic_vars(alloc, &job.plan, newer)?;
+    let lines = expand_lines(alloc, desk, spoken, job, autos.items(), recipe_of(job))?;
+    Ok(Prepared::Lines(Opened { stamp, autos }, lines))
 }
 
 /// Says that no rule makes the target.

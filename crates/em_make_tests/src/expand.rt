@@ -1,7 +1,7 @@
 //! Expansions over a small tree, with a few variables. What is expected is a text: the result, or a refusal between `!` and its
 //! name. Values are GNU make's.
 use em_base::{Fuel, NoMemory, Place, Text};
-use em_expand::{ExpandNo, Spoken, expand};
+use em_expand::{ExpandNo, Layers, Spoken, expand};
 use em_path::Path;
 use em_states::{put_all, put_part, state};
 use em_tree::State;
@@ -116,7 +116,11 @@ fn expand_on<V: View>(
 ) -> Result<Text, ExpandNo> {
     let file = Text::from_slice(alloc, b"Makefile")?;
     let place = Place { file, line: 7 };
-    expand(alloc, source, vars, &Path::root(), &place, desk, spoken)
+    let vars = Layers {
+        shared: vars,
+        own: &[],
+    };
+    expand(alloc, source, &vars, &Path::root(), &place, desk, spoken)
 }
 
 /// What the expansion of a text gives, with much fuel.

@@ -1,12 +1,14 @@
-use em_base::{Construct, NoMemory, Place, Seq, Text};
-use em_expand::ExpandNo;
+use em_base::{Construct, Fuel, NoMemory, Place, Seq, Text};
+use em_expand::{ExpandNo, Layers, Spoken, expand};
+use em_path::Path;
 use em_plan::{PlanJob, Pre};
 use em_recipe::{
-    Marks, bare, commands, fault_text, marks_of, put_deleted, put_failed, put_halted, put_ignored,
-    put_no_rule, put_refused, put_spent, put_spent_early, with_automatic,
+    Marks, automatic_vars, bare, commands, fault_text, marks_of, put_deleted, put_failed,
+    put_halted, put_ignored, put_no_rule, put_refused, put_spent, put_spent_early,
 };
-use em_states::{put_all, put_part};
+use em_states::{put_all, put_part, state};
 use em_vars::{Flavour, Origin, Var, Vars};
+use em_view::{Desk, PlainView};
 use std::alloc::Global;
 use std::test::Fail;
 
@@ -75,15 +77,6 @@ fn set(alloc: Global, vars: &mut Vars, name: &[u8], origin: Origin) -> Result<()
     Ok(())
 }
 
-/// Each name with its text, as `name=text;`, in order.
-fn shown(alloc: Global, vars: &Vars) -> Text {
-    let mut text = Text::new(alloc);
-    for (name, var) in vars.iter() {
-        put_all(&mut text, &[name.as_slice(), b"=", var.text.bytes(), b";"]);
-    }
-    text
-}
-
 /// Two variables, of which the second has the name of an automatic one.
 fn variables(alloc: Global) -> Result<Vars, NoMemory> {
     let mut vars = Vars::new(alloc)?;
@@ -92,18 +85,41 @@ fn variables(alloc: Global) -> Result<Vars, NoMemory> {
     Ok(vars)
 }
 
-/// The variables of a job with these newer prerequisites.
-fn with_newer(alloc: Global, job: &PlanJob, newer: &[Text]) -> Result<Text, NoMemory> {
-    let vars = variables(alloc)?;
-    let all = with_automatic(alloc, &vars, job, newer)?;
-    Ok(shown(alloc, &all))
+/// A variable of makefiles, and each automatic one.
+static EACH: &[u8] = b"A=$A;@=$@;@D=$(@D);@F=$(@F);<=$<;<D=$(<D);<F=$(<F);^=$^;^D=$(^D);^F=$(^F);\
+    +=$+;+D=$(+D);+F=$(+F);?=$?;?D=$(?D);?F=$(?F);*=$*;*D=$(*D);*F=$(*F);|=$|;";
+
+/// What these names are in a recipe.
+fn in_recipe(alloc: Global, vars: &Layers) -> Result<Text, Fail> {
+    let there = state(alloc, "")?;
+    let mut desk = Desk::new(alloc, PlainView::new(&there), 1, 0, Fuel::new(1_000));
+    let mut spoken = Spoken::new(alloc);
+    let place = place(alloc)?;
+    match expand(
+        alloc,
+        EACH,
+        vars,
+        &Path::root(),
+        &place,
+        &mut desk,
+        &mut spoken,
+    ) {
+        Ok(text) => Ok(text),
+        Err(_) => Ok(Text::new(alloc)),
+    }
 }
 
-/// Two variables, and the automatic ones.
-fn with_job(alloc: Global, written: &Written, newer: &[u8]) -> Result<Text, NoMemory> {
+/// The same with the automatic variables of a job with these newer prerequisites.
+fn with_job(alloc: Global, written: &Written, newer: &[u8]) -> Result<Text, Fail> {
+    let shared = variables(alloc)?;
     let job = job(alloc, written)?;
     let newer = words(alloc, newer)?;
-    with_newer(alloc, &job, newer.items())
+    let own = automatic_vars(alloc, &job, newer.items())?;
+    let vars = Layers {
+        shared: &shared,
+        own: own.items(),
+    };
+    in_recipe(alloc, &vars)
 }
 
 static FULL: Written = (b"d/x.o", b"a b a d/c", b"o p o", b"d/x");
@@ -111,7 +127,7 @@ static FULL: Written = (b"d/x.o", b"a b a d/c", b"o p o", b"d/x");
 #[test]
 fn automatic_variables_tell_of_the_job(rt: HostRuntime) -> Result<(), Fail> {
     let given = with_job(rt.alloc(), &FULL, b"d/c a d/c")?;
-    let want = b"A=old;^D=. . d;@=d/x.o;@D=d;@F=x.o;<=a;<D=.;<F=a;^=a b d/c;^F=a b c;\
+    let want = b"A=old;@=d/x.o;@D=d;@F=x.o;<=a;<D=.;<F=a;^=a b d/c;^D=. . d;^F=a b c;\
         +=a b a d/c;+D=. . . d;+F=a b a c;?=d/c a;?D=d .;?F=c a;*=d/x;*D=d;*F=x;|=o p o;";
     assert_eq!(rt; given.bytes(), want.as_slice());
     Ok(())
@@ -122,7 +138,7 @@ static EMPTY: Written = (b"/b", b"", b"", b"");
 #[test]
 fn what_is_not_there_is_empty(rt: HostRuntime) -> Result<(), Fail> {
     let given = with_job(rt.alloc(), &EMPTY, b"")?;
-    let want = b"A=old;^D=;@=/b;@D=;@F=b;<=;<D=;<F=;^=;^F=;+=;+D=;+F=;?=;?D=;?F=;*=;*D=;*F=;|=;";
+    let want = b"A=old;@=/b;@D=;@F=b;<=;<D=;<F=;^=;^D=;^F=;+=;+D=;+F=;?=;?D=;?F=;*=;*D=;*F=;|=;";
     assert_eq!(rt; given.bytes(), want.as_slice());
     Ok(())
 }

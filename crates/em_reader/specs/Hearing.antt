@@ -3,17 +3,16 @@
 --     heard_head p text    that of a rule's head: what stands before the function that is refused is known
 --     hear p s             the texts of a statement: one, or a name and a value, or the two sides of a condition
 -- A refusal is kept, since another construct to its left may be refused before it. Every other fault of an expansion ends the reading.
-use Rattle.std.specs.Prelude.{ℕ, Bool, true, false, List, [], ◌∷◌, ◌++◌, map, Option, Some, None, option_map, Result, Ok, Err, if◌then◌else◌}
-use Rattle.std.specs.Option.{option_or}
+use Rattle.std.specs.Prelude.{ℕ, Bool, List, [], ◌∷◌, ◌++◌, map, Option, Some, None, Result, Ok, Err, if◌then◌else◌}
 use Rattle.em_base.specs.declared.place.Place.{Place}
 use Rattle.em_refs.specs.Parts.{parted, source, left}
-use Rattle.em_view.specs.Steps.{Steps, with_state, with_part, done, within}
+use Rattle.em_view.specs.Steps.{Steps, with_state, done, within}
 use Rattle.em_view.specs.Do.{◌>>=◌}
 use Rattle.em_expand.specs.declared.no.ExpandNo.{ExpandNo}
 use Rattle.em_expand.specs.declared.no.ExpandNo.TheVariants as no
 use Rattle.em_expand.specs.declared.spoken.Spoken.{Spoken}
 use Rattle.em_expand.specs.Expansion.{expansion}
-use Rattle.em_vars.specs.Entries.{Entries, value_of}
+use Rattle.em_vars.specs.Entries.{value_of}
 use Rattle.em_statement.specs.declared.assignment.Assignment.{Assignment}
 use Rattle.em_statement.specs.declared.condition.Condition.{Condition}
 use Rattle.em_statement.specs.declared.condition.Condition.TheVariants.{Same, Different, Defined, Undefined, Malformed}

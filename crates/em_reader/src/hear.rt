@@ -8,7 +8,7 @@ ghost use Rattle.em_view.specs.Performs as performs;
 ghost use Rattle.em_view.specs.Steps.{Does};
 
 use em_base::{NoMemory, Place, Seq, Span, Text};
-use em_expand::{ExpandNo, expand};
+use em_expand::{ExpandNo, Layers, expand};
 use em_lines::add_reference;
 use em_reading::{Expanded, Heard, ReadNo, Reading, expand_fault, is_expanded};
 use em_refs::{Part, Parted, parts_before};
@@ -72,11 +72,11 @@ pub(crate) fn heard<V: View>(
     ensures { Does is_free V.tells desk.old desk.new reading.old reading.new result
         (hearing.heard place.now text.now) }
 {
-    let vars = &reading.book.vars;
+    let shared = &reading.book.vars;
     match expand(
         alloc,
         text,
-        vars,
+        &Layers { shared, own: &[] },
         &reading.cwd,
         place,
         desk,

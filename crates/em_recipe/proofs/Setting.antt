@@ -6,17 +6,19 @@ use Rattle.std.specs.Str.{bytes_eq}
 use Rattle.std.proofs.lemmas.Slice.Eq.{bytes_eq-Decides}
 use Rattle.std.proofs.lemmas.List.Elements.{All-from_recursion, recursion_from_All}
 use Rattle.em_base.proofs.Lemmas.{by_cases}
+use Rattle.em_vars.specs.declared.var.Var.{Var}
 use Rattle.em_vars.specs.Entries.{Entries, value_of, with_value}
 use Rattle.em_vars.proofs.Named.{set_own, set_other}
 use Rattle.em_plan.specs.declared.planned.PlanJob.{PlanJob}
-use Rattle.em_recipe.specs.Automatic.{automatic, texts, with_all, with_automatic}
+use Rattle.em_expand.specs.Layered.{automatic, with_own}
+use Rattle.em_recipe.specs.Automatic.{texts, with_automatic}
 
 abbrev Named : Type 0
 Named = List ℕ × List ℕ
 
-all_other : (vars : Entries) (ps : List Named) (n : List ℕ) → AllByRecursion (λ p. p.0 ≢ n) ps → value_of (with_all vars ps) n ≡ value_of vars n
+all_other : (vars : Entries) (ps : List Named) (n : List ℕ) → AllByRecursion (λ p. p.0 ≢ n) ps → value_of (with_own vars ps) n ≡ value_of vars n
 all_other vars [] n ne = refl
-all_other vars (p ∷ ps) n ne = all_other (with_value vars p.0 (automatic p.1)) ps n ne.1 ∙ set_other vars p.0 n (automatic p.1) ne.0
+all_other vars (p ∷ ps) n ne = set_other (with_own vars ps) p.0 n (automatic p.1) ne.0 ∙ all_other vars ps n ne.1
 
 -- no two have the same name
 abbrev apart : List Named → Bool
@@ -29,14 +31,22 @@ others_are n (q ∷ qs) none = by_cases (bytes_eq q.0 n) (λ b. bytes_eq q.0 n �
     (λ _ _ bad. absurd cc)
     (λ _ differs rest. (λ same. let is = (bytes_eq-Decides q.0 n).1 same in let bad : true ≡ false = sym is ∙ differs in cc, others_are n qs rest)) refl none
 
-all_own : (vars : Entries) (ps : List Named) → apart ps ≡ true → AllByRecursion (λ p. value_of (with_all vars ps) p.0 ≡ Some (automatic p.1)) ps
+-- what is known of names stays so where another name is set
+abbrev Known : Entries → List Named → Type 0
+Known es ps = AllByRecursion (λ p. value_of es p.0 ≡ Some (automatic p.1)) ps
+
+still : (es : Entries) (n : List ℕ) (v : Var) (ps : List Named) → AllByRecursion (λ q. q.0 ≢ n) ps → Known es ps → Known (with_value es n v) ps
+still es n v [] ne known = tt
+still es n v (q ∷ qs) ne known = (set_other es n q.0 v (λ e. ne.0 (sym e)) ∙ known.0, still es n v qs ne.1 known.1)
+
+all_own : (vars : Entries) (ps : List Named) → apart ps ≡ true → Known (with_own vars ps) ps
 all_own vars [] single = tt
 all_own vars (p ∷ ps) single = by_cases (list_any (λ q. bytes_eq q.0 p.0) ps)
-    (λ b. list_any (λ q. bytes_eq q.0 p.0) ps ≡ b → (not b && apart ps) ≡ true → AllByRecursion (λ p'. value_of (with_all (with_value vars p.0 (automatic p.1)) ps) p'.0 ≡ Some (automatic p'.1)) (p ∷ ps))
+    (λ b. list_any (λ q. bytes_eq q.0 p.0) ps ≡ b → (not b && apart ps) ≡ true → Known (with_value (with_own vars ps) p.0 (automatic p.1)) (p ∷ ps))
     (λ _ _ bad. absurd cc)
     (λ _ none rest. (
-      all_other (with_value vars p.0 (automatic p.1)) ps p.0 (others_are p.0 ps none) ∙ set_own vars p.0 (automatic p.1),
-      all_own (with_value vars p.0 (automatic p.1)) ps rest,
+      set_own (with_own vars ps) p.0 (automatic p.1),
+      still (with_own vars ps) p.0 (automatic p.1) ps (others_are p.0 ps none) (all_own vars ps rest),
     )) refl single
 
 pub own_texts : (vars : Entries) (job : PlanJob) (newer : List (List ℕ)) → All (λ p. value_of (with_automatic vars job newer) p.0 ≡ Some (automatic p.1)) (texts job newer)

@@ -1,15 +1,13 @@
 -- The automatic variables of a job, as GNU make's manual names them.
 --     texts job newer             their names and texts, in order. `newer` are the names that make remaking due
 --     with_automatic vars ..      the variables with them
-use Rattle.std.specs.Prelude.{ℕ, ◌-◌, ◌==◌, not, false, List, [], ◌∷◌, ◌++◌, length, map, take, get_or, codes, if◌then◌else◌}
+use Rattle.std.specs.Prelude.{ℕ, ◌-◌, ◌==◌, not, List, [], ◌∷◌, ◌++◌, length, map, take, get_or, codes, if◌then◌else◌}
 use Rattle.std.specs.List.{filter}
 use Rattle.std.specs.Str.{bytes_eq}
 use Rattle.em_wordlist.specs.Words.{words_of, joined}
 use Rattle.em_namefn.specs.Names.{file_of}
-use Rattle.em_vars.specs.declared.var.Var.{Var}
-use Rattle.em_vars.specs.declared.var.Flavour.TheVariants as flavour
-use Rattle.em_vars.specs.declared.var.Origin.TheVariants as origin
-use Rattle.em_vars.specs.Entries.{Entries, with_value}
+use Rattle.em_vars.specs.Entries.{Entries}
+use Rattle.em_expand.specs.Layered.{with_own}
 use Rattle.em_plan.specs.declared.planned.Pre.{Pre}
 use Rattle.em_plan.specs.declared.planned.PlanJob.{PlanJob}
 
@@ -46,12 +44,5 @@ texts job newer =
     ++ with_parts 42 job.stem
     ++ (codes "|", joined (names_of job.order)) ∷ []
 
-abbrev pub automatic : List ℕ → Var
-automatic text = record { flavour = flavour.Simple; origin = origin.Automatic; text = text; exported = false }
-
-abbrev pub with_all : Entries → List (List ℕ × List ℕ) → Entries
-with_all vars [] = vars
-with_all vars (p ∷ ps) = with_all (with_value vars p.0 (automatic p.1)) ps
-
 unfoldable pub with_automatic : Entries → PlanJob → List (List ℕ) → Entries
-with_automatic vars job newer = with_all vars (texts job newer)
+with_automatic vars job newer = with_own vars (texts job newer)

@@ -1,13 +1,14 @@
 //! The automatic variables.
-ghost use Rattle.std.specs.Prelude.{◌≡◌, ◌==◌, ◌≤◌, ◌∷◌, [], not, length, map, IfOk, OnOk};
+ghost use Rattle.std.specs.Prelude.{◌≡◌, ◌==◌, ◌≤◌, ◌∷◌, ◌++◌, [], not, codes, length, map, IfOk, OnOk};
 ghost use Rattle.std.specs.List.{suffix_len};
 ghost use Rattle.em_wordlist.specs.Words.{words_of, joined};
 ghost use Rattle.em_namefn.specs.Names.{file_of};
-ghost use Rattle.em_recipe.specs.Automatic.{once, names_of, dir_part, with_parts, normal_texts, with_all, with_automatic};
+ghost use Rattle.em_recipe.specs.Automatic.{once, names_of, dir_part, with_parts, normal_texts};
+ghost use Rattle.em_recipe.specs.Automatic as automatic;
 
-use em_base::{NoMemory, Table, Text};
+use em_base::{NoMemory, Seq, Table, Text};
+use em_expand::OwnVar;
 use em_plan::{PlanJob, Pre};
-use em_vars::{Flavour, Origin, Var, Vars};
 use em_wordlist::{join, texts};
 use std::alloc::Global;
 
@@ -73,28 +74,24 @@ fn once<'a>(alloc: Global, names: &[&'a [u8]]) -> Result<Vec<&'a [u8]>, NoMemory
     Ok(first)
 }
 
-/// Sets an automatic variable.
-fn set(alloc: Global, vars: &mut Vars, name: &[u8], text: Text) -> Result<(), NoMemory>
-    ensures { OnOk result (vars.new ≡ with_all vars.old ((name.now, text) ∷ [])) }
-{
-    let automatic = Var {
-        flavour: Flavour::Simple,
-        origin: Origin::Automatic,
-        text,
-        exported: false,
-    };
-    vars.set(Text::from_slice(alloc, name)?, automatic)?;
-    Ok(())
-}
-
-/// Sets an automatic variable, and those of the directories and of the files of its words.
-fn set_with_parts(alloc: Global, vars: &mut Vars, name: u8, text: Text) -> Result<(), NoMemory>
-    ensures { OnOk result (vars.new ≡ with_all vars.old (with_parts name text)) }
+/// Adds an automatic variable of the first name, and its forms for the directories and for the files of its words.
+fn add_forms(
+    alloc: Global,
+    own: &mut Seq<OwnVar>,
+    whole: &'static [u8],
+    in_directories: &'static [u8],
+    in_files: &'static [u8],
+    text: Text,
+) -> Result<(), NoMemory>
+    ensures { OnOk result (own.new ≡ own.old ++ (whole.now, text)
+        ∷ (in_directories.now, joined (map dir_part (words_of text)))
+        ∷ (in_files.now, joined (map file_of (words_of text))) ∷ []) }
 {
     let Parts { directories, files } = parts_of(alloc, text.bytes())?;
-    set(alloc, vars, &[name], text)?;
-    set(alloc, vars, &[name, b'D'], directories)?;
-    set(alloc, vars, &[name, b'F'], files)
+    own.push(OwnVar::new(whole, text))?;
+    own.push(OwnVar::new(in_directories, directories))?;
+    own.push(OwnVar::new(in_files, files))?;
+    Ok(())
 }
 
 /// The names of prerequisites.
@@ -119,37 +116,56 @@ fn bytes_of(alloc: Global, texts: &[Text]) -> Result<Vec<&[u8]>, NoMemory>
     Ok(all)
 }
 
-/// Sets the automatic variables that tell of normal prerequisites: `$<`, `$^` and `$+`.
-fn set_normal(alloc: Global, vars: &mut Vars, names: &[&[u8]]) -> Result<(), NoMemory>
-    ensures { OnOk result (vars.new
-        ≡ with_all vars.old (normal_texts (map (λ n. n.now) names.now))) }
+/// Adds the automatic variables that tell of normal prerequisites: `$<`, `$^` and `$+`.
+fn add_normal(alloc: Global, own: &mut Seq<OwnVar>, names: &[&[u8]]) -> Result<(), NoMemory>
+    ensures { OnOk result (own.new ≡ own.old ++ normal_texts (map (λ n. n.now) names.now)) }
 {
     let first = match names.first() {
         Some(name) => Text::from_slice(alloc, name)?,
         None => Text::new(alloc),
     };
-    set_with_parts(alloc, vars, b'<', first)?;
-    set_with_parts(alloc, vars, b'^', join(alloc, &once(alloc, names)?)?)?;
-    set_with_parts(alloc, vars, b'+', join(alloc, names)?)
+    add_forms(alloc, own, b"<", b"<D", b"<F", first)?;
+    let single = join(alloc, &once(alloc, names)?)?;
+    add_forms(alloc, own, b"^", b"^D", b"^F", single)?;
+    add_forms(alloc, own, b"+", b"+D", b"+F", join(alloc, names)?)
 }
 
-/// The variables with the automatic ones of a job; these names are what made its remaking due. The variables are copied once;
-/// steps for each byte of the names, and a search for each name.
-pub fn with_automatic(
-    alloc: Global,
-    vars: &Vars,
-    job: &PlanJob,
-    newer: &[Text],
-) -> Result<Vars, NoMemory>
-    ensures { IfOk result (λ v. v ≡ with_automatic vars.now job.now newer.now) }
+/// Adds `$@` and what tells of normal prerequisites.
+fn add_first(alloc: Global, own: &mut Seq<OwnVar>, job: &PlanJob) -> Result<(), NoMemory>
+    ensures { OnOk result (own.new ≡ own.old ++ with_parts 64 job.now.target
+        ++ normal_texts (names_of job.now.normal)) }
 {
-    let mut vars = vars.copy(alloc)?;
-    set_with_parts(alloc, &mut vars, b'@', job.target.copy(alloc)?)?;
-    set_normal(alloc, &mut vars, &names(alloc, job.normal.items())?)?;
+    add_forms(alloc, own, b"@", b"@D", b"@F", job.target.copy(alloc)?)?;
+    add_normal(alloc, own, &names(alloc, job.normal.items())?)
+}
+
+/// Adds `$?`, of names that made remaking due.
+fn add_newer(alloc: Global, own: &mut Seq<OwnVar>, newer: &[Text]) -> Result<(), NoMemory>
+    ensures { OnOk result (own.new ≡ own.old ++ with_parts 63 (joined (once newer.now))) }
+{
     let newer = once(alloc, &bytes_of(alloc, newer)?)?;
-    set_with_parts(alloc, &mut vars, b'?', join(alloc, &newer)?)?;
-    set_with_parts(alloc, &mut vars, b'*', job.stem.copy(alloc)?)?;
+    add_forms(alloc, own, b"?", b"?D", b"?F", join(alloc, &newer)?)
+}
+
+/// Adds `$*` and `$|`.
+fn add_last(alloc: Global, own: &mut Seq<OwnVar>, job: &PlanJob) -> Result<(), NoMemory>
+    ensures { OnOk result (own.new ≡ own.old ++ with_parts 42 job.now.stem
+        ++ (codes "|", joined (names_of job.now.order)) ∷ []) }
+{
+    add_forms(alloc, own, b"*", b"*D", b"*F", job.stem.copy(alloc)?)?;
     let order = names(alloc, job.order.items())?;
-    set(alloc, &mut vars, b"|", join(alloc, &order)?)?;
-    Ok(vars)
+    own.push(OwnVar::new(b"|", join(alloc, &order)?))?;
+    Ok(())
+}
+
+/// The automatic variables of a job; these names are what made its remaking due. Steps for each byte of the names, and a search
+/// for each name.
+pub fn automatic_vars(alloc: Global, job: &PlanJob, newer: &[Text]) -> Result<Seq<OwnVar>, NoMemory>
+    ensures { IfOk result (λ own. own ≡ automatic.texts job.now newer.now) }
+{
+    let mut own = Seq::new(alloc);
+    add_first(alloc, &mut own, job)?;
+    add_newer(alloc, &mut own, newer)?;
+    add_last(alloc, &mut own, job)?;
+    Ok(own)
 }

@@ -7,7 +7,8 @@ ghost use Rattle.em_plan.specs.declared.planned.PlanJob.{PlanJob};
 ghost use Rattle.em_recipe.specs.declared.mark.Marks.{Marks};
 ghost use Rattle.em_recipe.specs.Marks.{marks, bare, either, Includes};
 ghost use Rattle.em_recipe.specs.Commands.{split, commands_of};
-ghost use Rattle.em_recipe.specs.Automatic.{once, texts, automatic, with_automatic};
+ghost use Rattle.em_expand.specs.Layered.{automatic};
+ghost use Rattle.em_recipe.specs.Automatic.{once, texts, with_automatic};
 
 /// Both marks together are the least that has each mark of the one and of the other.
 pub fn law_either()

@@ -8,7 +8,7 @@ pub mod laws;
 mod mark;
 mod message;
 
-pub use automatic::with_automatic;
+pub use automatic::automatic_vars;
 pub use command::{Command, commands};
 pub use mark::{Marks, bare, marks_of};
 pub use message::{

@@ -5,6 +5,7 @@ use Rattle.em_expand.specs.declared.no.ExpandNo.TheVariants as no
 use Rattle.em_expand.specs.Table.{row_of}
 use Rattle.em_expand.specs.Calls.{call_seen, substitution_seen}
 use Rattle.em_expand.specs.Values.{plain, recursive}
+use Rattle.em_expand.specs.Layered.{entries_of}
 use Rattle.em_expand.specs.Scopes.{frames_of}
 use Rattle.em_expand.specs.Expansion.{setting_of, expand_text, reference, named, choose, foreach}
 use Rattle.em_expand.proofs.Making.{given_s, as_text, as_inner, as_name, as_variable, as_call, one_more, ok_same, part_stop, part_more, part_end, until_stop, until_ends, until_more, until_end, turn_unpaid, turn_lost, turn_stop, turn_more, turn_end, argument_stop, argument_lost, argument_more, argument_end, few_args, enough_args}
@@ -117,18 +118,18 @@ named-returns-in_err-name g t c = leave_s _ c.from_residual.ensures.1 (rw c.new-
 pub named-returns-in-None : goal.named-returns-in-None
 unfolding named
 named-returns-in-None g t c = then_s _ (rw c.new-empty.ensures at c.in_ok-name.ensures)
-    (as_name (expand_text c.args.left (setting_of c.args.setting.now)) c.args.setting.now.vars.now (frames_of c.args.scope.now) c.args.setting.now.cwd.now c.args.setting.now.place.now c.in_ok-name.name c.args.out None (rw c.bytes.ensures at c.in-None.ensures) (rw c.bytes-in-None.ensures at c.variable.ensures))
+    (as_name (expand_text c.args.left (setting_of c.args.setting.now)) (entries_of c.args.setting.now.vars.now) (frames_of c.args.scope.now) c.args.setting.now.cwd.now c.args.setting.now.place.now c.in_ok-name.name c.args.out None (rw c.bytes.ensures at c.in-None.ensures) (rw c.bytes-in-None.ensures at c.variable.ensures))
 
 pub named-returns-in_err-value-in-Some : goal.named-returns-in_err-value-in-Some
 unfolding named
 named-returns-in_err-value-in-Some g t c = then_s _ (rw c.new-empty.ensures at c.in_ok-name.ensures)
-    (as_name (expand_text c.args.left (setting_of c.args.setting.now)) c.args.setting.now.vars.now (frames_of c.args.scope.now) c.args.setting.now.cwd.now c.args.setting.now.place.now c.in_ok-name.name c.args.out (Some (substitution_seen c.in-Some.parts)) (rw c.bytes.ensures at c.in-Some.ensures)
+    (as_name (expand_text c.args.left (setting_of c.args.setting.now)) (entries_of c.args.setting.now.vars.now) (frames_of c.args.scope.now) c.args.setting.now.cwd.now c.args.setting.now.place.now c.in_ok-name.name c.args.out (Some (substitution_seen c.in-Some.parts)) (rw c.bytes.ensures at c.in-Some.ensures)
     (leave_s _ c.from_residual-in_err-value-in-Some.ensures.1 (rw c.new-none.ensures at c.in_err-value-in-Some.ensures)))
 
 pub named-returns : goal.named-returns
 unfolding named
 named-returns g t c = then_s _ (rw c.new-empty.ensures at c.in_ok-name.ensures)
-    (as_name (expand_text c.args.left (setting_of c.args.setting.now)) c.args.setting.now.vars.now (frames_of c.args.scope.now) c.args.setting.now.cwd.now c.args.setting.now.place.now c.in_ok-name.name c.args.out (Some (substitution_seen c.in-Some.parts)) (rw c.bytes.ensures at c.in-Some.ensures)
+    (as_name (expand_text c.args.left (setting_of c.args.setting.now)) (entries_of c.args.setting.now.vars.now) (frames_of c.args.scope.now) c.args.setting.now.cwd.now c.args.setting.now.place.now c.in_ok-name.name c.args.out (Some (substitution_seen c.in-Some.parts)) (rw c.bytes.ensures at c.in-Some.ensures)
     (then_s _ (rw c.new-none.ensures at c.in_ok-value-in-Some.ensures) (given_s _ c.substituted.ensures)))
 
 pub variable-returns-in-Bound : goal.variable-returns-in-Bound

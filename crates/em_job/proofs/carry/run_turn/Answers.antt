@@ -4,8 +4,8 @@ use Rattle.em_job.proofs.carry.run_turn.Goals as goal
 
 pub returns-in_err-next : goal.returns-in_err-next
 unfolding turn_of
-returns-in_err-next g c = leave_s _ c.from_residual.ensures.1 c.in_err-next.ensures
+returns-in_err-next g c = leave_s _ c.from_residual.ensures.1 (rw c.items-autos.ensures at c.in_err-next.ensures)
 
 pub returns : goal.returns
 unfolding turn_of
-returns g c = then_s _ c.in_ok-next.ensures c.after_line.ensures
+returns g c = then_s _ (rw c.items-autos.ensures at c.in_ok-next.ensures) c.after_line.ensures

@@ -14,14 +14,14 @@ loop-i-init g c = let e : c.in_ok-env.env â‰¡ [] = ok_is (sym c.in_ok-env.was âˆ
 pub returns-in_err-env-2 : goal.returns-in_err-env-2
 unfolding environment
 returns-in_err-env-2 g c =
-    let next = next_entry c.args.vars.now c.loop-i.i (rw c.len-i-end.ensures.len at c.loop-i-test.true) in
+    let next = next_entry c.args.job.now.vars c.loop-i.i (rw (c.len-i-end.ensures.len, c.vars.ensures) at c.loop-i-test.true) in
     stop_s _ (rw next.1.1 at c.loop-i.invariant) c.from_residual-in_err-env-2.ensures.1 (rw next.1.0 at c.in_err-env-2.ensures)
 
 pub loop-i-preserved : goal.loop-i-preserved
 loop-i-preserved g c =
-    let next = next_entry c.args.vars.now c.loop-i.i (rw c.len-i-end.ensures.len at c.loop-i-test.true) in
+    let next = next_entry c.args.job.now.vars c.loop-i.i (rw (c.len-i-end.ensures.len, c.vars.ensures) at c.loop-i-test.true) in
     more_s _ (rw next.1.1 at c.loop-i.invariant) (rw next.1.0 at c.in_ok-env-2.ensures)
 
 pub returns : goal.returns
 unfolding environment
-returns g c = end_s (rw (none_at c.args.vars.now c.loop-i.i (rw c.len-i-end.ensures.len at c.loop-i-test.false)) at c.loop-i.invariant) finish_s
+returns g c = end_s (rw (none_at c.args.job.now.vars c.loop-i.i (rw (c.len-i-end.ensures.len, c.vars.ensures) at c.loop-i-test.false)) at c.loop-i.invariant) finish_s
