@@ -7,6 +7,3 @@ mod no;
 
 pub use nest::{Branch, Conditional, Nest};
 pub use no::CondNo;
-
-#[cfg(test)]
-mod tests;

@@ -5,6 +5,3 @@ mod makefile;
 mod tree;
 
 pub use tree::project;
-
-#[cfg(test)]
-mod tests;

@@ -10,6 +10,3 @@ mod text;
 
 pub use history::History;
 pub use name::is_name;
-
-#[cfg(test)]
-mod tests;

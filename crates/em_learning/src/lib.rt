@@ -9,6 +9,3 @@ mod waits;
 pub use pairs::learnt;
 pub use telling::report_of;
 pub use waits::waits_with;
-
-#[cfg(test)]
-mod tests;

@@ -14,6 +14,3 @@ pub use no::ReportNo;
 pub use reading::read;
 pub use report::{CauseWord, Report, ReportLine};
 pub use writing::write;
-
-#[cfg(test)]
-mod tests;

@@ -1,0 +1,13 @@
+//! Tests of small parts: conditionals, generated projects, histories, reports and what is learnt.
+#![tactic(auto)]
+
+#[cfg(test)]
+mod cond;
+#[cfg(test)]
+mod generated;
+#[cfg(test)]
+mod history;
+#[cfg(test)]
+mod learning;
+#[cfg(test)]
+mod report;

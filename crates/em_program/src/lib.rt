@@ -1,0 +1,17 @@
+//! The whole program over a host: from its words to its exit status.
+#![tactic(auto)]
+
+mod build;
+mod closing;
+mod count;
+mod ending;
+mod messages;
+mod project;
+mod say;
+mod site;
+mod stop;
+mod top;
+mod verdict;
+mod words;
+
+pub use top::{Ended, emake, law_alone, law_history, law_one_build, program};

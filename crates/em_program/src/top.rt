@@ -1,0 +1,168 @@
+//! The top call: what the program does.
+ghost use Rattle.std.specs.Prelude.{◌≡◌, ◌≢◌, ◌⊎◌, All, List, [], length, take};
+ghost use Rattle.em_host.specs.Outside.{Files, Tells};
+ghost use Rattle.em_host.specs.Faults.{next_count};
+ghost use Rattle.em_tree.specs.declared.state.State.{State};
+ghost use Rattle.em_history.specs.Histories.{Pair, IsHistory, united};
+ghost use Rattle.em_learning.specs.Learnt as shown;
+ghost use Rattle.em_plan.specs.declared.planned.PlanJob.{PlanJob};
+ghost use Rattle.em_engine.specs.declared.note.Note.{Note};
+ghost use Rattle.em_workers.specs.Builds.{IsOnce};
+ghost use Rattle.em_workers.specs.Notes.{AreNotes};
+ghost use Rattle.em_run.specs.Serial.{Made, Ran, IsSerial};
+ghost use Rattle.em_task.specs.declared.job.Job.{Job};
+ghost use Rattle.em_job.specs.Effects.{Makes};
+ghost use Rattle.em_program.specs.Course.{faults_after};
+ghost use Rattle.em_program.specs.Endings.{verdict_in, notes_in};
+ghost use Rattle.em_program.specs.Headline.{Headline, Exits, Reaches, exit_status};
+ghost use Rattle.em_program.specs.Projects.{IsUntouched};
+ghost use Rattle.em_program.specs.Serial.{ends};
+ghost use Rattle.em_program.specs.declared.site.Site.{Site};
+ghost use Rattle.em_program.specs.Words.{words_of};
+
+use crate::build::Finished;
+use crate::count::{count, work};
+use crate::site::site_of;
+use crate::stop::Stop;
+use crate::words::{behind_first, given_words};
+use em_base::{NoMemory, Seq, Text};
+use em_engine::Note;
+use em_history::laws::{law_one_history, law_united};
+use em_host::Host;
+use em_job::JobSpec;
+use em_job::laws::law_one_effect;
+use em_run::law_one_run;
+use std::alloc::Global;
+use std::env::Args;
+use std::io;
+use std::sync::Wait;
+use std::thread::Threads;
+
+/// How a run ended.
+#[derive(Debug, Drop, PartialEq, Eq)]
+pub struct Ended {
+    /// 0: nothing went wrong. 1: `-q` was given, and something is to be made. 2: a fault. 3: the host failed.
+    /// 4: a construct was refused. 5: fuel was spent. 7: memory ran out.
+    pub status: u8,
+    /// One for each job of the serial run, in order: in how many runs it came to be committed, and why in two.
+    /// None where there is no build, and at 3 and 7.
+    pub notes: Seq<Note>,
+}
+
+/// The run, from the words to its end.
+fn run<R: Threads + Wait + Sync, H: Host>(
+    rt: &R,
+    alloc: Global,
+    words: &[Text],
+    host: &mut H,
+) -> Result<Finished, Stop>
+    ensures told { Tells (Reaches words.now result) (H.told host.old) (H.told host.new) }
+    ensures faults { H.faults host.new ≡ faults_after result (H.faults host.old) }
+{
+    let site = site_of(alloc, words, host)?;
+    match site.order.generate {
+        None => work(rt, alloc, site, host),
+        Some(_) => count(rt, alloc, site, host),
+    }
+}
+
+fn exit_status(answer: &Result<Finished, Stop>) -> u8
+    ensures { result ≡ exit_status (verdict_in answer.now) }
+{
+    match answer {
+        Ok(finished) => finished.verdict.code(),
+        Err(Stop::End(verdict)) => verdict.code(),
+        Err(Stop::Failed) => 3,
+        Err(Stop::NoMemory) => 7,
+    }
+}
+
+/// The notes, none where the run broke off.
+fn notes_in(alloc: Global, answer: Result<Finished, Stop>) -> Seq<Note>
+    ensures { result ≡ notes_in answer }
+{
+    match answer {
+        Ok(finished) => finished.notes,
+        Err(_) => Seq::new(alloc),
+    }
+}
+
+/// Does all that the program does, in this order: reads the words, the image, the history and the makefiles, plans, runs the
+/// jobs, says the closing text and replaces the image, the history and the report. A generated project is built
+/// beside the host: only a summary is said, and nothing is replaced.
+///
+/// Over a host that tells its files and what was printed, and with a status other than 3 and 7, the printed
+/// bytes grew by exactly what the serial run says, the image is the serial run's, and so is the status, for every
+/// number of workers that the words order, and whatever the history tells (`law_history`). The history and the report tell the
+/// notes. At 3 and 7 a front of this was done. No other file is touched. Status 3 comes only where a call on the host
+/// failed, and where one failed the status is 3 or 7 and nothing more is called.
+///
+/// Over such a host a job's note has one run, or two and why: its first run was answered otherwise than the serial
+/// run is, isn't what the board was asked, is another job's, or was given up for want of memory. With one worker each
+/// note has one run. With more the call may wait.
+///
+/// Besides the jobs themselves it takes time linear in the image, in the history, in what is read of makefiles and in the
+/// plan, with searches by name or path for each name and each change, and a sort of the pairs that were learnt; with
+/// more than one worker also what a board takes of them.
+pub fn emake<R: Threads + Wait + Sync, H: Host>(
+    rt: &R,
+    alloc: Global,
+    words: &[Text],
+    host: &mut H,
+) -> Ended
+    ensures headline { Tells (Headline words.now result.status result.notes)
+        (H.told host.old) (H.told host.new) }
+    ensures cause { result.status ≡ 3 → H.faults host.new ≡ next_count (H.faults host.old) }
+    ensures effect { H.faults host.new ≢ H.faults host.old
+        → (result.status ≡ 3) ⊎ (result.status ≡ 7) }
+    ensures none { (result.status ≡ 3) ⊎ (result.status ≡ 7) → result.notes ≡ [] }
+{
+    let answer = run(rt, alloc, words, host);
+    let status = exit_status(&answer);
+    let notes = notes_in(alloc, answer);
+    Ended { status, notes }
+}
+
+/// Jobs have one serial run at most, and jobs that have run so are a front of it.
+pub fn law_one_build()
+    ensures front { (start : State) (jobs : List Job) (a b : List Made)
+        → Ran Makes ends start jobs a → IsSerial Makes ends start jobs b → a ≡ take (length a) b }
+    ensures one { (start : State) (jobs : List Job) (a b : List Made)
+        → IsSerial Makes ends start jobs a → IsSerial Makes ends start jobs b → a ≡ b }
+{
+    law_one_effect();
+    law_one_run::<JobSpec>();
+}
+
+/// Where each job was run once, as with one worker, nothing is learnt, and a history that is merged with what was learnt is as it was.
+pub fn law_alone()
+    ensures none { (jobs : List PlanJob) (s : State) (made : List Made) (notes : List Note)
+        → AreNotes s [] made notes → All IsOnce notes → shown.learnt jobs notes ≡ [] }
+    ensures still { (ps : List Pair) → IsHistory ps → united ps [] ≡ ps }
+{
+    law_united();
+    law_one_history();
+}
+
+/// A history changes nothing of what there is to build but what jobs wait for: not what is said on the way, the order, the plan, the jobs
+/// or the tree from which they start.
+pub fn law_history()
+    ensures { (s : Site) (old : List Pair) (files : Files) → IsUntouched s old files }
+{}
+
+/// The program, from the words that the system gives to the exit status.
+pub fn program<R: Threads + Wait + Sync, H: Host>(
+    rt: &R,
+    alloc: Global,
+    args: io::Result<Args>,
+    host: &mut H,
+) -> u8
+    ensures headline { Tells (Exits (words_of args) result) (H.told host.old) (H.told host.new) }
+    ensures cause { result ≡ 3 → H.faults host.new ≡ next_count (H.faults host.old) }
+    ensures effect { H.faults host.new ≢ H.faults host.old → (result ≡ 3) ⊎ (result ≡ 7) }
+{
+    match given_words(alloc, args) {
+        Ok(words) => emake(rt, alloc, behind_first(words.items()), host).status,
+        Err(NoMemory) => 7,
+    }
+}

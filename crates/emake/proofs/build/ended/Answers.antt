@@ -1,4 +1,0 @@
-use Rattle.emake.proofs.build.ended.Goals as goal
-
-pub returns-clause-told : goal.returns-clause-told
-returns-clause-told g c = rw (c.has_ended-early.ensures, c.items.ensures) at c.finish.ensures.told

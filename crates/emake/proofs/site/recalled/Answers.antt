@@ -1,5 +1,0 @@
-use Rattle.emake.proofs.Following.{finish}
-use Rattle.emake.proofs.site.recalled.Goals as goal
-
-pub returns-in-Create-clause-told : goal.returns-in-Create-clause-told
-returns-in-Create-clause-told g c = rw (c.in-Create.is, c.new.ensures) finish
