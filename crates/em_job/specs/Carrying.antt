@@ -102,21 +102,21 @@ hand_over j autos p env name v = do
   t ← handed_text j autos p v
   done (put env name (simple v t))
 
-abbrev pub hand : Job → Autos → Place → Entries → List ℕ → Var → Acts Entries
-hand j autos p env name v = if is_handed v then hand_over j autos p env name v else done env
+-- whether a shell gets a variable of makefiles: an automatic one of its name hides it, and isn't handed over itself
+abbrev pub is_given : Autos → List ℕ → Var → Bool
+is_given autos name v = is_handed v && not (is_some (own_text autos name))
 
--- a variable of makefiles: an automatic one of its name hides it, and isn't handed over itself
-abbrev pub hand_shared : Job → Autos → Place → Entries → List ℕ → Var → Acts Entries
-hand_shared j autos p env name v = if is_some (own_text autos name) then done env else hand j autos p env name v
+abbrev pub hand : Job → Autos → Place → Entries → List ℕ → Var → Acts Entries
+hand j autos p env name v = if is_given autos name v then hand_over j autos p env name v else done env
 
 abbrev pub hand_entry : Job → Autos → Place → Entries → Option (List ℕ × Var) → Acts Entries
 hand_entry j autos p env None = done env
-hand_entry j autos p env (Some e) = hand_shared j autos p env e.0 e.1
+hand_entry j autos p env (Some e) = hand j autos p env e.0 e.1
 
 abbrev pub environment_from : Job → Autos → Place → Entries → Entries → Acts Entries
 environment_from j autos p [] env = done env
 environment_from j autos p (e ∷ es) env = do
-  next ← hand_shared j autos p env e.0 e.1
+  next ← hand j autos p env e.0 e.1
   environment_from j autos p es next
 
 unfoldable pub environment : Job → Autos → Place → Acts Entries

@@ -67,7 +67,14 @@ fn put(alloc: Global, env: &mut Vars, name: &[u8], var: &Var, text: Text) -> Res
     Ok(())
 }
 
-/// The shell's variables with this one, where it is handed over.
+/// Whether a shell gets a variable of makefiles: an automatic one of its name hides it.
+fn is_given(autos: &[OwnVar], name: &[u8], var: &Var) -> bool
+    ensures { result ≡ carrying.is_given autos.now name.now var.now }
+{
+    is_handed(var) && own_text(autos, name).is_none()
+}
+
+/// The shell's variables with this one, where the shell gets it.
 fn hand<V: View>(
     alloc: Global,
     desk: &mut Desk<V>,
@@ -82,34 +89,13 @@ fn hand<V: View>(
     ensures { Does is_free V.tells desk.old desk.new spoken.old spoken.new result
         (carrying.hand job.now autos.now place.now env name.now var.now) }
 {
-    if !is_handed(var) {
+    if !is_given(autos, name, var) {
         return Ok(env);
     }
     let mut env = env;
     let text = handed_text(alloc, desk, spoken, job, autos, place, var)?;
     put(alloc, &mut env, name, var, text)?;
     Ok(env)
-}
-
-/// The same for a variable of makefiles, unless an automatic one hides it.
-fn hand_shared<V: View>(
-    alloc: Global,
-    desk: &mut Desk<V>,
-    spoken: &mut Spoken,
-    job: &Job,
-    autos: &[OwnVar],
-    place: &Place,
-    env: Vars,
-    name: &[u8],
-    var: &Var,
-) -> Result<Vars, Stop>
-    ensures { Does is_free V.tells desk.old desk.new spoken.old spoken.new result
-        (carrying.hand_shared job.now autos.now place.now env name.now var.now) }
-{
-    match own_text(autos, name) {
-        Some(_) => Ok(env),
-        None => hand(alloc, desk, spoken, job, autos, place, env, name, var),
-    }
 }
 
 /// The same for the variable of this number; nothing is handed over where there is none.
@@ -127,7 +113,7 @@ fn hand_entry<V: View>(
         (carrying.hand_entry job.now autos.now place.now env (slice_get job.now.vars i)) }
 {
     match job.vars.vars().at(i) {
-        Some((name, var)) => hand_shared(alloc, desk, spoken, job, autos, place, env, name, var),
+        Some((name, var)) => hand(alloc, desk, spoken, job, autos, place, env, name, var),
         None => Ok(env),
     }
 }

@@ -143,7 +143,7 @@ fn job_of(
 
 /// The specs of a plan's jobs, each with the number at which it stands.
 ///
-/// The variables are copied once and shared; each job of the plan is copied. A search for each name says whether it is phony; what
+/// The variables are copied once and shared; each job of the plan is copied once, and copies of its spec share it. A search for each name says whether it is phony; what
 /// `.SILENT` and `.IGNORE` list is gone over for each job.
 pub fn specs(
     alloc: Global,
@@ -163,7 +163,8 @@ pub fn specs(
     let mut number: u32 = 0;
     for planned in plan.jobs.items() {
         let job = job_of(alloc, book, &common, number, planned)?;
-        specs.push(JobSpec::new(job))?;
+        let spec = JobSpec::new(alloc, job)?;
+        specs.push(spec)?;
         number += 1;
     }
     Ok(specs)

@@ -1,5 +1,5 @@
 //! The spec of a job.
-ghost use Rattle.std.specs.Prelude.{◌≡◌, ◌≤◌, ◌^◌};
+ghost use Rattle.std.specs.Prelude.{◌≡◌, ◌≤◌, ◌^◌, IfOk};
 ghost use Rattle.std.specs.Cmp.{partial_equiv_from_equiv};
 ghost use Rattle.em_job.specs.Making as making;
 ghost use Rattle.em_job.specs.Effects.{Makes};
@@ -13,15 +13,18 @@ use em_task::Job;
 use em_tree::Outcome;
 use std::alloc::Global;
 use std::marker::Model;
+use std::sync::Arc;
 
-/// A job whose `base` is at most 2^62 and whose fuel is at most 1,000,000 units. Contracts see the job.
+/// A job whose `base` is at most 2^62 and whose fuel is at most 1,000,000 units. Copies share it, in any threads. Contracts see the
+/// job.
 #[derive(Drop)]
 pub struct JobSpec {
-    held: Job,
+    held: Arc<Job, Global>,
 }
 
 impl Model for JobSpec {
     ghost use Rattle.std.specs.Prelude.{◌≤◌, ◌^◌};
+    ghost use Rattle.std.specs.Arc.{arc_value};
     ghost use Rattle.em_task.specs.declared.job.Job.{Job};
     ghost use Rattle.em_task.specs.contracts.job.Job as job;
 
@@ -29,19 +32,29 @@ impl Model for JobSpec {
 
     ghost coded = { job.the_row.coded };
 
-    ghost view = { λ s. s.held };
+    ghost view = { λ s. arc_value s.held };
 
-    ghost invariant = { λ s. (s.held.base ≤ 2 ^ 62) × (s.held.fuel ≤ 1000000) };
+    ghost invariant = { λ s. ((arc_value s.held).base ≤ 2 ^ 62)
+        × ((arc_value s.held).fuel ≤ 1000000) };
 }
 
 impl JobSpec {
-    /// The spec of this job. It takes no memory.
-    pub fn new(job: Job) -> JobSpec
+    /// The spec of this job. The job isn't copied.
+    pub fn new(alloc: Global, job: Job) -> Result<JobSpec, NoMemory>
         requires base { job.base ≤ 2 ^ 62 }
         requires fuel { job.fuel ≤ 1000000 }
-        ensures { result ≡ job }
+        ensures { IfOk result (λ s. s ≡ job) }
     {
-        JobSpec { held: job }
+        let held = Arc::new(alloc, job)?;
+        Ok(JobSpec { held })
+    }
+
+    /// The same spec once more. Nothing is copied.
+    fn share(&self) -> Result<JobSpec, NoMemory>
+        ensures { IfOk result (λ s. s ≡ self.now) }
+    {
+        let held = Arc::try_clone(&self.held)?;
+        Ok(JobSpec { held })
     }
 
     /// The job.
@@ -60,7 +73,7 @@ impl PartialEq for JobSpec {
     ghost laws = { partial_equiv_from_equiv job_eq_laws.laws-law };
 
     fn eq(&self, other: &Self) -> bool {
-        self.held == other.held
+        self.get() == other.get()
     }
 }
 
@@ -78,11 +91,11 @@ impl Spec for JobSpec {
     ghost means_same = { same_meaning };
 
     fn job(&self) -> u32 {
-        self.held.job
+        self.get().job
     }
 
     fn ends(&self, o: &Outcome) -> bool {
-        let flags = self.held.flags;
+        let flags = self.get().flags;
         match o {
             Outcome::Halted { .. } | Outcome::Refused { .. } | Outcome::Spent => true,
             Outcome::Failed(_) | Outcome::NoRule => !flags.keep_going,
@@ -91,7 +104,7 @@ impl Spec for JobSpec {
         }
     }
 
-    fn copy(&self, alloc: Global) -> Result<JobSpec, NoMemory> {
-        Ok(JobSpec::new(self.held.copy(alloc)?))
+    fn copy(&self, _alloc: Global) -> Result<JobSpec, NoMemory> {
+        Ok(self.share()?)
     }
 }

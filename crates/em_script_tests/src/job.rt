@@ -153,7 +153,7 @@ fn flags(dry: bool) -> Flags {
 fn spec_of(alloc: Global, row: &Row) -> Result<JobSpec, NoMemory> {
     let vars = SharedVars::new(alloc, Vars::new(alloc)?)?;
     let plan = plan_of(alloc, row.0)?;
-    Ok(JobSpec::new(Job {
+    let job = Job {
         job: 0,
         base: 5,
         fuel: u64::from(row.2),
@@ -165,7 +165,8 @@ fn spec_of(alloc: Global, row: &Row) -> Result<JobSpec, NoMemory> {
         phony: Seq::new(alloc),
         plan,
         vars,
-    }))
+    };
+    JobSpec::new(alloc, job)
 }
 
 fn state(alloc: Global) -> Result<State, NoMemory> {

@@ -11,7 +11,7 @@ loop-planned-preserved c =
     let job = c.in_ok-job.ensures.common c.args.order.now c.args.base c.in_ok-common.ensures in
     record {
       number = ap (λ (n : ℕ). n + 1) c.loop-planned.invariant.number;
-      whole = rw (c.in_ok-push.ensures.items, c.new.ensures) (numbered c.args.book.now c.args.order.now c.args.base _ _ _ _ _ _ _ c.loop-planned.invariant.number job (rw left at c.loop-planned.invariant.whole));
+      whole = rw (c.in_ok-push.ensures.items, c.in_ok-spec.ensures) (numbered c.args.book.now c.args.order.now c.args.base _ _ _ _ _ _ _ c.loop-planned.invariant.number job (rw left at c.loop-planned.invariant.whole));
     }
 
 pub returns : goal.returns
