@@ -9,7 +9,7 @@ from fold_files import TREE, write_folds
 MODULE = 'Rattle.em_gram.'
 # A fold's arguments: the enums as they stand in the source, then the structs by alphabet. The name of the fold, its
 # step, and what it gives.
-E, Q, S, O = 'Expr', '(Bool → Spelling)', 'Spelling', '(Option Expr)'
+E, Q, P, S, O = 'Expr', '(Bool → PieceSpelling)', 'PieceSpelling', 'Spelling', '(Option Expr)'
 TYPES = [
     ('Command', 'command_pattern', 'command', E), ('Compound', 'compound_pattern', 'compound', E),
     ('WordWhat', 'what_spelled_as', 'what', Q), ('AndOr', 'and_or_pattern', 'and_or', E),
@@ -18,8 +18,7 @@ TYPES = [
     ('Item', 'item_pattern', 'item', E), ('Joined', 'joined_pattern', 'joined', E), ('Loop', 'loop_pattern', 'loop', E),
     ('Pipeline', 'pipeline_pattern', 'pipeline', E), ('Redirect', 'redirect_pattern', 'redirect', E),
     ('Script', 'script_listing', 'script', O), ('Simple', 'simple_pattern', 'simple', E),
-    ('Value', 'value_spelled_as', 'value', Q), ('Word', 'word_spelling', 'word', S),
-    ('WordPiece', 'piece_spelling', 'piece', S),
+    ('Word', 'word_spelling', 'word', S), ('WordPiece', 'piece_spelling', 'piece', P),
 ]
 FOLD = {t: f for t, f, _, _ in TYPES}
 STEP = {t: s for t, _, s, _ in TYPES}
@@ -27,10 +26,10 @@ ARGS = ' '.join(r for _, _, _, r in TYPES) + ' ' + ' '.join(s + '_step' for _, _
 UNFOLD = 'unfolding ' + ' '.join(f for _, f, _, _ in TYPES) + '\n'
 
 # The folds of what an Option holds, as they are written in terms of its parts.
-HELD = {'Script': ('script_pattern', 'option_map some_list (%s)'), 'Word': ('word_spelling', '%s')}
+HELD = {'Script': ('script_pattern', 'option_map some_list (%s)')}
 
 # What a struct's tree is spelled as, in terms of its fields.
-OPTION = {'If': ('other', 'Script'), 'Item': ('body', 'Script'), 'Value': ('arg', 'Word')}
+OPTION = {'If': ('other', 'Script'), 'Item': ('body', 'Script')}
 STRUCTS = [
     ('Script', [('list', 'Vec AndOr _')], 'list_of (map and_or_pattern {list}.items)'),
     ('AndOr', [('first', 'Pipeline'), ('rest', 'Vec Joined _')], 'pipeline_pattern {first} ⨾ all (map joined_pattern {rest}.items)'),
@@ -54,7 +53,6 @@ STRUCTS = [
      'patterns_of (map word_spelling {patterns}.items) ⨾ key RightParen ⨾ newlines ⨾ body_of (OPTION)'),
     ('Word', [('pieces', 'Vec WordPiece _')], 'of_pieces (map piece_spelling {pieces}.items)'),
     ('WordPiece', [('quoted', 'Bool'), ('what', 'WordWhat')], 'what_spelled_as {what} {quoted}'),
-    ('Value', [('name', 'List ℕ'), ('form', 'List ℕ'), ('arg', 'Option Word')], 'value_spelling {name} {form} (OPTION)'),
 ]
 VARIANTS = [
     ('Command', 'Simple', '(x : Simple)', 'x', 'simple_pattern x'),
@@ -63,7 +61,8 @@ VARIANTS = [
     ('Compound', 'Group', '(x : Script)', 'x', 'key LeftBrace ⨾ bare ⨾ block_of (script_pattern x) ⨾ reserved RightBrace'),
     ('Compound', 'If', '(x : If)', 'x', 'if_pattern x'), ('Compound', 'Loop', '(x : Loop)', 'x', 'loop_pattern x'),
     ('Compound', 'For', '(x : For)', 'x', 'for_pattern x'), ('Compound', 'Case', '(x : Case)', 'x', 'case_pattern x'),
-    ('WordWhat', 'Bytes', '(t : List ℕ)', 't', 'bytes_spelling t'), ('WordWhat', 'Value', '(x : Value)', 'x', 'value_spelled_as x'),
+    ('WordWhat', 'Bytes', '(t : List ℕ)', 't', 'bytes_spelling t'), ('WordWhat', 'Value', '(x : Value)', 'x', 'value_spelling x.name x.form'),
+    ('WordWhat', 'Argument', '(x : Value)', 'x', 'argument_spelling x.name x.form'), ('WordWhat', 'End', '', '', 'end_spelling'),
     ('WordWhat', 'Output', '(x : Script)', 'x', 'output_spelling (script_listing x)'),
 ]
 
@@ -94,16 +93,17 @@ use Rattle.em_grammar.specs.Gives.{all}
 use Rattle.em_token.specs.Shell.{Expr, key, newlines, sequential, bare, reserved}
 use Rattle.em_token.specs.declared.kind.Kind.TheVariants.{Bang, If as If_, Then, Fi, Until, While, For as For_, In, Case as Case_, Esac, LeftBrace, RightBrace, LeftParen, RightParen, AndIf, OrIf}
 use Rattle.em_syntax.specs.declared.tree.RedirectKind.{RedirectKind}
-use Rattle.em_gram.specs.Patterns.{script_pattern, Spelling, of_pieces, bytes_spelling, output_spelling, value_spelling, any_word, assigned_spelled, redirect_spelled, simple_spelled, some_list, list_of, block_of, do_of, staged, else_of, branches_of, body_of, patterns_of, items_of}
+use Rattle.em_gram.specs.Patterns.{script_pattern, Spelling, PieceSpelling, of_pieces, bytes_spelling, output_spelling, value_spelling, argument_spelling, end_spelling, any_word, assigned_spelled, redirect_spelled, simple_spelled, some_list, list_of, block_of, do_of, staged, else_of, branches_of, body_of, patterns_of, items_of}
 use Rattle.em_token.specs.Words.{name_spelled}
 '''
     s += 'use %sspecs.Patterns.{%s}\nuse %sspecs.Patterns.{%s}\n' % (MODULE, steps, MODULE, names)
     s += 'use %sCommand.TheOpen.{Command-F, Compound-F, WordWhat-F}\n' % TREE
-    s += 'use %sCommand.TheShapes.{former-If-other, former-Value-arg}\n' % TREE
+    s += 'use %sCommand.TheShapes.{former-If-other}\n' % TREE
     for t in dict.fromkeys(v[0] for v in VARIANTS):
         vs = [v[1] for v in VARIANTS if v[0] == t]
         s += 'use %s%s.{%s, fold-roll-%s}\n' % (TREE, t, t, t)
         s += 'use %s%s.TheVariants.{%s, %s}\n' % (TREE, t, ', '.join('%s as the-%s' % (v, v) for v in vs), ', '.join('rolls-' + v for v in vs))
+    s += 'use %sValue.{Value}\n' % TREE
     for t, _, _ in STRUCTS:
         s += 'use %s%s.{%s, roll-%s, fold-roll-%s, out-%s, fold_out-%s}\n' % (TREE, t, t, t, t, t, t)
     return s
@@ -111,7 +111,7 @@ use Rattle.em_token.specs.Words.{name_spelled}
 
 def options():
     s = ''
-    for t, shape in (('Script', 'If-other'), ('Word', 'Value-arg')):
+    for t, shape in (('Script', 'If-other'),):
         kind = next(r for n, _, _, r in TYPES if n == t)
         n = STEP[t]
         made, seen = HELD[t]
@@ -146,8 +146,9 @@ def equations():
         s += '\npub %s_is : (d : %s) → %s d ≡ (%s)\n%s%s_is d = fold_out-%s %s d%s\n' % (name, t, fold, text, UNFOLD, name, t, ARGS, tail)
     for t, v, binders, args, rhs in VARIANTS:
         fold, name = FOLD[t], STEP[t] + '_' + v
-        s += '\npub %s : %s → %s (the-%s %s) ≡ (%s)\n%s%s %s = ap %s (sym (rolls-%s %s)) ∙ fold-roll-%s %s (%s-F.%s %s)\n' % (
-            name, binders, fold, v, args, rhs, UNFOLD, name, args, fold, v, args, t, ARGS, t, v, args)
+        made, args = ('the-%s %s' % (v, args), ' ' + args) if args else ('the-%s' % v, '')
+        s += '\npub %s : %s%s (%s) ≡ (%s)\n%s%s%s = ap %s (sym (rolls-%s%s)) ∙ fold-roll-%s %s (%s-F.%s%s)\n' % (
+            name, binders + ' → ' if binders else '', fold, made, rhs, UNFOLD, name, args, fold, v, args, t, ARGS, t, v, args)
     return s
 
 

@@ -1,28 +1,20 @@
--- A `BTreeMap` whose keys have names is seen as a finite map from the names, where its keys are in the order of their names.
+-- A map whose keys have names is seen as a finite map from the names.
 --     seen                the entries under the keys' names
---     found               what a search for a name finds is what the finite map has
---     entries_are         the finite map has the entries, in their order
---     put, taken          what `insert` and `remove` leave
---     text_..             these at texts, in byte order
+--     hashed_found, hashed_len, hashed_put, hashed_taken      a `HashMap` from texts: what it finds, how many names it has,
+--                         what `insert` and `remove` leave
 --     get_put, get_kept, get_new, stays_there, insert_swap, taken_back      one change of a finite map, and two
 --     AllBelow, entries_push, get_above, front_below      a name above all is put at the end
---     copy_none, copy_more, copy_all      a copy that is made name by name, in order
-use Rattle.std.proofs.Common.{◌≡◌, ◌⊎◌, inl, inr, ◌++◌, ℕ, Bool, true, false, cond, ◌&&◌, List, [], ◌∷◌, map, Option, Some, None, refl, sym, ap, subst, ◌∙◌, length, slice_get, option_map, Result, Ok, Err, append_assoc, arith}
+use Rattle.std.proofs.Common.{◌≡◌, ◌⊎◌, inl, inr, ◌++◌, ℕ, Bool, true, false, cond, ◌&&◌, List, [], ◌∷◌, map, Option, Some, None, refl, sym, ap, ◌∙◌, ◌+◌, nat_eq, length, Result, Ok, Err, arith}
 use Rattle.std.specs.Prelude.{T, OnErr, IsSome, is_some}
 use Rattle.std.specs.declared.cmp.Ordering.{Ordering}
 use Rattle.std.specs.declared.cmp.Ordering.TheVariants.{Less, Equal, Greater}
 use Rattle.std.specs.Ordering.{nat_cmp, is_eq, is_lt, eq_by_cmp, ordering_reverse}
-use Rattle.std.specs.Cmp.Lexicographic.{slice_cmp, nat_list_cmp_total}
-use Rattle.std.specs.Cmp.{IsTotalOrder, eq_by_cmp_equiv, tied_itself}
-use Rattle.std.specs.List.{AllByRecursion}
-use Rattle.std.specs.List.Sorted.{IsStrictlySortedBy}
+use Rattle.std.specs.Cmp.Lexicographic.{slice_cmp, nat_list_cmp_total, nat_list_eq_equiv, pointwise, texts_ties}
+use Rattle.std.specs.Cmp.{eq_by_cmp_equiv, tied_itself}
+use Rattle.std.specs.List.{AllByRecursion, IsDistinct}
 use Rattle.std.specs.Map.{lookup, keys_of, KeepsOthers}
-use Rattle.std.specs.BTreeMap.{BTreeMap, UpdatesBy}
-use Rattle.std.specs.FinMap.{IsAntisymmetric, get, insert, remove, entries, entries_sorted, from_entries, get-from_entries, get-entries, get-insert, get-remove, get_tied, same_map, find, is_sorted, len, len-entries, len-empty, empty, entries-insert, FinMap, slice_cmp-IsAntisymmetric, nat_cmp-IsAntisymmetric}
-use Rattle.std.specs.FinMap.Entries.{below_all, same_entries, put as at_place}
-use Rattle.std.proofs.lemmas.Map.Keys.{sorted_head, sorted_tail}
-use Rattle.std.proofs.lemmas.List.{length-map, append-nil}
-use Rattle.std.proofs.lemmas.Option.{slice_get-map}
+use Rattle.std.specs.FinMap.{IsAntisymmetric, get, insert, remove, entries, from_entries, get-from_entries, get-entries, get-insert, get-remove, same_map, find, is_sorted, len, len-empty, len-insert, entries-insert, FinMap, slice_cmp-IsAntisymmetric, nat_cmp-IsAntisymmetric}
+use Rattle.std.specs.FinMap.Entries.{below_all, put as at_place}
 use Rattle.em_base.proofs.Lists.{by_cases}
 
 is_equal : (r : Ordering) → is_eq r ≡ true → r ≡ Equal
@@ -34,55 +26,8 @@ both : (a b : Bool) → T a → T b → T (a && b)
 both true b p q = q
 both false b p q = p
 
-module _ {K L X : Type 0} (name : K → L) where
-  abbrev pub seen : List (K × X) → List (L × X)
-  seen = map (λ e. (name e.0, e.1))
-
-  module _ (R : L → L → Ordering) where
-    lookup_is : (q : L) (es : List (K × X)) → lookup (λ k. is_eq (R q (name k))) es ≡ find R q (seen es)
-    lookup_is q [] = refl
-    lookup_is q (e ∷ es) = ap (cond (is_eq (R q (name e.0))) (Some e.1)) (lookup_is q es)
-
-    below_T : (x : L) (es : List (K × X)) → AllByRecursion (λ y. R x (name y) ≡ Less) (keys_of es) → T (below_all R x (seen es))
-    below_T x [] h = tt
-    below_T x (e ∷ es) h = both (is_lt (R x (name e.0))) (below_all R x (seen es)) (subst (λ r. T (is_lt r)) (sym h.0) tt) (below_T x es h.1)
-
-    sorted_T : (es : List (K × X)) → IsStrictlySortedBy (λ a b. R (name a) (name b)) (keys_of es) → T (is_sorted R (seen es))
-    sorted_T [] h = tt
-    sorted_T (e ∷ es) h = both (below_all R (name e.0) (seen es)) (is_sorted R (seen es))
-        (below_T (name e.0) es (sorted_head (λ a b. R (name a) (name b)) e.0 (keys_of es) h))
-        (sorted_T es (sorted_tail (λ a b. R (name a) (name b)) e.0 (keys_of es) h))
-
-    module _ (o : IsTotalOrder R) where
-      pub found : (es : List (K × X)) (q : L) → lookup (λ k. is_eq (R q (name k))) es ≡ get (from_entries {R = R} (seen es)) q
-      found es q = lookup_is q es ∙ sym (get-from_entries o (seen es) q)
-
-      -- what a change of one name leaves at each name
-      changed : (m n : BTreeMap K X) (k : L) (w : Option X) → UpdatesBy (λ a b. R (name a) (name b)) (λ x. R k (name x)) m n w
-          → (q : L) → get (from_entries {R = R} (seen n.entries)) q ≡ cond (eq_by_cmp R q k) w (get (from_entries {R = R} (seen m.entries)) q)
-      unfolding KeepsOthers
-      changed m n k w u q =
-          let other : (x y : K) → is_eq (R q (name x)) ≡ true → is_eq (R q (name y)) ≡ is_eq (R (name x) (name y)) =
-          λ x y is. ap is_eq (o.congr q (name x) (name y) (is_equal _ is)) in
-          let apart : is_eq (R k q) ≡ false → (x : K) → is_eq (R k (name x)) ≡ true → is_eq (R q (name x)) ≡ false =
-          λ isnt x is. (eq_by_cmp_equiv o).symm q (name x) ∙ ap is_eq (sym (o.congr k (name x) q (is_equal _ is))) ∙ isnt in
-          let by_case : (b : Bool) → eq_by_cmp R k q ≡ b → get (from_entries {R = R} (seen n.entries)) q ≡ cond b w (get (from_entries {R = R} (seen m.entries)) q) = elim [
-            | true ↦ λ is. get_tied o (from_entries {R = R} (seen n.entries)) k q (is_equal _ is) ∙ sym (found n.entries k) ∙ u.1
-            | false ↦ λ isnt. sym (found n.entries q) ∙ u.3 (λ x. is_eq (R q (name x))) other (apart isnt) ∙ found m.entries q
-          ] in by_case (eq_by_cmp R k q) refl ∙ ap (λ b. cond b w (get (from_entries {R = R} (seen m.entries)) q)) ((eq_by_cmp_equiv o).symm k q)
-
-      module _ (same : IsAntisymmetric R) where
-        pub entries_are : (es : List (K × X)) → IsStrictlySortedBy (λ a b. R (name a) (name b)) (keys_of es) → entries (from_entries {R = R} (seen es)) ≡ seen es
-        entries_are es h = same_entries R o same (entries (from_entries {R = R} (seen es))) (seen es) (entries_sorted (from_entries {R = R} (seen es))) (sorted_T es h)
-            (λ q. sym (get-entries (from_entries {R = R} (seen es)) q) ∙ get-from_entries o (seen es) q)
-
-        pub put : (m n : BTreeMap K X) (k : L) (v : X) → UpdatesBy (λ a b. R (name a) (name b)) (λ x. R k (name x)) m n (Some v)
-            → from_entries {R = R} (seen n.entries) ≡ insert (from_entries (seen m.entries)) k v
-        put m n k v u = same_map o same _ _ (λ q. changed m n k (Some v) u q ∙ sym (get-insert o (from_entries (seen m.entries)) k v q))
-
-        pub taken : (m n : BTreeMap K X) (k : L) → UpdatesBy (λ a b. R (name a) (name b)) (λ x. R k (name x)) m n None
-            → from_entries {R = R} (seen n.entries) ≡ remove (from_entries (seen m.entries)) k
-        taken m n k u = same_map o same _ _ (λ q. changed m n k None u q ∙ sym (get-remove o (from_entries (seen m.entries)) k q))
+abbrev pub seen : {K L X : Type 0} → (K → L) → List (K × X) → List (L × X)
+seen name = map (λ e. (name e.0, e.1))
 
 -- ---- texts, in byte order
 
@@ -92,29 +37,54 @@ order = slice_cmp nat_cmp
 pub exact : IsAntisymmetric order
 exact = slice_cmp-IsAntisymmetric nat_cmp-IsAntisymmetric
 
+-- ---- texts found by a hash: the entries stand in any order, and no two have one name
+
+abbrev pub is_named : {K : Type 0} → (K → List ℕ) → List ℕ → K → Bool
+is_named name q x = pointwise nat_eq q (name x)
+
 module _ {K X : Type 0} (name : K → List ℕ) where
-  abbrev pub Rises : List (K × X) → Type 0
-  Rises es = IsStrictlySortedBy (λ a b. order (name a) (name b)) (keys_of es)
+  abbrev pub Unlike : List (K × X) → Type 0
+  Unlike es = IsDistinct (λ a b. pointwise nat_eq (name a) (name b)) (keys_of es)
 
-  pub text_found : (es : List (K × X)) (q : List ℕ) → lookup (λ k. is_eq (order q (name k))) es ≡ get (from_entries {R = order} (seen name es)) q
-  text_found = found name order nat_list_cmp_total
+  lookup_is : (q : List ℕ) (es : List (K × X)) → lookup (is_named name q) es ≡ find order q (seen name es)
+  lookup_is q [] = refl
+  lookup_is q (e ∷ es) = ap (λ b. cond b (Some e.1) (lookup (is_named name q) es)) (texts_ties q (name e.0))
+      ∙ ap (cond (eq_by_cmp order q (name e.0)) (Some e.1)) (lookup_is q es)
 
-  pub text_entries : (es : List (K × X)) → Rises es → entries (from_entries {R = order} (seen name es)) ≡ seen name es
-  text_entries = entries_are name order nat_list_cmp_total exact
+  pub hashed_found : (es : List (K × X)) (q : List ℕ) → lookup (is_named name q) es ≡ get (from_entries {R = order} (seen name es)) q
+  hashed_found es q = lookup_is q es ∙ sym (get-from_entries nat_list_cmp_total (seen name es) q)
 
-  pub text_len : (es : List (K × X)) → Rises es → len (from_entries {R = order} (seen name es)) ≡ length es
-  text_len es h = len-entries (from_entries {R = order} (seen name es)) ∙ ap length (text_entries es h) ∙ length-map es (λ e. (name e.0, e.1))
+  no_other : (q : K) (es : List (K × X)) → AllByRecursion (λ y. pointwise nat_eq (name q) (name y) ≡ false) (keys_of es) → find order (name q) (seen name es) ≡ None
+  no_other q [] h = refl
+  no_other q (e ∷ es) h = ap (λ b. cond b (Some e.1) (find order (name q) (seen name es))) (sym (texts_ties (name q) (name e.0)) ∙ h.0) ∙ no_other q es h.1
 
-  pub text_at : (es : List (K × X)) (i : ℕ) → Rises es → slice_get (entries (from_entries {R = order} (seen name es))) i ≡ option_map (λ e. (name e.0, e.1)) (slice_get es i)
-  text_at es i h = ap (λ l. slice_get l i) (text_entries es h) ∙ slice_get-map (λ e. (name e.0, e.1)) es i
+  pub hashed_len : (es : List (K × X)) → Unlike es → len (from_entries {R = order} (seen name es)) ≡ length es
+  unfolding IsDistinct
+  hashed_len [] h = len-empty order X
+  hashed_len (e ∷ es) h =
+      let new : get (from_entries {R = order} (seen name es)) (name e.0) ≡ None = get-from_entries nat_list_cmp_total (seen name es) (name e.0) ∙ no_other e.0 es h.0 in
+      len-insert nat_list_cmp_total (from_entries (seen name es)) (name e.0) e.1
+      ∙ ap (λ o. cond (is_some o) (len (from_entries {R = order} (seen name es))) (len (from_entries {R = order} (seen name es)) + 1)) new
+      ∙ ap (λ n. n + 1) (hashed_len es h.1) ∙ omega arith
 
-  pub text_put : (m n : BTreeMap K X) (k : List ℕ) (v : X) → UpdatesBy (λ a b. order (name a) (name b)) (λ x. order k (name x)) m n (Some v)
-      → from_entries {R = order} (seen name n.entries) ≡ insert (from_entries (seen name m.entries)) k v
-  text_put = put name order nat_list_cmp_total exact
+  hashed_changed : (m n : List (K × X)) (k : List ℕ) (w : Option X) → lookup (is_named name k) n ≡ w → KeepsOthers (λ a b. pointwise nat_eq (name a) (name b)) (is_named name k) m n
+      → (q : List ℕ) → get (from_entries {R = order} (seen name n)) q ≡ cond (eq_by_cmp order q k) w (get (from_entries {R = order} (seen name m)) q)
+  unfolding KeepsOthers
+  hashed_changed m n k w here others q =
+      let apart : pointwise nat_eq k q ≡ false → (x : K) → is_named name k x ≡ true → is_named name q x ≡ false =
+      λ isnt x is. nat_list_eq_equiv.symm q (name x) ∙ sym (nat_list_eq_equiv.congr k (name x) q is) ∙ isnt in
+      let by_case : (b : Bool) → pointwise nat_eq k q ≡ b → get (from_entries {R = order} (seen name n)) q ≡ cond b w (get (from_entries {R = order} (seen name m)) q) = elim [
+        | true ↦ λ is. ap (get (from_entries {R = order} (seen name n))) (sym (exact k q (is_equal _ (sym (texts_ties k q) ∙ is)))) ∙ sym (hashed_found n k) ∙ here
+        | false ↦ λ isnt. sym (hashed_found n q) ∙ others (is_named name q) (λ x y is. nat_list_eq_equiv.congr q (name x) (name y) is) (apart isnt) ∙ hashed_found m q
+      ] in by_case (pointwise nat_eq k q) refl ∙ ap (λ b. cond b w (get (from_entries {R = order} (seen name m)) q)) (nat_list_eq_equiv.symm k q ∙ texts_ties q k)
 
-  pub text_taken : (m n : BTreeMap K X) (k : List ℕ) → UpdatesBy (λ a b. order (name a) (name b)) (λ x. order k (name x)) m n None
-      → from_entries {R = order} (seen name n.entries) ≡ remove (from_entries (seen name m.entries)) k
-  text_taken = taken name order nat_list_cmp_total exact
+  pub hashed_put : (m n : List (K × X)) (k : List ℕ) (v : X) → lookup (is_named name k) n ≡ Some v → KeepsOthers (λ a b. pointwise nat_eq (name a) (name b)) (is_named name k) m n
+      → from_entries {R = order} (seen name n) ≡ insert (from_entries (seen name m)) k v
+  hashed_put m n k v here others = same_map nat_list_cmp_total exact _ _ (λ q. hashed_changed m n k (Some v) here others q ∙ sym (get-insert nat_list_cmp_total (from_entries (seen name m)) k v q))
+
+  pub hashed_taken : (m n : List (K × X)) (k : List ℕ) → lookup (is_named name k) n ≡ None → KeepsOthers (λ a b. pointwise nat_eq (name a) (name b)) (is_named name k) m n
+      → from_entries {R = order} (seen name n) ≡ remove (from_entries (seen name m)) k
+  hashed_taken m n k here others = same_map nat_list_cmp_total exact _ _ (λ q. hashed_changed m n k None here others q ∙ sym (get-remove nat_list_cmp_total (from_entries (seen name m)) k q))
 
 pub same_key : (p q : List ℕ) → eq_by_cmp order p q ≡ true → p ≡ q
 same_key p q e = exact p q (is_equal (order p q) e)
@@ -224,28 +194,6 @@ module _ {X : Type 0} where
       next_below : (x : List ℕ × X) (es : List (List ℕ × X)) (e : List ℕ × X) (fs : List (List ℕ × X)) → T (below_all order x.0 (es ++ e ∷ fs)) → order x.0 e.0 ≡ Less
       next_below x [] e fs h = is_less _ (first_T _ _ h)
       next_below x (y ∷ es) e fs h = next_below x es e fs (second_T _ _ h)
-
-  -- ---- a copy that is made name by name
-
-  pub copy_none : (whole copied : FinMap order X) (rest : List (List ℕ × X)) → copied ≡ empty → rest ≡ entries whole → entries copied ++ rest ≡ entries whole
-  copy_none whole copied rest new all = let none : length (entries copied) ≡ 0 = sym (len-entries copied) ∙ ap len new ∙ len-empty order X in rw (no_entries (entries copied) none) all
-    where
-      no_entries : (es : List (List ℕ × X)) → length es ≡ 0 → es ≡ []
-      no_entries [] e = refl
-      no_entries (e ∷ es) h = absurd (omega arith)
-
-  pub copy_more : (whole copied new : FinMap order X) (e : List ℕ × X) (rest : List (List ℕ × X)) (n : List ℕ) (v : X) → entries copied ++ e ∷ rest ≡ entries whole
-      → n ≡ e.0 → v ≡ e.1 → new ≡ insert copied n v → entries new ++ rest ≡ entries whole
-  copy_more whole copied new e rest n v so_far name value set =
-      let sorted : T (is_sorted order (entries copied ++ e ∷ rest)) = subst (λ es. T (is_sorted order es)) (sym so_far) (entries_sorted whole) in
-      let below : AllBelow n (entries copied) = subst (λ k. AllBelow k (entries copied)) (sym name) (front_below (entries copied) e rest sorted) in
-      let entry : (n, v) ≡ e = λ i. (name i, value i) in
-      rw (set, entries_push copied n v below, append_assoc) (ap (λ x. entries copied ++ x ∷ rest) entry ∙ so_far)
-
-  pub copy_all : (whole copied : FinMap order X) (rest : List (List ℕ × X)) → entries copied ++ rest ≡ entries whole → rest ≡ [] → copied ≡ whole
-  copy_all whole copied rest so_far none =
-      let all : entries copied ≡ entries whole = sym (append-nil (entries copied)) ∙ ap (λ es. entries copied ++ es) (sym none) ∙ so_far in
-      same_map nat_list_cmp_total exact copied whole (λ q. get-entries copied q ∙ ap (find order q) all ∙ sym (get-entries whole q))
 
 -- what holds after an error whatever it is
 pub at_err : {T E : Type 0} (r : Result T E) {P : Type 0} → P → OnErr r P

@@ -1,22 +1,18 @@
 //! A table: values by name.
-ghost use Rattle.std.specs.Prelude.{◌≡◌, ◌==◌, ◌&&◌, nat_eq, None, map, IfOk, slice_get, option_copied, option_map, OnOk, OnErr};
+ghost use Rattle.std.specs.Prelude.{◌≡◌, ◌==◌, None, option_copied, OnOk, OnErr};
 ghost use Rattle.std.specs.FinMap as table;
-ghost use Rattle.std.specs.Cmp.{partial_equiv_from_equiv, on_per, and_per, on_equiv, and_equiv};
-ghost use Rattle.std.specs.Cmp.Lexicographic.{pointwise, nat_list_eq_equiv, lists_per, lists_equiv};
 
 use crate::memory::NoMemory;
 use crate::text::Text;
-use crate::try_clone::TryClone;
 use std::alloc::Global;
-use std::collections::BTreeMap;
-use std::collections::btree_map::Iter;
+use std::collections::HashMap;
 use std::marker::Model;
 
-/// Values by name, in byte order of the names. Contracts see a finite map from texts. Each call but `at` takes steps for the
-/// logarithm of how many names there are.
+/// Values by name, found by a hash of the name. Contracts see a finite map from texts. A search takes steps for each byte of
+/// the name, and as many more as names share its hash, which are few unless they were chosen for it.
 #[derive(Drop)]
 pub struct Table<V> {
-    held: BTreeMap<Vec<u8>, V>,
+    held: HashMap<Vec<u8>, V>,
 }
 
 impl<V> Model for Table<V> {
@@ -25,17 +21,12 @@ impl<V> Model for Table<V> {
     ghost use Rattle.std.specs.Ordering.{nat_cmp};
     ghost use Rattle.std.specs.Cmp.Lexicographic.{slice_cmp};
     ghost use Rattle.std.specs.Coded.{coded_ℕ, coded_list};
-    ghost use Rattle.std.specs.List.Sorted.{IsStrictlySortedBy};
-    ghost use Rattle.std.specs.Map.{keys_of};
 
     ghost Value = { table.FinMap (slice_cmp nat_cmp) V };
 
     ghost coded = { table.code (coded_list coded_ℕ) V.code };
 
     ghost view = { λ t. table.from_entries (map (λ e. (e.0.items, e.1)) t.held.entries) };
-
-    ghost invariant = { λ t. IsStrictlySortedBy
-        (λ a b. slice_cmp nat_cmp a.items b.items) (keys_of t.held.entries) };
 }
 
 impl<V> Table<V> {
@@ -44,7 +35,7 @@ impl<V> Table<V> {
         ensures { result ≡ table.empty }
     {
         Table {
-            held: BTreeMap::new(alloc),
+            held: HashMap::new(alloc),
         }
     }
 
@@ -68,22 +59,6 @@ impl<V> Table<V> {
     {
         self.len() == 0
     }
-
-    /// The i-th name with its value, in i steps; `None` exactly where there are no more than i names.
-    pub fn at(&self, i: usize) -> Option<(&[u8], &V)>
-        ensures { option_map (λ e. (e.0.now, e.1.now)) result
-            ≡ slice_get (table.entries self.now) i }
-    {
-        let (name, value) = self.held.iter().nth(i)?;
-        Some((name.as_slice(), value))
-    }
-
-    /// The names with their values, in byte order of the names.
-    pub fn iter(&self) -> Iter<'_, Vec<u8>, V>
-        ensures { map (λ e. (e.0.items, e.1)) result ≡ table.entries self.now }
-    {
-        self.held.iter()
-    }
 }
 
 impl<V: Drop> Table<V> {
@@ -104,45 +79,4 @@ impl<V: Drop> Table<V> {
     {
         self.held.remove(name)
     }
-}
-
-impl<V: TryClone + Drop> Table<V> {
-    /// An equal table.
-    pub fn copy(&self, alloc: Global) -> Result<Table<V>, NoMemory>
-        ensures { IfOk result (λ t. t ≡ self.now) }
-    {
-        let mut copied = Table::new(alloc);
-        for (name, value) in self.iter() {
-            copied.insert(
-                Text::from_slice(alloc, name.as_slice())?,
-                value.try_clone(alloc)?,
-            )?;
-        }
-        Ok(copied)
-    }
-}
-
-impl<V: TryClone + Drop> TryClone for Table<V> {
-    fn try_clone(&self, alloc: Global) -> Result<Table<V>, NoMemory> {
-        self.copy(alloc)
-    }
-}
-
-impl<V: PartialEq> PartialEq for Table<V> {
-    ghost eq = { λ s t. pointwise
-        (λ p q. pointwise nat_eq p.0 q.0 && V.eq p.1 q.1) (table.entries s) (table.entries t) };
-
-    ghost laws = { on_per table.entries
-        (lists_per (and_per (on_per (λ p. p.0) (partial_equiv_from_equiv nat_list_eq_equiv))
-        (on_per (λ p. p.1) V.laws))) };
-
-    fn eq(&self, other: &Self) -> bool {
-        self.held == other.held
-    }
-}
-
-impl<V: Eq> Eq for Table<V> {
-    ghost laws = { on_equiv table.entries
-        (lists_equiv (and_equiv (on_equiv (λ p. p.0) nat_list_eq_equiv)
-        (on_equiv (λ p. p.1) V.Eq.laws))) };
 }

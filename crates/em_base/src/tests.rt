@@ -71,11 +71,11 @@ fn blanks_are_trimmed_at_the_two_ends(rt: HostRuntime) {
     }
 }
 
-/// A value of a sequence and a table, as those of the crates above are.
+/// A value that holds sequences, as those of the crates above do.
 #[derive(Drop, PartialEq, Eq)]
 struct Rule {
     names: Seq<Text>,
-    lines: Table<Text>,
+    lines: Seq<Text>,
 }
 
 fn texts(alloc: Global, items: &[&[u8]]) -> Result<Seq<Text>, NoMemory> {
@@ -128,7 +128,7 @@ fn a_stack_gives_the_last_first(rt: HostRuntime) -> Result<(), Fail> {
 }
 
 #[test]
-fn a_table_keeps_its_names_in_byte_order(rt: HostRuntime) -> Result<(), Fail> {
+fn a_table_finds_values_by_name(rt: HostRuntime) -> Result<(), Fail> {
     let entries = [
         (b"b".as_slice(), b"1".as_slice()),
         (b"a/", b"2"),
@@ -137,22 +137,13 @@ fn a_table_keeps_its_names_in_byte_order(rt: HostRuntime) -> Result<(), Fail> {
     ];
     let mut made = table(rt.alloc(), &entries)?;
     assert_eq!(rt; made.len(), 3);
-    for (i, (name, value)) in [
+    for (name, value) in [
         (b"a".as_slice(), b"3".as_slice()),
         (b"a/", b"2"),
         (b"b", b"4"),
-    ]
-    .iter()
-    .enumerate()
-    {
-        assert!(rt; made.get(*name).is_some_and(|v| v.bytes() == *value));
-        assert!(rt;
-            made.at(i)
-                .is_some_and(|(n, v)| n == *name && v.bytes() == *value)
-        );
+    ] {
+        assert!(rt; made.get(name).is_some_and(|v| v.bytes() == value));
     }
-    assert!(rt; made.at(3).is_none());
-    assert_eq!(rt; made.iter().count(), 3);
     assert!(rt; made.remove(b"a").is_some());
     assert!(rt; made.remove(b"c").is_none());
     assert!(rt; made.get(b"a").is_none());
@@ -162,9 +153,8 @@ fn a_table_keeps_its_names_in_byte_order(rt: HostRuntime) -> Result<(), Fail> {
 
 #[test]
 fn what_holds_them_is_compared(rt: HostRuntime) -> Result<(), Fail> {
-    let entries = [(b"b".as_slice(), b"1".as_slice()), (b"a", b"2")];
     let names = texts(rt.alloc(), &[b"a".as_slice()])?;
-    let lines = table(rt.alloc(), &entries)?;
+    let lines = texts(rt.alloc(), &[b"b".as_slice(), b"c"])?;
     let copied = Rule {
         names: names.copy(rt.alloc())?,
         lines: lines.try_clone(rt.alloc())?,

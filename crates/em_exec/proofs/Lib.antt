@@ -9,3 +9,4 @@ mod Leading
 mod Closing
 mod Lawful
 mod Truth
+mod Literal

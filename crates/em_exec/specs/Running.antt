@@ -30,7 +30,6 @@ use Rattle.em_syntax.specs.declared.tree.Item.{Item, out-Item}
 use Rattle.em_syntax.specs.declared.tree.Word.{Word}
 use Rattle.em_syntax.specs.declared.tree.WordWhat.{WordWhat}
 use Rattle.em_syntax.specs.declared.tree.WordPiece.{WordPiece}
-use Rattle.em_syntax.specs.declared.tree.Value.{Value}
 use Rattle.em_command.specs.declared.jump.Jump.{Jump}
 use Rattle.em_command.specs.declared.jump.Jump.TheVariants.{End}
 use Rattle.em_command.specs.declared.here.Here.{Here}
@@ -250,7 +249,7 @@ for_of deeper scene c = do
 -- ---- compounds
 
 abbrev pub CompoundBody : Type 0
-CompoundBody = Compound-F Command Compound WordWhat AndOr Assigned Branch Case For If Item Joined Loop Pipeline Redirect Script Simple Value Word WordPiece
+CompoundBody = Compound-F Command Compound WordWhat AndOr Assigned Branch Case For If Item Joined Loop Pipeline Redirect Script Simple Word WordPiece
 
 abbrev pub body_by : Deeper → Scene → CompoundBody → Acts (Unit {0})
 body_by deeper scene (Compound-F.Subshell s) = subshell (deeper s (in_copy scene.input))
@@ -293,7 +292,7 @@ compound_of deeper scene c rs = do
 -- ---- commands
 
 abbrev pub CommandBody : Type 0
-CommandBody = Command-F Command Compound WordWhat AndOr Assigned Branch Case For If Item Joined Loop Pipeline Redirect Script Simple Value Word WordPiece
+CommandBody = Command-F Command Compound WordWhat AndOr Assigned Branch Case For If Item Joined Loop Pipeline Redirect Script Simple Word WordPiece
 
 abbrev pub command_by : Deeper → Scene → CommandBody → Acts (Unit {0})
 command_by deeper scene (Command-F.Simple c) = simple_of deeper scene c

@@ -69,7 +69,7 @@ module _ (deeper : Deeper) (scene : Scene) where
   abbrev pub output : Script → Acts (List ℕ)
   output s = substituted (deeper s (in_copy scene.input))
 
-  -- of no substitution: this never comes, since a number is that of a substitution of the word
+  -- of no substitution: this never comes, since an output is asked for where one stands
   abbrev pub output_if : Option Script → Acts (List ℕ)
   output_if None = refuse (End exec.NoMemory)
   output_if (Some s) = output s
@@ -85,11 +85,17 @@ module _ (deeper : Deeper) (scene : Scene) where
   unfoldable pub expanded : Mode → Word → Acts Expansion
   expanded m w = hold m (word_plan w)
 
+  -- with the fields of one more word
+  unfoldable pub added : List (List ℕ) → Word → Acts (List (List ℕ))
+  added so_far w = do
+    e ← expanded mode.Fields w
+    done (so_far ++ fields_in e)
+
   abbrev pub fields : List (List ℕ) → List Word → Acts (List (List ℕ))
   fields so_far [] = done so_far
   fields so_far (w ∷ ws) = do
-    e ← expanded mode.Fields w
-    fields (so_far ++ fields_in e) ws
+    more ← added so_far w
+    fields more ws
 
   unfoldable pub whole : Word → Acts (List ℕ)
   whole w = do

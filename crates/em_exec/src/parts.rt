@@ -1,5 +1,5 @@
 //! What commands need that runs no others.
-ghost use Rattle.std.specs.Prelude.{◌≡◌, ◌<◌, ◌++◌, false, IfOk};
+ghost use Rattle.std.specs.Prelude.{◌≡◌, ◌<◌, ◌++◌, ◌∷◌, [], false, IfOk};
 ghost use Rattle.em_command.specs.Jumps.{is_free, of_desk};
 ghost use Rattle.em_command.specs.declared.here.Here.{Here as State};
 ghost use Rattle.em_exec.specs.Running as steps;
@@ -72,6 +72,19 @@ pub(crate) fn appended(so_far: Seq<Text>, more: Seq<Text>) -> Result<Seq<Text>, 
     let mut all = so_far.into_vec();
     all.extend(more.into_vec())?;
     Ok(Seq::from_vec(all))
+}
+
+/// The texts with one more.
+pub(crate) fn with_text(
+    alloc: Global,
+    so_far: Seq<Text>,
+    text: &[u8],
+) -> Result<Seq<Text>, NoMemory>
+    ensures { IfOk result (λ all. all ≡ so_far ++ text.now ∷ []) }
+{
+    let mut all = so_far;
+    all.push(Text::from_slice(alloc, text)?)?;
+    Ok(all)
 }
 
 /// What was written so far is put aside.

@@ -1,13 +1,12 @@
 //! The constructs of the syntax tree, one function each.
-ghost use Rattle.std.specs.Prelude.{◌≡◌, ◌∷◌, ◌++◌, [], slice_get};
+ghost use Rattle.std.specs.Prelude.{◌≡◌, ◌∷◌, ◌++◌, [], option_map};
 ghost use Rattle.em_command.specs.Jumps.{is_free};
 ghost use Rattle.em_exec.specs.Running as steps;
 ghost use Rattle.em_exec.specs.Running.{script_at};
 ghost use Rattle.em_exec.specs.Words as expanding;
 ghost use Rattle.em_exec.specs.Leads.{Turned};
 ghost use Rattle.em_exec.specs.Words.{in_copy};
-ghost use Rattle.em_word.specs.Held.{IsReady, word_of};
-ghost use Rattle.em_syntax.specs.Scripts.{scripts};
+ghost use Rattle.em_word.specs.Held.{IsReady};
 ghost use Rattle.em_syntax.specs.declared.tree.Simple.{out-Simple};
 ghost use Rattle.em_syntax.specs.declared.tree.Loop.{out-Loop};
 ghost use Rattle.em_syntax.specs.declared.tree.For.{out-For};
@@ -17,7 +16,8 @@ ghost use Rattle.em_view.specs.Steps.{Does};
 
 use crate::expand::{Expansion, fields_in, first_in, glyphs_in};
 use crate::parts::{
-    apart, appended, body_of, charge_unit, in_loop, pass_on, put_back, take_pieces, within,
+    apart, appended, body_of, charge_unit, in_loop, pass_on, put_back, take_pieces, with_text,
+    within,
 };
 use crate::turn::{Turn, body_status, goes_on, goes_with, is_broken, opposite, turn_of};
 use em_base::{Construct, Seq, Text};
@@ -29,7 +29,7 @@ use em_syntax::{
 };
 use em_tree::Body;
 use em_view::{Desk, ExecNo, View};
-use em_word::{Expander, Mode, WordTurn};
+use em_word::{Expander, Mode, WordTurn, literal};
 use std::alloc::Global;
 
 /// A script, in which so many levels of commands and substitutions may stand.
@@ -806,10 +806,32 @@ fn fields_of<V: View>(
 {
     let mut all = Seq::new(alloc);
     for word in words {
-        let expansion = expanded(alloc, left, word, Mode::Fields, scene, here, desk)?;
-        all = appended(all, fields_in(alloc, expansion))?;
+        all = added(alloc, left, all, word, scene, here, desk)?;
     }
     Ok(all)
+}
+
+/// With the fields of one more word. A literal is copied, and takes no expander.
+#[cycle(shell)]
+fn added<V: View>(
+    alloc: Global,
+    left: u32,
+    so_far: Seq<Text>,
+    word: &Word,
+    scene: &Scene,
+    here: &mut Here,
+    desk: &mut Desk<V>,
+) -> Result<Seq<Text>, Jump>
+    ensures { Does is_free V.tells desk.old desk.new here.old here.new result
+        (expanding.added (script_at left) scene.now so_far word.now) }
+{
+    match literal(word) {
+        Some(text) => Ok(with_text(alloc, so_far, text)?),
+        None => {
+            let expansion = expanded(alloc, left, word, Mode::Fields, scene, here, desk)?;
+            Ok(appended(so_far, fields_in(alloc, expansion))?)
+        }
+    }
 }
 
 /// A word that is neither split nor expanded to path names.
@@ -829,21 +851,20 @@ fn whole<V: View>(
     Ok(first_in(alloc, fields_in(alloc, expansion)))
 }
 
-/// The output of the word's substitution of a number.
+/// The output that a word's expansion asked for.
 #[cycle(shell)]
-fn output_at<V: View>(
+fn output_if<V: View>(
     alloc: Global,
     left: u32,
-    word: &Word,
-    n: usize,
+    script: Option<&Script>,
     scene: &Scene,
     here: &mut Here,
     desk: &mut Desk<V>,
 ) -> Result<Text, Jump>
     ensures { Does is_free V.tells desk.old desk.new here.old here.new result
-        (expanding.output_if (script_at left) scene.now (slice_get (scripts word.now) n)) }
+        (expanding.output_if (script_at left) scene.now (option_map (λ s. s.now) script.entry)) }
 {
-    match word.script(n) {
+    match script {
         Some(script) => output_of(alloc, left, script, scene, here, desk),
         None => Err(Jump::End(ExecNo::NoMemory)),
     }
@@ -851,17 +872,15 @@ fn output_at<V: View>(
 
 /// A turn of a word's expansion: what the word comes to, or nothing where it goes on.
 #[cycle(shell)]
-fn turn_of_word<'a, V: View>(
+fn turn_of_word<V: View>(
     alloc: Global,
     left: u32,
-    word: &'a Word,
-    expander: &mut Expander<'a>,
+    expander: &mut Expander,
     scene: &Scene,
     here: &mut Here,
     desk: &mut Desk<V>,
 ) -> Result<Option<Expansion>, Jump>
-    requires ready { IsReady expander.old }
-    requires word { word_of expander.old ≡ word.now }
+    requires { IsReady expander.old }
     ensures { Turned V.tells (script_at left) scene.now desk.old desk.new here.old here.new
         expander.old expander.new result }
 {
@@ -872,8 +891,8 @@ fn turn_of_word<'a, V: View>(
             here.assign(alloc, name.bytes(), text)?;
             Ok(None)
         }
-        Ok(WordTurn::Output(n)) => {
-            let text = output_at(alloc, left, word, n, scene, here, desk)?;
+        Ok(WordTurn::Output(_)) => {
+            let text = output_if(alloc, left, expander.script(), scene, here, desk)?;
             expander.give(text);
             Ok(None)
         }
@@ -897,7 +916,7 @@ fn expanded<V: View>(
 {
     let mut expander = Expander::new(alloc, word, mode)?;
     for _ in 0..u64::MAX {
-        match turn_of_word(alloc, left, word, &mut expander, scene, here, desk)? {
+        match turn_of_word(alloc, left, &mut expander, scene, here, desk)? {
             Some(expansion) => return Ok(expansion),
             None => {}
         }

@@ -1,3 +1,4 @@
 mod Places
 mod Counting
-mod Parting
+pub mod Parting
+pub mod Joining

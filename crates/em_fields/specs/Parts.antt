@@ -1,6 +1,7 @@
 -- What an expansion gives: bytes, quoted or not, and the places where a quoted text begins, which keep a field that is empty.
 --     marked q text        the bytes of a text, all quoted or none
 --     glyphs, bytes        the bytes with their quoting, and without
+--     joined ps qs         one behind the other; two marks side by side are one
 --     fields ps            what stands between unquoted spaces, tabs and newlines, where something does
 --     without_newlines t   the text without the newlines at its end
 use Rattle.std.specs.Prelude.{◌≡◌, ◌<◌, All, ℕ, ◌-◌, ◌==◌, ◌&&◌, ◌||◌, nat_lt, Bool, true, false, not, List, [], ◌∷◌, ◌++◌, length, map, take, Option, Some, None}
@@ -22,6 +23,21 @@ part_of quoted b = Byte (glyph quoted b)
 
 abbrev pub marked : Bool → List ℕ → List Part
 marked quoted text = mark quoted ++ map (part_of quoted) text
+
+-- whether a quoted text begins at the end
+abbrev pub ends_marked : List Part → Bool
+ends_marked [] = false
+ends_marked (Quotes ∷ []) = true
+ends_marked (Byte g ∷ []) = false
+ends_marked (p ∷ q ∷ ps) = ends_marked (q ∷ ps)
+
+-- what follows such a place: the mark is there
+abbrev pub behind_mark : Bool → List Part → List Part
+behind_mark true (Quotes ∷ ps) = ps
+behind_mark marks ps = ps
+
+abbrev pub joined : List Part → List Part → List Part
+joined ps qs = ps ++ behind_mark (ends_marked ps) qs
 
 abbrev pub glyph_of : Part → Option Glyph
 glyph_of (Byte g) = Some g

@@ -1,7 +1,7 @@
 //! What an expansion gives, byte by byte.
 ghost use Rattle.std.specs.Prelude.{◌≡◌, ◌++◌, ◌∷◌, [], ◌≤◌, length, IfOk};
 ghost use Rattle.em_fields.specs.Parts as parts_of;
-ghost use Rattle.em_fields.specs.Parts.{mark, marked, glyph_of};
+ghost use Rattle.em_fields.specs.Parts.{mark, marked, joined, glyph_of};
 
 use em_base::{NoMemory, Seq, Text};
 use em_glob::Glyph;
@@ -39,19 +39,61 @@ impl Part {
     }
 }
 
-/// Adds the place where a quoted text begins, if one does. After an error the parts are as before. Steps are constant.
+/// Whether a quoted text begins here.
+fn is_mark(part: &Part) -> bool
+    ensures { result ≡ parts_of.ends_marked (part.now ∷ []) }
+{
+    match part {
+        Part::Quotes => true,
+        Part::Byte(_) => false,
+    }
+}
+
+/// Whether a quoted text begins at the end.
+fn ends_marked(parts: &[Part]) -> bool
+    ensures { result ≡ parts_of.ends_marked parts.now }
+{
+    match parts.split_last() {
+        Some((last, _)) => is_mark(last),
+        None => false,
+    }
+}
+
+/// What is added behind parts that end so: the mark is there.
+fn behind_mark(marked: bool, parts: &[Part]) -> &[Part]
+    ensures { result.now ≡ parts_of.behind_mark marked parts.now }
+{
+    match parts.split_first() {
+        Some((Part::Quotes, rest)) if marked => rest,
+        _ => parts,
+    }
+}
+
+/// Adds parts. Two marks side by side are one, so there are never more of them than bytes and one.
+/// Steps for each part that is added.
+pub fn add_parts(parts: &mut Seq<Part>, more: &[Part]) -> Result<(), NoMemory>
+    ensures { IfOk result (λ u. parts.new ≡ joined parts.old more.now) }
+{
+    let more = behind_mark(ends_marked(parts.items()), more);
+    for part in more {
+        parts.push(*part)?;
+    }
+    Ok(())
+}
+
+/// Adds the place where a quoted text begins, if one does. Steps are constant.
 pub fn add_mark(parts: &mut Seq<Part>, quoted: bool) -> Result<(), NoMemory>
-    ensures ok { IfOk result (λ u. parts.new ≡ parts.old ++ mark quoted) }
+    ensures { IfOk result (λ u. parts.new ≡ joined parts.old (mark quoted)) }
 {
     if quoted {
-        parts.push(Part::Quotes)?;
+        add_parts(parts, &[Part::Quotes])?;
     }
     Ok(())
 }
 
 /// Adds the bytes, quoted or not. Steps for each byte.
 pub fn add_bytes(parts: &mut Seq<Part>, quoted: bool, text: &[u8]) -> Result<(), NoMemory>
-    ensures ok { IfOk result (λ u. parts.new ≡ parts.old ++ marked quoted text.now) }
+    ensures { IfOk result (λ u. parts.new ≡ joined parts.old (marked quoted text.now)) }
 {
     add_mark(parts, quoted)?;
     for byte in text {
@@ -113,14 +155,4 @@ pub fn bytes(alloc: Global, parts: &[Part]) -> Result<Text, NoMemory>
         add_byte(&mut text, *part)?;
     }
     Ok(text)
-}
-
-/// Adds parts. Steps for each of them.
-pub fn add_parts(parts: &mut Seq<Part>, more: &[Part]) -> Result<(), NoMemory>
-    ensures { IfOk result (λ u. parts.new ≡ parts.old ++ more.now) }
-{
-    for part in more {
-        parts.push(*part)?;
-    }
-    Ok(())
 }

@@ -1,5 +1,7 @@
 -- cp [-f] [-r] and mv [-f], of one source. `deeper` is how what stands in a directory is copied.
-use Rattle.std.specs.Prelude.{ℕ, zero, suc, Bool, true, false, List, Option, Some, None, Result, Ok, Err, if◌then◌else◌}
+use Rattle.std.specs.Prelude.{ℕ, zero, suc, ◌-◌, ◌==◌, ◌&&◌, ◌||◌, nat_eq, Bool, true, false, not, List, length, take, codes, Option, Some, None, Result, Ok, Err, if◌then◌else◌}
+use Rattle.std.specs.List.{ends_with, suffix_len}
+use Rattle.std.specs.Str.{bytes_eq}
 use Rattle.em_path.specs.Paths.{last_of}
 use Rattle.em_tree.specs.declared.node.Kind.{Kind}
 use Rattle.em_tree.specs.declared.node.Kind.TheVariants as kind
@@ -100,9 +102,20 @@ abbrev pub in_target : Operand → Operand → Option (List ℕ) → Result Oper
 in_target s t None = Err (fault s reason.SameFile)
 in_target s t (Some last) = child t last
 
--- in a directory a source keeps its last name, which the root has none of
+-- the name's last component is `.`, as in `src/.`
+abbrev pub is_slash : ℕ → Bool
+is_slash b = b == 47
+
+abbrev pub unslashed : List ℕ → List ℕ
+unslashed name = take (length name - suffix_len is_slash name) name
+
+abbrev pub ends_with_dot : List ℕ → Bool
+ends_with_dot name = bytes_eq (unslashed name) (codes ".") || ends_with nat_eq (unslashed name) (codes "/.")
+
+-- in a directory a source keeps its last name, which the root has none of; of one that was named with a `.` at the end, what is in
+-- it goes to the directory itself
 abbrev pub place_of : Target → Operand → Result Operand OperandNo
-place_of to s = if to.is_dir then in_target s to.operand (last_of s.path) else Ok to.operand
+place_of to s = if to.is_dir && not (ends_with_dot s.name) then in_target s to.operand (last_of s.path) else Ok to.operand
 
 -- nothing is copied to itself or below itself
 abbrev pub apart_by : Operand → Result Operand OperandNo → Result Operand OperandNo

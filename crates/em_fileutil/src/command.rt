@@ -269,8 +269,8 @@ fn utility_for<V: View>(
 /// utility doesn't have, before anything is asked; `Spent` where fuel doesn't suffice for what the
 /// desk's calls cost, and then the changes till then stand.
 ///
-/// Time and memory are linear in the bytes that are read and put and in the names that are listed;
-/// a file's bytes are copied once.
+/// Steps for each byte that is read and put and for each name that is listed, and for each call of
+/// the desk a search among the job's own changes; a file's bytes are copied once.
 pub fn utility<V: View>(
     alloc: Global,
     words: &[Text],

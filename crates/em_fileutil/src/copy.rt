@@ -1,12 +1,13 @@
 //! cp and mv, of one source.
-ghost use Rattle.std.specs.Prelude.{◌≡◌, All, false};
+ghost use Rattle.std.specs.Prelude.{◌≡◌, ◌≤◌, All, false, length};
+ghost use Rattle.std.specs.List.{suffix_len};
 ghost use Rattle.em_path.specs.Paths.{IsComponent};
 ghost use Rattle.em_view.specs.declared.done.Done.{Done};
 ghost use Rattle.em_view.specs.Ends.{is_want};
 ghost use Rattle.em_view.specs.Performs.{is_free as free_in};
 ghost use Rattle.em_view.specs.Steps.{Does};
 ghost use Rattle.em_utility.specs.Operands.{is_free, each};
-ghost use Rattle.em_fileutil.specs.Copying.{copy_file, move_file, copy_as_file, leave_source, copy_child, copy_tree, recurs, copy_node, copy_beneath, as_name, target_by, target_at, place_of, destination};
+ghost use Rattle.em_fileutil.specs.Copying.{copy_file, move_file, copy_as_file, leave_source, copy_child, copy_tree, recurs, copy_node, copy_beneath, as_name, target_by, target_at, is_slash, ends_with_dot, place_of, destination};
 
 use crate::make::make_missing;
 use crate::operand::{Operand, is_within};
@@ -32,8 +33,8 @@ pub(crate) enum Manner {
 #[derive(Debug, Drop)]
 pub(crate) struct Target {
     pub(crate) operand: Operand,
-    /// A directory, in which each source keeps its last name; else the one source gets the target's
-    /// name.
+    /// A directory, in which each source keeps its last name, unless it was named with a `.` at the
+    /// end; else the one source gets the target's name.
     pub(crate) is_dir: bool,
 }
 
@@ -84,10 +85,26 @@ pub(crate) fn target_at<V: View>(
     target_by(alloc, several, operand, kind)
 }
 
+/// How many slashes the name ends with.
+fn slashes_behind(name: &[u8]) -> usize
+    ensures count { result ≡ suffix_len is_slash name.now }
+    ensures within { result ≤ length name.now }
+{
+    name.iter().rev().take_while(|b| **b == b'/').count()
+}
+
+/// Whether the name's last component is `.`.
+fn ends_with_dot(name: &[u8]) -> bool
+    ensures { result ≡ ends_with_dot name.now }
+{
+    let text = &name[..name.len() - slashes_behind(name)];
+    text == b".".as_slice() || text.ends_with(b"/.")
+}
+
 fn place_of(alloc: Global, to: &Target, source: &Operand) -> Result<Operand, OperandNo>
     ensures { free_in is_free result ≡ false → result ≡ place_of to.now source.now }
 {
-    if !to.is_dir {
+    if !to.is_dir || ends_with_dot(source.name.bytes()) {
         return Ok(to.operand.copy(alloc)?);
     }
     let _text = source.path.text();

@@ -9,14 +9,14 @@ use Rattle.em_lexeme.specs.declared.lexeme.What.{What}
 use Rattle.em_token.specs.Kinds.{kinds, class_of, words, words_but_esac, command_words, reserved_words}
 use Rattle.em_token.specs.Shell.{shell, Expr, key, newlines, bare, reserved}
 use Rattle.em_gram.specs.Nesting.{piece_pattern}
-use Rattle.em_gram.specs.Patterns.{Spelling, digit_of, bytes_spelling, output_spelling, value_spelling, some_list, list_of, word_spelled, any_word, words_spelled, weave, mixed, some_parts, block_of, staged, first_pattern_of, patterns_of}
+use Rattle.em_gram.specs.Patterns.{Spelling, PieceSpelling, never, digit_of, bytes_spelling, output_spelling, value_spelling, argument_spelling, end_spelling, some_list, list_of, word_spelled, any_word, words_spelled, weave, mixed, some_parts, block_of, staged, first_pattern_of, patterns_of}
 use Rattle.em_gram.specs.Patterns.{command_pattern, compound_pattern, what_spelled_as, and_or_pattern, assigned_pattern, case_pattern, for_pattern, if_pattern, item_pattern, joined_pattern, loop_pattern, pipeline_pattern, redirect_pattern, script_listing, script_pattern, body_pattern, simple_pattern, word_spelling, piece_spelling}
 use Rattle.em_gram.specs.Same.{Shape, nothing, pair, bytes, flag, variant, row, optional, what_shape, word_shape, script_shape, piece_shape, command_shape, compound_shape, simple_shape, redirect_shape, if_shape, loop_shape, for_shape, case_shape}
 use Rattle.em_token.specs.declared.kind.Kind.TheVariants.{Plain, Name, Assignment, Bang, If as If_, While, Until, For as For_, Case as Case_, LeftBrace, Bytes, Assigning, Value as Value_, ArgumentStart, ArgumentEnd, SubstitutionStart, SubstitutionEnd, AndIf, OrIf, LeftParen, RightParen, RightBrace}
 use Rattle.em_syntax.specs.declared.tree.Command.{Command}
 use Rattle.em_syntax.specs.declared.tree.Compound.{Compound}
 use Rattle.em_syntax.specs.declared.tree.WordWhat.{WordWhat}
-use Rattle.em_syntax.specs.declared.tree.WordWhat.TheVariants.{Bytes as the-Bytes, Value as the-Value, Output as the-Output}
+use Rattle.em_syntax.specs.declared.tree.WordWhat.TheVariants.{Bytes as the-Bytes, Value as the-Value, Argument as the-Argument, End as the-End, Output as the-Output}
 use Rattle.em_syntax.specs.declared.tree.AndOr.{AndOr, out-AndOr}
 use Rattle.em_syntax.specs.declared.tree.Assigned.{Assigned}
 use Rattle.em_syntax.specs.declared.tree.Case.{Case}
@@ -29,16 +29,16 @@ use Rattle.em_syntax.specs.declared.tree.Pipeline.{Pipeline, out-Pipeline}
 use Rattle.em_syntax.specs.declared.tree.Redirect.{Redirect}
 use Rattle.em_syntax.specs.declared.tree.Script.{Script, out-Script}
 use Rattle.em_syntax.specs.declared.tree.Simple.{Simple, out-Simple}
-use Rattle.em_syntax.specs.declared.tree.Value.{Value, out-Value}
+use Rattle.em_syntax.specs.declared.tree.Value.{Value}
 use Rattle.em_syntax.specs.declared.tree.Word.{Word}
 use Rattle.em_syntax.specs.declared.tree.WordPiece.{WordPiece, out-WordPiece}
-use Rattle.em_gram.proofs.Spellings.{and_or_is, assigned_is, case_is, for_is, if_is, item_is, joined_is, loop_is, pipeline_is, script_is, simple_is, value_is, piece_is, what_Bytes, what_Value, what_Output, command_Simple, command_Compound, compound_Subshell, compound_Group, compound_If, compound_Loop, compound_For, compound_Case}
-use Rattle.em_gram.proofs.Shapes.{value_shape_is, piece_shape_is, what_shape_Bytes, what_shape_Value, what_shape_Output, what_cases, Compound_case, Command_case, compound_cases, command_cases, compound_shape_Subshell, compound_shape_Group, compound_shape_If, compound_shape_Loop, compound_shape_For, compound_shape_Case, command_shape_Simple, command_shape_Compound}
+use Rattle.em_gram.proofs.Spellings.{and_or_is, assigned_is, case_is, for_is, if_is, item_is, joined_is, loop_is, pipeline_is, script_is, simple_is, piece_is, what_Bytes, what_Value, what_Argument, what_End, what_Output, command_Simple, command_Compound, compound_Subshell, compound_Group, compound_If, compound_Loop, compound_For, compound_Case}
+use Rattle.em_gram.proofs.Shapes.{piece_shape_is, what_shape_Bytes, what_shape_Value, what_shape_Argument, what_shape_End, what_shape_Output, WordWhat_case, what_cases, Compound_case, Command_case, compound_cases, command_cases, compound_shape_Subshell, compound_shape_Group, compound_shape_If, compound_shape_Loop, compound_shape_For, compound_shape_Case, command_shape_Simple, command_shape_Compound}
 use Rattle.em_gram.proofs.Starting.{Pat, redirect_begins, begins_key, begins_this, begins_wider, begins_redirect}
 use Rattle.em_gram.proofs.Alike.{Ends, Begins, begin_one, begin_then, begin_wider, begin_as}
 
 abbrev pub piece_begins : List ℕ
-piece_begins = kinds (Bytes ∷ Assigning ∷ Value_ ∷ ArgumentStart ∷ SubstitutionStart ∷ [])
+piece_begins = kinds (Bytes ∷ Assigning ∷ Value_ ∷ ArgumentStart ∷ ArgumentEnd ∷ SubstitutionStart ∷ [])
 
 abbrev pub simple_begins : List ℕ
 simple_begins = kinds (Name ∷ Plain ∷ Assignment ∷ []) ++ redirect_begins
@@ -58,37 +58,30 @@ item_begins = kinds (LeftParen ∷ []) ++ words_but_esac
 -- pieces, by what they are
 pub data PieceView (p : WordPiece) : Type 0 where
   bytes_view : (q : Bool) (t : List ℕ) → piece_pattern p ≡ this (kinds (Bytes ∷ Assigning ∷ [])) (What.Bytes q t) → piece_shape p ≡ pair (flag q) (variant 0 (bytes t)) → (piece_spelling p).digit ≡ digit_of q t → PieceView p
-  value_view : (q : Bool) (n f : List ℕ) → piece_pattern p ≡ this (kinds (Value_ ∷ [])) (What.Value q n f) → piece_shape p ≡ pair (flag q) (variant 1 (pair (bytes n) (pair (bytes f) nothing))) → (piece_spelling p).digit ≡ None → PieceView p
-  argument_view : (q : Bool) (n f : List ℕ) (w : Word) → piece_pattern p ≡ (this (kinds (ArgumentStart ∷ [])) (What.ArgumentStart q n f) ⨾ (word_spelling w).pattern ⨾ key ArgumentEnd) →
-      piece_shape p ≡ pair (flag q) (variant 1 (pair (bytes n) (pair (bytes f) (pair (word_shape w) nothing)))) → (piece_spelling p).digit ≡ None → PieceView p
-  output_view : (q : Bool) (s : Script) → piece_pattern p ≡ (this (kinds (SubstitutionStart ∷ [])) (What.SubstitutionStart q) ⨾ newlines ⨾ body_pattern s ⨾ key SubstitutionEnd) → piece_shape p ≡ pair (flag q) (variant 2 (script_shape s)) → (piece_spelling p).digit ≡ None → PieceView p
+  value_view : (q : Bool) (n f : List ℕ) → piece_pattern p ≡ this (kinds (Value_ ∷ [])) (What.Value q n f) → piece_shape p ≡ pair (flag q) (variant 1 (pair (bytes n) (bytes f))) → (piece_spelling p).digit ≡ None → PieceView p
+  argument_view : (q : Bool) (n f : List ℕ) → piece_pattern p ≡ this (kinds (ArgumentStart ∷ [])) (What.ArgumentStart q n f) → piece_shape p ≡ pair (flag q) (variant 2 (pair (bytes n) (bytes f))) → (piece_spelling p).digit ≡ None → PieceView p
+  end_view : (q : Bool) → piece_pattern p ≡ cond q never (key ArgumentEnd) → piece_shape p ≡ pair (flag q) (variant 3 nothing) → (piece_spelling p).digit ≡ None → PieceView p
+  output_view : (q : Bool) (s : Script) → piece_pattern p ≡ (this (kinds (SubstitutionStart ∷ [])) (What.SubstitutionStart q) ⨾ newlines ⨾ body_pattern s ⨾ key SubstitutionEnd) → piece_shape p ≡ pair (flag q) (variant 4 (script_shape s)) → (piece_spelling p).digit ≡ None → PieceView p
 
 module _ (p : WordPiece) where
-  spelled : (w : WordWhat) (g : Bool → Spelling) → (out-WordPiece p).what ≡ w → what_spelled_as w ≡ g → piece_spelling p ≡ g (out-WordPiece p).quoted
-  spelled w g e i = piece_is p ∙ ap (λ z. what_spelled_as z (out-WordPiece p).quoted) e ∙ ap (λ h. h (out-WordPiece p).quoted) i
+  abbrev Quoted : Bool
+  Quoted = (out-WordPiece p).quoted
 
-  shaped : (w : WordWhat) (x : Shape) → (out-WordPiece p).what ≡ w → what_shape w ≡ x → piece_shape p ≡ pair (flag (out-WordPiece p).quoted) x
-  shaped w x e i = piece_shape_is p ∙ ap (λ z. pair (flag (out-WordPiece p).quoted) z) (ap what_shape e ∙ i)
+  spelled : (w : WordWhat) (g : Bool → PieceSpelling) → (out-WordPiece p).what ≡ w → what_spelled_as w ≡ g → piece_spelling p ≡ g Quoted
+  spelled w g e i = piece_is p ∙ ap (λ z. what_spelled_as z Quoted) e ∙ ap (λ h. h Quoted) i
 
-  a_value : (v : Value) → (out-WordPiece p).what ≡ the-Value v → (o : Option Word) → (out-Value v).arg ≡ o → PieceView p
-  a_value v e None i =
-      let s = spelled (the-Value v) (value_spelling (out-Value v).name (out-Value v).form None) e (what_Value v ∙ value_is v ∙ ap (λ z. value_spelling (out-Value v).name (out-Value v).form (option_map word_spelling z)) i) in
-      value_view (out-WordPiece p).quoted (out-Value v).name (out-Value v).form (ap (λ z. z.pattern) s)
-      (shaped (the-Value v) (variant 1 (pair (bytes (out-Value v).name) (pair (bytes (out-Value v).form) nothing))) e (what_shape_Value v ∙ ap (λ z. variant 1 z) (value_shape_is v ∙ ap (λ z. pair (bytes (out-Value v).name) (pair (bytes (out-Value v).form) (optional (option_map word_shape z)))) i)))
-      (ap (λ z. z.digit) s)
-  a_value v e (Some w) i =
-      let s = spelled (the-Value v) (value_spelling (out-Value v).name (out-Value v).form (Some (word_spelling w))) e (what_Value v ∙ value_is v ∙ ap (λ z. value_spelling (out-Value v).name (out-Value v).form (option_map word_spelling z)) i) in
-      argument_view (out-WordPiece p).quoted (out-Value v).name (out-Value v).form w (ap (λ z. z.pattern) s)
-      (shaped (the-Value v) (variant 1 (pair (bytes (out-Value v).name) (pair (bytes (out-Value v).form) (pair (word_shape w) nothing)))) e (what_shape_Value v ∙ ap (λ z. variant 1 z) (value_shape_is v ∙ ap (λ z. pair (bytes (out-Value v).name) (pair (bytes (out-Value v).form) (optional (option_map word_shape z)))) i)))
-      (ap (λ z. z.digit) s)
+  shaped : (w : WordWhat) (x : Shape) → (out-WordPiece p).what ≡ w → what_shape w ≡ x → piece_shape p ≡ pair (flag Quoted) x
+  shaped w x e i = piece_shape_is p ∙ ap (λ z. pair (flag Quoted) z) (ap what_shape e ∙ i)
 
   pub piece_view : PieceView p
   piece_view = at (what_cases (out-WordPiece p).what)
     where
-      at : ((x : List ℕ) × ((out-WordPiece p).what ≡ the-Bytes x)) ⊎ (((x : Value) × ((out-WordPiece p).what ≡ the-Value x)) ⊎ ((x : Script) × ((out-WordPiece p).what ≡ the-Output x))) → PieceView p
-      at (inl (t, e)) = let s = spelled (the-Bytes t) (bytes_spelling t) e (what_Bytes t) in bytes_view (out-WordPiece p).quoted t (ap (λ z. z.pattern) s) (shaped (the-Bytes t) (variant 0 (bytes t)) e (what_shape_Bytes t)) (ap (λ z. z.digit) s)
-      at (inr (inl (v, e))) = a_value v e (out-Value v).arg refl
-      at (inr (inr (s, e))) = let i = spelled (the-Output s) (output_spelling (script_listing s)) e (what_Output s) in output_view (out-WordPiece p).quoted s (ap (λ z. z.pattern) i) (shaped (the-Output s) (variant 2 (script_shape s)) e (what_shape_Output s)) (ap (λ z. z.digit) i)
+      at : WordWhat_case (out-WordPiece p).what → PieceView p
+      at (inl (t, e)) = let s = spelled (the-Bytes t) (bytes_spelling t) e (what_Bytes t) in bytes_view Quoted t (ap (λ z. z.pattern) s) (shaped (the-Bytes t) (variant 0 (bytes t)) e (what_shape_Bytes t)) (ap (λ z. z.digit) s)
+      at (inr (inl (v, e))) = let s = spelled (the-Value v) (value_spelling v.name v.form) e (what_Value v) in value_view Quoted v.name v.form (ap (λ z. z.pattern) s) (shaped (the-Value v) (variant 1 (pair (bytes v.name) (bytes v.form))) e (what_shape_Value v)) (ap (λ z. z.digit) s)
+      at (inr (inr (inl (v, e)))) = let s = spelled (the-Argument v) (argument_spelling v.name v.form) e (what_Argument v) in argument_view Quoted v.name v.form (ap (λ z. z.pattern) s) (shaped (the-Argument v) (variant 2 (pair (bytes v.name) (bytes v.form))) e (what_shape_Argument v)) (ap (λ z. z.digit) s)
+      at (inr (inr (inr (inl e)))) = let s = spelled the-End end_spelling e what_End in end_view Quoted (ap (λ z. z.pattern) s) (shaped the-End (variant 3 nothing) e what_shape_End) (ap (λ z. z.digit) s)
+      at (inr (inr (inr (inr (s, e))))) = let i = spelled (the-Output s) (output_spelling (script_listing s)) e (what_Output s) in output_view Quoted s (ap (λ z. z.pattern) i) (shaped (the-Output s) (variant 4 (script_shape s)) e (what_shape_Output s)) (ap (λ z. z.digit) i)
 
 pub begin_this : (s u : List ℕ) (w : What) → within s u ≡ true → Begins (this s w) u
 begin_this s u w i = record { begins = λ K ts h. begins_wider s u i ts (begins_this s w K ts h) }
@@ -96,19 +89,26 @@ begin_this s u w i = record { begins = λ K ts h. begins_wider s u i ts (begins_
 abbrev pub piece_classes : {p : WordPiece} → PieceView p → List ℕ
 piece_classes (bytes_view q t e s d) = kinds (Bytes ∷ Assigning ∷ [])
 piece_classes (value_view q n f e s d) = kinds (Value_ ∷ [])
-piece_classes (argument_view q n f w e s d) = kinds (ArgumentStart ∷ [])
+piece_classes (argument_view q n f e s d) = kinds (ArgumentStart ∷ [])
+piece_classes (end_view q e s d) = kinds (ArgumentEnd ∷ [])
 piece_classes (output_view q c e s d) = kinds (SubstitutionStart ∷ [])
+
+begin_end : (q : Bool) → Begins (cond q never (key ArgumentEnd)) (kinds (ArgumentEnd ∷ []))
+begin_end true = record { begins = λ K ts h. absurd (let k = h.1 in cc) }
+begin_end false = begin_one (kinds (ArgumentEnd ∷ [])) (kinds (ArgumentEnd ∷ [])) refl
 
 pub begin_view : {p : WordPiece} (v : PieceView p) → Begins (piece_pattern p) (piece_classes v)
 begin_view (bytes_view q t e s d) = begin_as e (begin_this (kinds (Bytes ∷ Assigning ∷ [])) (kinds (Bytes ∷ Assigning ∷ [])) (What.Bytes q t) refl)
 begin_view (value_view q n f e s d) = begin_as e (begin_this (kinds (Value_ ∷ [])) (kinds (Value_ ∷ [])) (What.Value q n f) refl)
-begin_view (argument_view q n f w e s d) = begin_as e (begin_then (begin_this (kinds (ArgumentStart ∷ [])) (kinds (ArgumentStart ∷ [])) (What.ArgumentStart q n f) refl))
+begin_view (argument_view q n f e s d) = begin_as e (begin_this (kinds (ArgumentStart ∷ [])) (kinds (ArgumentStart ∷ [])) (What.ArgumentStart q n f) refl)
+begin_view (end_view q e s d) = begin_as e (begin_end q)
 begin_view (output_view q c e s d) = begin_as e (begin_then (begin_this (kinds (SubstitutionStart ∷ [])) (kinds (SubstitutionStart ∷ [])) (What.SubstitutionStart q) refl))
 
 classes_within : {p : WordPiece} (v : PieceView p) → within (piece_classes v) piece_begins ≡ true
 classes_within (bytes_view q t e s d) = refl
 classes_within (value_view q n f e s d) = refl
-classes_within (argument_view q n f w e s d) = refl
+classes_within (argument_view q n f e s d) = refl
+classes_within (end_view q e s d) = refl
 classes_within (output_view q c e s d) = refl
 
 pub begin_piece : (p : WordPiece) → Begins (piece_pattern p) piece_begins

@@ -14,8 +14,9 @@ use Rattle.em_lexeme.specs.declared.lexeme.What.{What}
 use Rattle.em_token.specs.Kinds.{kinds, whats, class_of}
 use Rattle.em_token.specs.Shell.{shell, Expr, key, newlines}
 use Rattle.em_gram.specs.Patterns.{digit_of, only_digit, piece_spelling, script_listing, script_pattern, body_pattern, some_list, body_of, number_of, number_spelled, usual, target_spelled, redirect_pattern, word_spelling, list_of, and_or_pattern}
-use Rattle.em_gram.specs.Nesting.{piece_pattern}
-use Rattle.em_token.specs.declared.kind.Kind.TheVariants.{Bytes, Assigning, Value, ArgumentStart, SubstitutionStart, SubstitutionEnd, Number}
+use Rattle.em_gram.specs.Nesting.{piece_pattern, piece_nesting}
+use Rattle.em_syntax.specs.Nesting.{Stays, Opens, Closes}
+use Rattle.em_token.specs.declared.kind.Kind.TheVariants.{Bytes, Assigning, Value, ArgumentStart, ArgumentEnd, SubstitutionStart, SubstitutionEnd, Number}
 use Rattle.em_syntax.specs.declared.tree.RedirectKind.{RedirectKind}
 use Rattle.em_syntax.specs.declared.tree.Script.{Script, roll-Script}
 use Rattle.em_syntax.specs.declared.tree.AndOr.{AndOr}
@@ -23,16 +24,38 @@ use Rattle.em_syntax.specs.declared.tree.Word.{Word, roll-Word}
 use Rattle.em_syntax.specs.declared.tree.Redirect.{roll-Redirect}
 use Rattle.em_syntax.specs.declared.tree.WordPiece.{WordPiece, roll-WordPiece}
 use Rattle.em_syntax.specs.declared.tree.WordWhat.TheVariants as WordWhat
-use Rattle.em_syntax.specs.declared.tree.Value.{roll-Value}
-use Rattle.em_gram.proofs.Spellings.{piece_made, what_Bytes, what_Value, what_Output, value_made, script_made, word_made, redirect_made}
+use Rattle.em_syntax.specs.declared.tree.Value.{Value as ValueTree}
+use Rattle.em_gram.proofs.Spellings.{piece_made, what_Bytes, what_Value, what_Argument, what_End, what_Output, script_made, word_made, redirect_made}
 use Rattle.em_grammar.proofs.Giving.{spell_front}
 use Rattle.em_token.proofs.Tokens.{assigning_is, small_number, descends_this}
 
 pub bytes_made : (q : Bool) (text : List ℕ) → piece_pattern (roll-WordPiece (record { quoted = q; what = WordWhat.Bytes text })) ≡ this (kinds (Bytes ∷ Assigning ∷ [])) (What.Bytes q text)
 bytes_made q text = ap (λ s. s.pattern) (piece_made q (WordWhat.Bytes text) ∙ ap (λ g. g q) (what_Bytes text))
 
-pub value_piece_made : (q : Bool) (n f : List ℕ) → piece_pattern (roll-WordPiece (record { quoted = q; what = WordWhat.Value (roll-Value (record { name = n; form = f; arg = None })) })) ≡ this (kinds (Value ∷ [])) (What.Value q n f)
-value_piece_made q n f = ap (λ s. s.pattern) (piece_made q (WordWhat.Value (roll-Value (record { name = n; form = f; arg = None }))) ∙ ap (λ g. g q) (what_Value (roll-Value (record { name = n; form = f; arg = None }))) ∙ ap (λ g. g q) (value_made n f None))
+pub value_piece_made : (q : Bool) (n f : List ℕ) → piece_pattern (roll-WordPiece (record { quoted = q; what = WordWhat.Value (record { name = n; form = f }) })) ≡ this (kinds (Value ∷ [])) (What.Value q n f)
+value_piece_made q n f = ap (λ s. s.pattern) (piece_made q (WordWhat.Value (record { name = n; form = f })) ∙ ap (λ g. g q) (what_Value (record { name = n; form = f })))
+
+pub argument_made : (q : Bool) (n f : List ℕ) → piece_pattern (roll-WordPiece (record { quoted = q; what = WordWhat.Argument (record { name = n; form = f }) })) ≡ this (kinds (ArgumentStart ∷ [])) (What.ArgumentStart q n f)
+argument_made q n f = ap (λ s. s.pattern) (piece_made q (WordWhat.Argument (record { name = n; form = f })) ∙ ap (λ g. g q) (what_Argument (record { name = n; form = f })))
+
+pub end_made : piece_pattern (roll-WordPiece (record { quoted = false; what = WordWhat.End })) ≡ key ArgumentEnd
+end_made = ap (λ s. s.pattern) (piece_made false WordWhat.End ∙ ap (λ g. g false) what_End)
+
+-- how each nests
+pub bytes_nesting : (q : Bool) (text : List ℕ) → piece_nesting (roll-WordPiece (record { quoted = q; what = WordWhat.Bytes text })) ≡ Stays
+bytes_nesting q text = ap (λ s. s.nesting) (piece_made q (WordWhat.Bytes text) ∙ ap (λ g. g q) (what_Bytes text))
+
+pub value_nesting : (q : Bool) (v : ValueTree) → piece_nesting (roll-WordPiece (record { quoted = q; what = WordWhat.Value v })) ≡ Stays
+value_nesting q v = ap (λ s. s.nesting) (piece_made q (WordWhat.Value v) ∙ ap (λ g. g q) (what_Value v))
+
+pub argument_nesting : (q : Bool) (v : ValueTree) → piece_nesting (roll-WordPiece (record { quoted = q; what = WordWhat.Argument v })) ≡ Opens
+argument_nesting q v = ap (λ s. s.nesting) (piece_made q (WordWhat.Argument v) ∙ ap (λ g. g q) (what_Argument v))
+
+pub end_nesting : piece_nesting (roll-WordPiece (record { quoted = false; what = WordWhat.End })) ≡ Closes
+end_nesting = ap (λ s. s.nesting) (piece_made false WordWhat.End ∙ ap (λ g. g false) what_End)
+
+pub output_nesting : (q : Bool) (s : Script) → piece_nesting (roll-WordPiece (record { quoted = q; what = WordWhat.Output s })) ≡ Stays
+output_nesting q s = ap (λ p. p.nesting) (piece_made q (WordWhat.Output s) ∙ ap (λ g. g q) (what_Output s))
 
 pub bytes_read : (left : ℕ) (ts rest : List What) (w : What) (q : Bool) (held text : List ℕ) (piece : WordPiece) → w ≡ What.Bytes q held → text ≡ held → piece_pattern piece ≡ this (kinds (Bytes ∷ Assigning ∷ [])) (What.Bytes q text) →
     Reads shell left (one (kinds (Bytes ∷ Assigning ∷ []))) ts (this (kinds (Bytes ∷ Assigning ∷ [])) w) rest → Reads shell left (one (kinds (Bytes ∷ Assigning ∷ []))) ts (piece_pattern piece) rest
@@ -42,9 +65,9 @@ pub value_read : (left : ℕ) (ts rest : List What) (w : What) (q : Bool) (held_
     Reads shell left (key Value) ts (this (kinds (Value ∷ [])) w) rest → Reads shell left (key Value) ts (piece_pattern piece) rest
 value_read left ts rest w q held_name held_form name form piece i e f p h = rw (p, e, f, ← i) h
 
-pub argument_read : (left : ℕ) (ts rest : List What) (w : What) (q : Bool) (held_name held_form name form : List ℕ) → w ≡ What.ArgumentStart q held_name held_form → name ≡ held_name → form ≡ held_form →
-    Reads shell left (key ArgumentStart) ts (this (kinds (ArgumentStart ∷ [])) w) rest → Reads shell left (key ArgumentStart) ts (this (kinds (ArgumentStart ∷ [])) (What.ArgumentStart q name form)) rest
-argument_read left ts rest w q held_name held_form name form i e f h = rw (e, f, ← i) h
+pub argument_read : (left : ℕ) (ts rest : List What) (w : What) (q : Bool) (held_name held_form name form : List ℕ) (piece : WordPiece) → w ≡ What.ArgumentStart q held_name held_form → name ≡ held_name → form ≡ held_form → piece_pattern piece ≡ this (kinds (ArgumentStart ∷ [])) (What.ArgumentStart q name form) →
+    Reads shell left (key ArgumentStart) ts (this (kinds (ArgumentStart ∷ [])) w) rest → Reads shell left (key ArgumentStart) ts (piece_pattern piece) rest
+argument_read left ts rest w q held_name held_form name form piece i e f p h = rw (p, e, f, ← i) h
 
 pub named_read : (left : ℕ) (ts rest : List What) (w : What) (q : Bool) (held bytes cut name : List ℕ) → w ≡ What.Bytes q held → is_among (class_of w) (kinds (Assigning ∷ [])) ≡ true → bytes ≡ held → cut ≡ take (length bytes - 1) bytes → name ≡ cut →
     Reads shell left (key Assigning) ts (this (kinds (Assigning ∷ [])) w) rest → Reads shell left (key Assigning) ts (this (kinds (Assigning ∷ [])) (What.Bytes false (name ++ 61 ∷ []))) rest
@@ -55,6 +78,10 @@ number_read left ts rest w n i h = rw (← i) h
 
 pub small_at : (w : What) (n : ℕ) → w ≡ What.Number n → is_among (class_of w) (kinds (Number ∷ [])) ≡ true → n ≤ 9
 small_at w n i m = small_number n (rw i at m)
+
+pub any_argument : (ts rest : List What) (w : What) → Spells shell (this (kinds (ArgumentStart ∷ [])) w) ts rest → Spells shell (key ArgumentStart) ts rest
+any_argument [] rest w h = absurd h
+any_argument (t ∷ ts) rest w h = (h.0.0, h.1)
 
 pub output_made : (q : Bool) (s : Script) → piece_pattern (roll-WordPiece (record { quoted = q; what = WordWhat.Output s })) ≡ (this (kinds (SubstitutionStart ∷ [])) (What.SubstitutionStart q) ⨾ newlines ⨾ body_pattern s ⨾ key SubstitutionEnd)
 output_made q s = ap (λ p. p.pattern) (piece_made q (WordWhat.Output s) ∙ ap (λ g. g q) (what_Output s))

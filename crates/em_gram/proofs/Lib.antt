@@ -11,4 +11,5 @@ pub mod Turns
 pub mod Alike
 pub mod Firsts
 pub mod Only
+pub mod Closed
 pub mod Verdicts

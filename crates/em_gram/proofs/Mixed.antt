@@ -108,11 +108,11 @@ pub none_open : (d : ℕ) → not (d == 0) ≡ false → d ≡ 0
 none_open d o = eqb-true d 0 (not_false (d == 0) o)
 
 -- a step of a word
-pub open_moves : (left d n : ℕ) (g : Expr) (ts us : List What) (w : What) → n ≡ d + 1 → Spells shell (this (kinds (ArgumentStart ∷ [])) w) ts us → Moves shell left (pieces d ⨾ g) ts (pieces n ⨾ g) us
-open_moves left d n g [] us w e h = absurd h
-open_moves left d n g (t ∷ vs) us w e h =
+pub open_moves : (left d n : ℕ) (g : Expr) (ts us : List What) → n ≡ d + 1 → Spells shell (key ArgumentStart) ts us → Moves shell left (pieces d ⨾ g) ts (pieces n ⨾ g) us
+open_moves left d n g [] us e h = absurd h
+open_moves left d n g (t ∷ vs) us e h =
     let k : n ≡ suc d = omega (arith, e) in
-    rw (k, ← h.1) (record { goes = (opens_bracket shell (begun shell left (pieces d ⨾ g) (t ∷ vs)) h.0.0 (key ArgumentStart) (h.0.0, refl)).goes })
+    rw (k, ← h.1) (record { goes = (opens_bracket shell (begun shell left (pieces d ⨾ g) (t ∷ vs)) h.0 (key ArgumentStart) (h.0, refl)).goes })
 
 pub close_moves : (left d n : ℕ) (g : Expr) (ts us : List What) → n + 1 ≡ d → Spells shell (key ArgumentEnd) ts us → Moves shell left (pieces d ⨾ g) ts (pieces n ⨾ g) us
 close_moves left d n g [] us e h = absurd h

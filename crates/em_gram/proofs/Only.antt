@@ -12,8 +12,9 @@ use Rattle.em_gram.specs.Line.{IsScript}
 use Rattle.em_lexeme.specs.declared.lexeme.What.{What}
 use Rattle.em_token.specs.Kinds.{kinds, class_of, whats, words, words_but_esac, command_words, reserved_words, names}
 use Rattle.em_token.specs.Shell.{shell, Expr, key, newlines, bare, reserved, sequential, item_end}
-use Rattle.em_gram.specs.Nesting.{piece_pattern}
-use Rattle.em_gram.specs.Patterns.{digit_of, only_digit, never, body_of, list_of, word_spelled, any_word, digit_spelled, operator_spelled, target_spelled, usual, redirect_spelled, words_spelled, mixed, some_parts, block_of, do_of, staged, else_of, branches_of, first_pattern_of, pattern_behind, patterns_of, items_of}
+use Rattle.em_gram.specs.Nesting.{piece_pattern, piece_nesting}
+use Rattle.em_syntax.specs.Nesting.{open_after}
+use Rattle.em_gram.specs.Patterns.{digit_of, only_digit, if_closed, never, body_of, list_of, word_spelled, any_word, digit_spelled, operator_spelled, target_spelled, usual, redirect_spelled, words_spelled, mixed, some_parts, block_of, do_of, staged, else_of, branches_of, first_pattern_of, pattern_behind, patterns_of, items_of}
 use Rattle.em_token.specs.Words.{bytes_spelled, name_spelled}
 use Rattle.em_gram.specs.Patterns.{command_pattern, compound_pattern, and_or_pattern, assigned_pattern, branch_pattern, case_pattern, for_pattern, if_pattern, item_pattern, joined_pattern, loop_pattern, pipeline_pattern, redirect_pattern, script_pattern, body_pattern, simple_pattern, word_spelling, piece_spelling}
 use Rattle.em_gram.specs.Same.{Shape, nothing, pair, bytes, flag, variant, row, optional}
@@ -39,12 +40,12 @@ use Rattle.em_syntax.specs.declared.tree.Word.{Word, out-Word}
 use Rattle.em_syntax.specs.declared.tree.WordPiece.{WordPiece}
 use Rattle.em_gram.proofs.Spellings.{and_or_is, assigned_is, branch_is, case_is, for_is, if_is, item_is, joined_is, loop_is, pipeline_is, redirect_is, script_is, simple_is, word_is}
 use Rattle.em_gram.proofs.Shapes.{and_or_shape_is, assigned_shape_is, branch_shape_is, case_shape_is, for_shape_is, if_shape_is, item_shape_is, joined_shape_is, loop_shape_is, pipeline_shape_is, redirect_shape_is, script_shape_is, simple_shape_is, word_shape_is}
-use Rattle.em_gram.proofs.Nested.{patterns_are}
+use Rattle.em_gram.proofs.Nested.{pieces_pattern}
 use Rattle.em_gram.proofs.Choices.{words_map}
 use Rattle.em_gram.proofs.Holding.{script_body}
 use Rattle.em_gram.proofs.Starting.{Pat, redirect_begins, begins_key, begins_this, begins_wider, begins_redirect}
 use Rattle.em_gram.proofs.Alike.{Ends, clash, over, Begins, Fits, Agree, begin_then, begin_as, fit, fit_empty, fit_then, fit_as, fit_none, agree_map, agree_as, agree_less, agree_before, agree_respelled, agree_one, agree_this, agree_then, agree_behind, agree_behind_this, agree_newlines, agree_apart, agree_empty, agree_left, agree_right, fixed_then, then_fixed, all_fit, agree_all, agree_row, agree_parted}
-use Rattle.em_gram.proofs.Firsts.{piece_begins, simple_begins, compound_begins, command_begins, pipeline_begins, item_begins, PieceView, bytes_view, value_view, argument_view, output_view, piece_view, piece_classes, begin_view, begin_piece, begin_word, begin_assigned, begin_redirect, begin_simple, CompoundView, subshell_view, group_view, if_view, loop_view, for_view, case_view, compound_view, compound_classes, begin_compound_view, begin_compound, CommandView, simple_view, with_redirects, command_view, begin_command, begin_staged, begin_pipeline, begin_and_or, begin_script, begin_joined, begin_item, no_either}
+use Rattle.em_gram.proofs.Firsts.{piece_begins, simple_begins, compound_begins, command_begins, pipeline_begins, item_begins, PieceView, bytes_view, value_view, argument_view, end_view, output_view, piece_view, piece_classes, begin_view, begin_piece, begin_word, begin_assigned, begin_redirect, begin_simple, CompoundView, subshell_view, group_view, if_view, loop_view, for_view, case_view, compound_view, compound_classes, begin_compound_view, begin_compound, CommandView, simple_view, with_redirects, command_view, begin_command, begin_staged, begin_pipeline, begin_and_or, begin_script, begin_joined, begin_item, no_either}
 use Rattle.em_gram.proofs.Turns.{after, before, Next, ends, word, redirect, next, First, ends_first, assigned, first_word, redirect_first, first}
 
 -- what doesn't follow each part
@@ -112,7 +113,8 @@ digit_piece p m e = at (piece_view p)
     at : PieceView p → piece_shape p ≡ digit_shape m
     at (bytes_view q t i s d) = s ∙ digit_text q t m (sym d ∙ e)
     at (value_view q n f i s d) = absurd cc
-    at (argument_view q n f w i s d) = absurd cc
+    at (argument_view q n f i s d) = absurd cc
+    at (end_view q i s d) = absurd cc
     at (output_view q c i s d) = absurd cc
 
 digit_pieces : (ps : List WordPiece) (m : ℕ) → only_digit (map piece_spelling ps) ≡ Some m → row (map piece_shape ps) ≡ row (digit_shape m ∷ [])
@@ -234,16 +236,21 @@ body_fit : (s : Script) → Fits (body_pattern s ⨾ key SubstitutionEnd) [] (ki
 body_fit s = fit_then (body_fits s) (fit refl (begin_kind (kinds (SubstitutionEnd ∷ []))))
 
 -- the parts of a tree, where scripts and words in fewer lexemes are the only ones
-module _ (n : ℕ) (H : (s t : Script) → Agree n (body_pattern s) (body_pattern t) list_end (script_shape s ≡ script_shape t)) (W : (v w : Word) → Agree n (word_spelling v).pattern (word_spelling w).pattern piece_begins (word_shape v ≡ word_shape w)) where
+module _ (n : ℕ) (H : (s t : Script) → Agree n (body_pattern s) (body_pattern t) list_end (script_shape s ≡ script_shape t)) where
   -- pieces
+  agree_end : (q p : Bool) → Agree (suc n) (cond q never (key ArgumentEnd)) (cond p never (key ArgumentEnd)) [] (q ≡ p)
+  agree_end true p = record { agrees = λ ts r s l h g e f. absurd (let k = h.1 in cc) }
+  agree_end false true = record { agrees = λ ts r s l h g e f. absurd (let k = g.1 in cc) }
+  agree_end false false = agree_map (λ i. refl) (agree_key (kinds (ArgumentEnd ∷ [])))
+
   agree_views : {x y : WordPiece} → PieceView x → PieceView y → Agree (suc n) (piece_pattern x) (piece_pattern y) [] (piece_shape x ≡ piece_shape y)
   agree_views (bytes_view q t e s d) (bytes_view p u f z c) =
       agree_as e f (agree_map (λ i. cc) (agree_this (kinds (Bytes ∷ Assigning ∷ [])) (kinds (Bytes ∷ Assigning ∷ [])) (What.Bytes q t) (What.Bytes p u)))
   agree_views (value_view q a b e s d) (value_view p v w f z c) =
       agree_as e f (agree_map (λ i. cc) (agree_this (kinds (Value_ ∷ [])) (kinds (Value_ ∷ [])) (What.Value q a b) (What.Value p v w)))
-  agree_views (argument_view q a b x e s d) (argument_view p v w y f z c) =
-      agree_as e f (agree_map (λ i. let j = i.0 in let k = i.1 in cc) (agree_behind_this (kinds (ArgumentStart ∷ [])) (kinds (ArgumentStart ∷ [])) (What.ArgumentStart q a b) (What.ArgumentStart p v w)
-      (λ i. then_fixed (W x y) (agree_key (kinds (ArgumentEnd ∷ []))) (fit refl (begin_kind (kinds (ArgumentEnd ∷ [])))))))
+  agree_views (argument_view q a b e s d) (argument_view p v w f z c) =
+      agree_as e f (agree_map (λ i. cc) (agree_this (kinds (ArgumentStart ∷ [])) (kinds (ArgumentStart ∷ [])) (What.ArgumentStart q a b) (What.ArgumentStart p v w)))
+  agree_views (end_view q e s d) (end_view p f z c) = agree_as e f (agree_map (λ i. cc) (agree_end q p))
   agree_views (output_view q a e s d) (output_view p b f z c) =
       agree_as e f (agree_map (λ i. let j = i.0 in let k = i.1 in cc) (agree_behind_this (kinds (SubstitutionStart ∷ [])) (kinds (SubstitutionStart ∷ [])) (What.SubstitutionStart q) (What.SubstitutionStart p)
       (λ i. agree_map (λ j. j.1) (agree_then agree_newlines (λ j. then_fixed (H a b) (agree_key (kinds (SubstitutionEnd ∷ []))) (fit refl (begin_kind (kinds (SubstitutionEnd ∷ []))))) (body_fit a) (body_fit b)))))
@@ -252,14 +259,22 @@ module _ (n : ℕ) (H : (s t : Script) → Agree n (body_pattern s) (body_patter
   agree_piece : (x y : WordPiece) → Agree (suc n) (piece_pattern x) (piece_pattern y) [] (piece_shape x ≡ piece_shape y)
   agree_piece x y = agree_views (piece_view x) (piece_view y)
 
-  -- words
-  word_pattern_is : (w : Word) → (word_spelling w).pattern ≡ all (map piece_pattern (out-Word w).pieces.items)
-  word_pattern_is w = ap (λ s. s.pattern) (word_is w) ∙ ap all (patterns_are (out-Word w).pieces.items)
+  -- words: what isn't closed is spelled by nothing
+  agree_closed : (a b : Option ℕ) {p q : Expr} {A : Type 0} → Agree (suc n) p q piece_begins A → Agree (suc n) (if_closed a p) (if_closed b q) piece_begins A
+  agree_closed None b k = record { agrees = λ ts r s l h g e f. absurd (let m = h.1 in cc) }
+  agree_closed (Some (suc a)) b k = record { agrees = λ ts r s l h g e f. absurd (let m = h.1 in cc) }
+  agree_closed (Some zero) None k = record { agrees = λ ts r s l h g e f. absurd (let m = g.1 in cc) }
+  agree_closed (Some zero) (Some (suc b)) k = record { agrees = λ ts r s l h g e f. absurd (let m = g.1 in cc) }
+  agree_closed (Some zero) (Some zero) k = k
 
-  pub agree_pieces : (v w : Word) → Agree (suc n) (word_spelling v).pattern (word_spelling w).pattern piece_begins (word_shape v ≡ word_shape w)
+  word_pattern_is : (w : Word) → (word_spelling w).pattern ≡ if_closed (open_after 0 (map piece_nesting (out-Word w).pieces.items)) (all (map piece_pattern (out-Word w).pieces.items))
+  word_pattern_is w = ap (λ s. s.pattern) (word_is w) ∙ pieces_pattern (out-Word w).pieces.items
+
+  agree_pieces : (v w : Word) → Agree (suc n) (word_spelling v).pattern (word_spelling w).pattern piece_begins (word_shape v ≡ word_shape w)
   agree_pieces v w =
       agree_as (word_pattern_is v) (word_pattern_is w) (agree_map (λ i. word_shape_is v ∙ i ∙ sym (word_shape_is w))
-      (agree_all piece_pattern piece_shape piece_begins [] piece_begins begin_piece refl refl refl (suc n) agree_piece (out-Word v).pieces.items (out-Word w).pieces.items))
+      (agree_closed (open_after 0 (map piece_nesting (out-Word v).pieces.items)) (open_after 0 (map piece_nesting (out-Word w).pieces.items))
+      (agree_all piece_pattern piece_shape piece_begins [] piece_begins begin_piece refl refl refl (suc n) agree_piece (out-Word v).pieces.items (out-Word w).pieces.items)))
 
   agree_ended : (v w : Word) → Agree (suc n) ((word_spelling v).pattern ⨾ key WordEnd) ((word_spelling w).pattern ⨾ key WordEnd) [] (word_shape v ≡ word_shape w)
   agree_ended v w = then_fixed (agree_pieces v w) (agree_key (kinds (WordEnd ∷ []))) (fit refl (begin_kind (kinds (WordEnd ∷ []))))
@@ -676,18 +691,15 @@ module _ (n : ℕ) (H : (s t : Script) → Agree n (body_pattern s) (body_patter
 abbrev ScriptsAgree : ℕ → Type 0
 ScriptsAgree n = (s t : Script) → Agree n (body_pattern s) (body_pattern t) list_end (script_shape s ≡ script_shape t)
 
-abbrev WordsAgree : ℕ → Type 0
-WordsAgree n = (v w : Word) → Agree n (word_spelling v).pattern (word_spelling w).pattern piece_begins (word_shape v ≡ word_shape w)
-
 none_shorter : {p q : Expr} {F : List ℕ} {A : Type 0} → Agree zero p q F A
 none_shorter = record { agrees = λ ts r s l h g e f. absurd (omega (arith, l)) }
 
-trees_agree : (n : ℕ) → ScriptsAgree n × WordsAgree n
-trees_agree zero = (λ s t. none_shorter, λ v w. none_shorter)
-trees_agree (suc n) = let h = trees_agree n in (agree_scripts n h.0 h.1, agree_pieces n h.0 h.1)
+trees_agree : (n : ℕ) → ScriptsAgree n
+trees_agree zero = λ s t. none_shorter
+trees_agree (suc n) = agree_scripts n (trees_agree n)
 
 agree_whole : (n : ℕ) (s t : Script) → Agree n (newlines ⨾ body_pattern s) (newlines ⨾ body_pattern t) list_end (script_shape s ≡ script_shape t)
-agree_whole n s t = let h = trees_agree n in agree_map (λ i. i.1) (agree_then agree_newlines (λ i. h.0 s t) (body_fits s) (body_fits t))
+agree_whole n s t = agree_map (λ i. i.1) (agree_then agree_newlines (λ i. trees_agree n s t) (body_fits s) (body_fits t))
 
 pub only_tree : (lexed : Lexed) (s t : Script) → IsScript lexed s → IsScript lexed t → script_shape s ≡ script_shape t
 only_tree lexed s t h g =

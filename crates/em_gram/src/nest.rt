@@ -1,35 +1,18 @@
-//! A word that is being read: arguments in arguments, held in a list and not by recursion.
-ghost use Rattle.std.specs.Prelude.{◌≡◌, ◌==◌, not, ◌+◌, ◌<◌, ◌++◌, [], ◌∷◌, List, map, OnOk};
-ghost use Rattle.em_grammar.specs.Production.{◌⨾◌};
-ghost use Rattle.em_grammar.specs.Gives.{all, Spells};
-ghost use Rattle.em_lexeme.specs.declared.lexeme.What.{What};
-ghost use Rattle.em_gram.specs.Nesting.{piece_pattern, head_pattern, nest_parts, nest_depth};
-ghost use Rattle.em_token.specs.Shell.{shell, key};
+//! A word that is being read: its pieces so far, and how many arguments are open in them.
+ghost use Rattle.std.specs.Prelude.{◌≡◌, ◌==◌, not, ◌+◌, ◌<◌, ◌++◌, [], ◌∷◌, map, Some, OnOk};
+ghost use Rattle.em_gram.specs.Nesting.{piece_pattern, piece_nesting, nest_parts, nest_depth, IsCounted};
+ghost use Rattle.em_syntax.specs.Nesting.{Stays, Opens, Closes, open_after};
+ghost use Rattle.em_token.specs.Shell.{key};
 ghost use Rattle.em_token.specs.declared.kind.Kind.TheVariants as Kind;
 
-use em_base::{NoMemory, Text};
-use em_syntax::{Value, Word, WordPiece, WordWhat};
+use em_base::NoMemory;
+use em_syntax::{WordPiece, WordWhat};
 use std::alloc::Global;
 
-/// The begin of an argument: the value that it belongs to.
-#[derive(Drop)]
-pub struct Head {
-    pub quoted: bool,
-    pub name: Text,
-    pub form: Text,
-}
-
-/// An argument that is open, and the pieces that stand before it where it stands.
-#[derive(Drop)]
-pub struct Open {
-    pub before: Vec<WordPiece>,
-    pub head: Head,
-}
-
-/// The arguments that are open, the outermost first, and the pieces of the innermost; or those of the word, where none is open.
+/// The pieces that were read, and how many arguments are open behind them.
 #[derive(Drop)]
 pub struct Nest {
-    pub open_arguments: Vec<Open>,
+    pub open_arguments: usize,
     pub pieces: Vec<WordPiece>,
 }
 
@@ -38,9 +21,10 @@ impl Nest {
     pub fn new(alloc: Global) -> Nest
         ensures parts { nest_parts result ≡ [] }
         ensures depth { nest_depth result ≡ 0 }
+        ensures counted { IsCounted result }
     {
         Nest {
-            open_arguments: Vec::new(alloc),
+            open_arguments: 0,
             pieces: Vec::new(alloc),
         }
     }
@@ -49,73 +33,72 @@ impl Nest {
     pub fn is_open(&self) -> bool
         ensures { result ≡ not (nest_depth self.now == 0) }
     {
-        !self.open_arguments.is_empty()
+        self.open_arguments != 0
     }
 
     /// Adds a piece.
     pub fn add(&mut self, piece: WordPiece) -> Result<(), NoMemory>
+        requires stays { piece_nesting piece ≡ Stays }
+        requires counted { IsCounted self.old }
         ensures parts { OnOk result
             (nest_parts self.new ≡ nest_parts self.old ++ piece_pattern piece ∷ []) }
         ensures depth { OnOk result (nest_depth self.new ≡ nest_depth self.old) }
+        ensures counted { OnOk result (IsCounted self.new) }
     {
         self.pieces.push(piece)?;
         Ok(())
     }
 
     /// Begins an argument.
-    pub fn enter(&mut self, alloc: Global, head: Head) -> Result<(), NoMemory>
+    pub fn enter(&mut self, begin: WordPiece) -> Result<(), NoMemory>
+        requires opens { piece_nesting begin ≡ Opens }
+        requires counted { IsCounted self.old }
         ensures parts { OnOk result
-            (nest_parts self.new ≡ nest_parts self.old ++ head_pattern head ∷ []) }
+            (nest_parts self.new ≡ nest_parts self.old ++ piece_pattern begin ∷ []) }
         ensures depth { OnOk result (nest_depth self.new ≡ nest_depth self.old + 1) }
+        ensures counted { OnOk result (IsCounted self.new) }
     {
-        let before = std::mem::replace(&mut self.pieces, Vec::new(alloc));
-        self.open_arguments.push(Open { before, head })?;
+        self.open_arguments = self.open_arguments.checked_add(1).ok_or(NoMemory)?;
+        self.pieces.push(begin)?;
         Ok(())
     }
 
-    /// Ends the innermost argument: it becomes a piece.
+    /// Ends the innermost argument.
     pub fn leave(&mut self) -> Result<(), NoMemory>
-        requires { 0 < nest_depth self.old }
+        requires some { 0 < nest_depth self.old }
+        requires counted { IsCounted self.old }
+        ensures parts { OnOk result
+            (nest_parts self.new ≡ nest_parts self.old ++ key Kind.ArgumentEnd ∷ []) }
         ensures depth { OnOk result (nest_depth self.new + 1 ≡ nest_depth self.old) }
-        ensures spells { OnOk result
-            ((start us rest : List What) → Spells shell (all (nest_parts self.old)) start us
-            → Spells shell (key Kind.ArgumentEnd) us rest
-            → Spells shell (all (nest_parts self.new)) start rest) }
+        ensures counted { OnOk result (IsCounted self.new) }
     {
-        if let Some(open) = self.open_arguments.pop() {
-            let Open { before, head } = open;
-            let pieces = std::mem::replace(&mut self.pieces, before);
-            self.pieces.push(closed(head, pieces))?;
-        }
+        self.open_arguments -= 1;
+        self.pieces.push(end_piece())?;
         Ok(())
     }
 
     /// The pieces, where no argument is open.
     pub fn into_pieces(self) -> Vec<WordPiece>
-        requires { nest_depth self ≡ 0 }
-        ensures { map piece_pattern result.items ≡ nest_parts self }
+        requires none { nest_depth self ≡ 0 }
+        requires counted { IsCounted self }
+        ensures parts { map piece_pattern result.items ≡ nest_parts self }
+        ensures closed { open_after 0 (map piece_nesting result.items) ≡ Some 0 }
     {
         let Nest {
-            open_arguments,
+            open_arguments: _,
             pieces,
         } = self;
-        drop(open_arguments);
         pieces
     }
 }
 
-/// The value with this argument.
-fn closed(head: Head, pieces: Vec<WordPiece>) -> WordPiece
-    ensures { piece_pattern result
-        ≡ (head_pattern head ⨾ all (map piece_pattern pieces.items) ⨾ key Kind.ArgumentEnd) }
+/// The end of an argument.
+fn end_piece() -> WordPiece
+    ensures pattern { piece_pattern result ≡ key Kind.ArgumentEnd }
+    ensures nesting { piece_nesting result ≡ Closes }
 {
-    let Head { quoted, name, form } = head;
     WordPiece {
-        quoted,
-        what: WordWhat::Value(Value {
-            name,
-            form,
-            arg: Some(Word { pieces }),
-        }),
+        quoted: false,
+        what: WordWhat::End,
     }
 }

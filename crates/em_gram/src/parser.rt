@@ -8,7 +8,8 @@ ghost use Rattle.em_token.specs.Kinds.{whats, words as word_kinds, reserved_word
 ghost use Rattle.em_token.specs.Shell as Grammar;
 ghost use Rattle.em_token.specs.Shell.{shell, key, Expr};
 ghost use Rattle.em_gram.specs.Patterns as Tree;
-ghost use Rattle.em_gram.specs.Nesting.{piece_pattern, nest_parts, nest_depth, may_go_on};
+ghost use Rattle.em_gram.specs.Nesting.{piece_pattern, piece_nesting, nest_parts, nest_depth, may_go_on, IsCounted};
+ghost use Rattle.em_syntax.specs.Nesting.{Stays};
 ghost use Rattle.em_gram.specs.Simple.{so_far};
 ghost use Rattle.em_token.specs.Seen.{fault_of};
 ghost use Rattle.em_token.specs.declared.kind.Kind.TheVariants as Kind;
@@ -69,21 +70,23 @@ fn word_step<'a>(
     left: u32,
     nest: &mut Nest,
 ) -> Result<&'a [Lexeme], Stop<'a>>
-    requires { may_go_on (nest_depth nest.old) (whats tokens.now) ≡ true }
+    requires goes_on { may_go_on (nest_depth nest.old) (whats tokens.now) ≡ true }
+    requires counted { IsCounted nest.old }
     ensures moves { IfOk result (λ x. (g : Expr)
         → Moves shell left (Grammar.pieces (nest_depth nest.old) ⨾ g) (whats tokens.now)
         (Grammar.pieces (nest_depth nest.new) ⨾ g) (whats x.now)) }
     ensures spells { IfOk result (λ x. (start : List What)
         → Spells shell (all (nest_parts nest.old)) start (whats tokens.now)
         → Spells shell (all (nest_parts nest.new)) start (whats x.now)) }
+    ensures counted { IfOk result (λ x. IsCounted nest.new) }
     ensures err { IfErr result (λ x. (g : Expr)
         → Gives shell left (Grammar.pieces (nest_depth nest.old) ⨾ g) (whats tokens.now)
         (lead_off (fault_of x))) }
     ensures shorter { IfOk result (λ x. length x.now < length tokens.now) }
 {
     if opens(tokens, &[Kind::ArgumentStart]) {
-        let (head, rest) = argument_begin(alloc, tokens)?;
-        nest.enter(alloc, head)?;
+        let (begin, rest) = argument_begin(alloc, tokens)?;
+        nest.enter(begin)?;
         return Ok(rest);
     }
     if opens(tokens, &[Kind::ArgumentEnd]) {
@@ -104,6 +107,7 @@ fn piece<'a>(
 ) -> Result<(WordPiece, &'a [Lexeme]), Stop<'a>>
     ensures reads { Gives shell left Grammar.piece (whats tokens.now)
         (lead_of (λ x. (piece_pattern x.0, whats x.1.now)) fault_of result) }
+    ensures stays { IfOk result (λ x. piece_nesting x.0 ≡ Stays) }
     ensures shorter { IfOk result (λ x. length x.1.now < length tokens.now) }
 {
     if opens(tokens, &[Kind::Bytes, Kind::Assigning, Kind::Value]) {
@@ -123,6 +127,7 @@ fn output<'a>(
 ) -> Result<(WordPiece, &'a [Lexeme]), Stop<'a>>
     ensures reads { Gives shell left Grammar.output (whats tokens.now)
         (lead_of (λ x. (piece_pattern x.0, whats x.1.now)) fault_of result) }
+    ensures stays { IfOk result (λ x. piece_nesting x.0 ≡ Stays) }
     ensures shorter { IfOk result (λ x. length x.1.now < length tokens.now) }
 {
     let (quoted, rest) = substitution_begin(tokens, left)?;

@@ -9,12 +9,12 @@ ghost use Rattle.em_token.specs.Kinds.{code_of, class_of, whats, kinds as kinds_
 ghost use Rattle.em_token.specs.Shell as Grammar;
 ghost use Rattle.em_token.specs.Shell.{shell, key, Expr};
 ghost use Rattle.em_gram.specs.Patterns as Tree;
-ghost use Rattle.em_gram.specs.Nesting.{piece_pattern, head_pattern};
+ghost use Rattle.em_gram.specs.Nesting.{piece_pattern, piece_nesting};
+ghost use Rattle.em_syntax.specs.Nesting.{Stays, Opens};
 ghost use Rattle.em_token.specs.Seen.{fault_of};
 ghost use Rattle.em_token.specs.declared.kind.Kind.TheVariants as Kind;
 ghost use Rattle.em_syntax.specs.declared.tree.RedirectKind.TheVariants as RedirectKind;
 
-use crate::nest::Head;
 use em_base::Text;
 use em_lex::Lexeme;
 use em_syntax::{Redirect, RedirectKind, Script, Value, Word, WordPiece, WordWhat};
@@ -28,6 +28,7 @@ use std::alloc::Global;
 fn bytes<'a>(alloc: Global, tokens: &'a [Lexeme]) -> Result<(WordPiece, &'a [Lexeme]), Stop<'a>>
     ensures reads { (left : ℕ) → Gives shell left Grammar.any_bytes (whats tokens.now)
         (lead_of (λ x. (piece_pattern x.0, whats x.1.now)) fault_of result) }
+    ensures stays { IfOk result (λ x. piece_nesting x.0 ≡ Stays) }
     ensures shorter { IfOk result (λ x. length x.1.now < length tokens.now) }
 {
     let (token, rest) = take(tokens, &[Kind::Bytes, Kind::Assigning])?;
@@ -40,6 +41,7 @@ fn bytes<'a>(alloc: Global, tokens: &'a [Lexeme]) -> Result<(WordPiece, &'a [Lex
 fn value<'a>(alloc: Global, tokens: &'a [Lexeme]) -> Result<(WordPiece, &'a [Lexeme]), Stop<'a>>
     ensures reads { (left : ℕ) → Gives shell left (key Kind.Value) (whats tokens.now)
         (lead_of (λ x. (piece_pattern x.0, whats x.1.now)) fault_of result) }
+    ensures stays { IfOk result (λ x. piece_nesting x.0 ≡ Stays) }
     ensures shorter { IfOk result (λ x. length x.1.now < length tokens.now) }
 {
     let (token, rest) = take(tokens, &[Kind::Value])?;
@@ -56,6 +58,7 @@ pub fn simple_piece<'a>(
 ) -> Result<(WordPiece, &'a [Lexeme]), Stop<'a>>
     ensures reads { (left : ℕ) → Gives shell left Grammar.simple_piece (whats tokens.now)
         (lead_of (λ x. (piece_pattern x.0, whats x.1.now)) fault_of result) }
+    ensures stays { IfOk result (λ x. piece_nesting x.0 ≡ Stays) }
     ensures shorter { IfOk result (λ x. length x.1.now < length tokens.now) }
 {
     if opens(tokens, &[Kind::Bytes, Kind::Assigning]) {
@@ -70,6 +73,7 @@ fn bytes_piece(quoted: bool, text: Text) -> WordPiece
     ensures pattern { piece_pattern result
         ≡ this (kinds_of (Kind.Bytes ∷ Kind.Assigning ∷ [])) (What.Bytes quoted text) }
     ensures digit { (Tree.piece_spelling result).digit ≡ Tree.digit_of quoted text }
+    ensures nesting { piece_nesting result ≡ Stays }
 {
     WordPiece {
         quoted,
@@ -78,16 +82,24 @@ fn bytes_piece(quoted: bool, text: Text) -> WordPiece
 }
 
 fn value_piece(quoted: bool, name: Text, form: Text) -> WordPiece
-    ensures { piece_pattern result
+    ensures pattern { piece_pattern result
         ≡ this (kinds_of (Kind.Value ∷ [])) (What.Value quoted name form) }
+    ensures nesting { piece_nesting result ≡ Stays }
 {
     WordPiece {
         quoted,
-        what: WordWhat::Value(Value {
-            name,
-            form,
-            arg: None,
-        }),
+        what: WordWhat::Value(Value { name, form }),
+    }
+}
+
+fn argument_piece(quoted: bool, name: Text, form: Text) -> WordPiece
+    ensures pattern { piece_pattern result
+        ≡ this (kinds_of (Kind.ArgumentStart ∷ [])) (What.ArgumentStart quoted name form) }
+    ensures nesting { piece_nesting result ≡ Opens }
+{
+    WordPiece {
+        quoted,
+        what: WordWhat::Argument(Value { name, form }),
     }
 }
 
@@ -95,9 +107,12 @@ fn value_piece(quoted: bool, name: Text, form: Text) -> WordPiece
 pub fn argument_begin<'a>(
     alloc: Global,
     tokens: &'a [Lexeme],
-) -> Result<(Head, &'a [Lexeme]), Stop<'a>>
+) -> Result<(WordPiece, &'a [Lexeme]), Stop<'a>>
     ensures reads { (left : ℕ) → Gives shell left (key Kind.ArgumentStart) (whats tokens.now)
-        (lead_of (λ x. (head_pattern x.0, whats x.1.now)) fault_of result) }
+        (lead_of (λ x. (piece_pattern x.0, whats x.1.now)) fault_of result) }
+    ensures opens { IfOk result (λ x. piece_nesting x.0 ≡ Opens) }
+    ensures lexeme { IfOk result
+        (λ x. Spells shell (key Kind.ArgumentStart) (whats tokens.now) (whats x.1.now)) }
     ensures free { IfErr result
         (λ x. begins_with shell (whats tokens.now) (kinds_of (Kind.ArgumentStart ∷ [])) ≡ true
         → fault_of x ≡ None) }
@@ -107,7 +122,7 @@ pub fn argument_begin<'a>(
     let (quoted, held_name, held_form) = argument_in(&token.what)?;
     let name = held_name.copy(alloc)?;
     let form = held_form.copy(alloc)?;
-    Ok((Head { quoted, name, form }, rest))
+    Ok((argument_piece(quoted, name, form), rest))
 }
 
 /// Whether the substitution that begins here is quoted.
@@ -271,12 +286,13 @@ pub fn redirection(number: Option<u8>, kind: RedirectKind, target: Word) -> Redi
 
 /// The piece for a substitution; where it has no commands, their list is empty.
 pub fn output_piece(alloc: Global, quoted: bool, script: Option<Script>) -> WordPiece
-    ensures { (us rest : List What)
+    ensures spells { (us rest : List What)
         → Spells shell (this (kinds_of (Kind.SubstitutionStart ∷ []))
         (What.SubstitutionStart quoted)
         ⨾ Grammar.newlines ⨾ Tree.body_of (option_map Tree.script_pattern script)
         ⨾ key Kind.SubstitutionEnd) us rest
         → Spells shell (piece_pattern result) us rest }
+    ensures nesting { piece_nesting result ≡ Stays }
 {
     match script {
         Some(script) => WordPiece {

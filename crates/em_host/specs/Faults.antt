@@ -2,10 +2,7 @@
 --     is_fault r          the call failed, and not for want of memory
 --     next_count n        one fault more; the last value, 2^64 - 1, stays
 --     count_after r n     the count after a call that answered r
---     reason_of kind      why a call failed in which the system answered an error of this kind
 use Rattle.std.specs.Prelude.{ℕ, ◌+◌, ◌-◌, ◌^◌, Bool, true, false, nat_lt, if◌then◌else◌, Result, Ok, Err}
-use Rattle.std.specs.declared.io.ErrorKind.{ErrorKind}
-use Rattle.std.specs.declared.io.ErrorKind.TheVariants.{OutOfMemory}
 use Rattle.em_host.specs.declared.no.HostNo.{HostNo}
 use Rattle.em_host.specs.declared.no.HostNo.TheVariants.{Failed, NoMemory}
 
@@ -19,7 +16,3 @@ next_count n = if nat_lt n (2 ^ 64 - 1) then n + 1 else n
 
 abbrev pub count_after : {A : Type 0} → Result A HostNo → ℕ → ℕ
 count_after r n = if is_fault r then next_count n else n
-
-abbrev pub reason_of : ErrorKind → HostNo
-reason_of OutOfMemory = NoMemory
-reason_of _ = Failed

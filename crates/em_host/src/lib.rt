@@ -5,15 +5,26 @@ mod call;
 mod calls;
 mod faults;
 mod host;
+mod lock;
 mod mem;
+mod moving;
 mod no;
 mod real;
+mod replacing;
+mod seen;
+mod stop;
 
 pub use call::{Call, Called};
 pub use host::Host;
+pub use lock::LockFile;
 pub use mem::MemHost;
 pub use no::HostNo;
 pub use real::RealHost;
+pub use stop::{Fault, Reason};
 
 #[cfg(test)]
+mod real_tests;
+#[cfg(test)]
 mod tests;
+#[cfg(test)]
+mod watched;

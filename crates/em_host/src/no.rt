@@ -1,12 +1,9 @@
 //! Why a call on a host failed.
 ghost use Rattle.std.specs.Prelude.{◌≡◌};
-ghost use Rattle.std.specs.IoError.{error_kind};
 ghost use Rattle.em_host.specs.declared.no.HostNo.TheVariants as no;
-ghost use Rattle.em_host.specs.Faults.{reason_of};
 
 use em_base::NoMemory;
 use std::alloc::{AllocError, AllocFailed};
-use std::io::{self, ErrorKind};
 use thiserror::Error;
 
 /// Why a call on a host failed.
@@ -40,17 +37,5 @@ impl From<NoMemory> for HostNo {
 
     fn from(_e: NoMemory) -> HostNo {
         HostNo::NoMemory
-    }
-}
-
-/// Want of memory in the system is want of memory.
-impl From<io::Error> for HostNo {
-    ghost from_gives = { λ e no. no ≡ reason_of (error_kind e) };
-
-    fn from(e: io::Error) -> HostNo {
-        match e.kind() {
-            ErrorKind::OutOfMemory => HostNo::NoMemory,
-            _ => HostNo::Failed,
-        }
     }
 }

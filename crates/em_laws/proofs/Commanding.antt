@@ -1,5 +1,5 @@
 -- What the command `cp -r` leaves, on a state.
-use Rattle.std.proofs.Common.{◌≡◌, ℕ, ◌≤◌, ◌||◌, ◌&&◌, Bool, true, false, cond, List, [], ◌∷◌, ◌++◌, length, take, drop, Option, Some, None, Result, Ok, Err, arith, refl, sym, ap, subst, ◌∙◌}
+use Rattle.std.proofs.Common.{◌≡◌, ℕ, ◌≤◌, ◌||◌, ◌&&◌, Bool, true, false, not, cond, List, [], ◌∷◌, ◌++◌, length, take, drop, Option, Some, None, Result, Ok, Err, arith, refl, sym, ap, subst, ◌∙◌}
 use Rattle.std.specs.Prelude.{codes, nat_eq}
 use Rattle.std.specs.List.{flat_map}
 use Rattle.std.specs.Str.{bytes_eq}
@@ -29,13 +29,13 @@ use Rattle.em_utility.specs.declared.reason.Reason.TheVariants as reason
 use Rattle.em_utility.specs.declared.operand.OperandNo.{OperandNo}
 use Rattle.em_utility.specs.Options.{read_options}
 use Rattle.em_utility.specs.Writing.{nothing}
-use Rattle.em_utility.specs.Operands.{located_by, at, caught, each, left_by, command, Tries}
+use Rattle.em_utility.specs.Operands.{located, located_by, at, caught, each, left_by, command, Tries}
 use Rattle.em_fileutil.specs.Spots.{operand_by, operand_at, fault, child, is_within, begins_component, gives, ending, levels}
-use Rattle.em_fileutil.specs.Copying.{copy_node, copy_beneath, target_by, target_at, in_target, place_of, apart_by, destination}
+use Rattle.em_fileutil.specs.Copying.{copy_node, copy_beneath, target_by, target_at, in_target, ends_with_dot, place_of, apart_by, destination}
 use Rattle.em_fileutil.specs.Acts.{copy_operand, act_on, act_for}
 use Rattle.em_fileutil.specs.Table.{utility_of}
 use Rattle.em_fileutil.specs.Utilities.{copy_all, utility_by, utility}
-use Rattle.em_laws.specs.Files.{AreWhole, IsUnder, IsCopied, target_of, target}
+use Rattle.em_laws.specs.Files.{AreWhole, IsUnder, IsCopied, name_kept, target_of, target}
 use Rattle.em_laws.specs.Nodes.{tree_seen}
 use Rattle.em_laws.proofs.Expanding.{gives_kind, kind_there}
 use Rattle.em_laws.proofs.Filing.{DomainOf, at_gives, Operand}
@@ -100,8 +100,8 @@ aimed_by o kind.Dir t e = (let is : (record { operand = o; is_dir = true }) ≡ 
 aimed_by o kind.File t e = (let is : (record { operand = o; is_dir = false }) ≡ t = cc in (ap (λ (z : Target). z.operand) (sym is), ap (λ (z : Target). z.is_dir) (sym is)))
 aimed_by o kind.Absent t e = (let is : (record { operand = o; is_dir = false }) ≡ t = cc in (ap (λ (z : Target). z.operand) (sym is), ap (λ (z : Target). z.is_dir) (sym is)))
 
-abbrev placed_in : Target → Operand → Bool → Option (List ℕ) → Result Operand OperandNo
-placed_in t a x o = cond x (in_target a t.operand o) (Ok t.operand)
+abbrev placed_in : Target → Operand → Bool → Bool → Option (List ℕ) → Result Operand OperandNo
+placed_in t a x dot o = cond (x && not dot) (in_target a t.operand o) (Ok t.operand)
 
 settled_at : (to : Target) (a b : Operand) → destination to a ≡ Ok b → (is_within a.path b.path ≡ false) × (place_of to a ≡ Ok b)
 settled_at to a b e = by_place (place_of to a) refl e
@@ -112,6 +112,14 @@ settled_at to a b e = by_place (place_of to a) refl e
         (λ x. is_within a.path t.path ≡ x → (let z : Result Operand OperandNo = cond x (Err (fault a reason.SameFile)) (Ok t) in z ≡ Ok b) → (is_within a.path b.path ≡ false) × (place_of to a ≡ Ok b))
         (λ _ _ f. absurd cc)
         (λ _ isnt f. (let same : t ≡ b = cc in (ap (λ (z : Operand). is_within a.path z.path) (sym same) ∙ isnt, is ∙ ap (λ (z : Operand). (let r : Result Operand OperandNo = Ok z in r)) same))) refl e
+
+-- an operand has the name that was typed
+named_so : (cwd name : List ℕ) (o : Operand) → operand_at cwd name ≡ Ok o → o.name ≡ name
+named_so cwd name o e = by_located (located cwd name) e
+  where
+    by_located : (r : Result (List ℕ) OperandNo) → operand_by name r ≡ Ok o → o.name ≡ name
+    by_located (Ok p) is = (let same : (let z : Operand = record { name = name; path = p } in z) ≡ o = cc in ap (λ (z : Operand). z.name) (sym same))
+    by_located (Err f) is = absurd cc
 
 module _ (s : State) (cwd : List ℕ) (home : IsPath cwd) where
   record Aimed (d : Changes) (to : List ℕ) (t : Target) : Type 0 where
@@ -140,8 +148,8 @@ module _ (s : State) (cwd : List ℕ) (home : IsPath cwd) where
       (λ o. rises_then (at o.name (kind_at o.path)) (λ k. gives (target_by false o k)) (rises_at o.name (kind_at o.path)) (λ k. rises_gives (target_by false o k)))
 
   placed_path : (d : Changes) (to : List ℕ) (t : Target) (a b : Operand) → Aimed d to t → IsPath a.path → place_of t a ≡ Ok b →
-      (b.path ≡ target_of (kind_there s d (resolved_text cwd to)) (last_of a.path) (resolved_text cwd to)) × IsPath b.path
-  placed_path d to t a b aim is_path e = by_kind (kind_there s d (resolved_text cwd to)) aim.dir (last_of a.path) refl e
+      (b.path ≡ target_of (kind_there s d (resolved_text cwd to)) (name_kept a.name (last_of a.path)) (resolved_text cwd to)) × IsPath b.path
+  placed_path d to t a b aim is_path e = by_kind (kind_there s d (resolved_text cwd to)) aim.dir (ends_with_dot a.name) (last_of a.path) refl e
     where
       stays : ◌≡◌ {A = Result Operand OperandNo} (Ok t.operand) (Ok b) → (b.path ≡ (resolved_text cwd to)) × IsPath b.path
       stays e =
@@ -157,11 +165,12 @@ module _ (s : State) (cwd : List ℕ) (home : IsPath cwd) where
           let all = All-push IsComponent (components (resolved_text cwd to)) name aim.is_path.names (component_of a.path name is_path (sym last)) in
           (there, subst IsPath (sym there) (IsPath-spelled (components (resolved_text cwd to) ++ name ∷ []) all (subst (λ (cs : Names). length cs ≤ 64) (components-path_text (components (resolved_text cwd to) ++ name ∷ []) all) fits.1) fits.0))
 
-      by_kind : (k : Kind) → t.is_dir ≡ is_dir k → (o : Option (List ℕ)) → last_of a.path ≡ o → placed_in t a t.is_dir o ≡ Ok b → (b.path ≡ target_of k o (resolved_text cwd to)) × IsPath b.path
-      by_kind kind.Dir is None last e = absurd (let f : placed_in t a true None ≡ Ok b = ap (λ x. placed_in t a x None) (sym is) ∙ e in cc)
-      by_kind kind.Dir is (Some name) last e = inside name last (ap (λ x. placed_in t a x (Some name)) (sym is) ∙ e)
-      by_kind kind.File is o last e = stays (ap (λ x. placed_in t a x o) (sym is) ∙ e)
-      by_kind kind.Absent is o last e = stays (ap (λ x. placed_in t a x o) (sym is) ∙ e)
+      by_kind : (k : Kind) → t.is_dir ≡ is_dir k → (dot : Bool) → (o : Option (List ℕ)) → last_of a.path ≡ o → placed_in t a t.is_dir dot o ≡ Ok b → (b.path ≡ target_of k (cond dot None o) (resolved_text cwd to)) × IsPath b.path
+      by_kind kind.Dir is true o last e = stays (ap (λ x. placed_in t a x true o) (sym is) ∙ e)
+      by_kind kind.Dir is false None last e = absurd (let f : placed_in t a true false None ≡ Ok b = ap (λ x. placed_in t a x false None) (sym is) ∙ e in cc)
+      by_kind kind.Dir is false (Some name) last e = inside name last (ap (λ x. placed_in t a x false (Some name)) (sym is) ∙ e)
+      by_kind kind.File is dot o last e = stays (ap (λ x. placed_in t a x dot o) (sym is) ∙ e)
+      by_kind kind.Absent is dot o last e = stays (ap (λ x. placed_in t a x dot o) (sym is) ∙ e)
 
   -- ---- the command
 
@@ -170,7 +179,7 @@ module _ (s : State) (cwd : List ℕ) (home : IsPath cwd) where
     p = resolved_text cwd from
 
     abbrev goal : List ℕ
-    goal = target_of (kind_there s d (resolved_text cwd to)) (last_of p) (resolved_text cwd to)
+    goal = target_of (kind_there s d (resolved_text cwd to)) (name_kept from (last_of p)) (resolved_text cwd to)
 
     abbrev R : Changes → Type 0
     R x = CopiedTree s low d x (components p) (components goal)
@@ -189,7 +198,8 @@ module _ (s : State) (cwd : List ℕ) (home : IsPath cwd) where
         let l = located_path cwd from a home is_a in
         let settled = settled_at t a b is_b in
         let placed = placed_path d to t a b aim (subst IsPath (sym l.0) l.1) settled.1 in
-        let there : b.path ≡ goal = placed.0 ∙ ap (λ (z : List ℕ). target_of (kind_there s d (resolved_text cwd to)) (last_of z) (resolved_text cwd to)) l.0 in
+        let there : b.path ≡ goal = placed.0 ∙ ap (λ (z : List ℕ). target_of (kind_there s d (resolved_text cwd to)) (name_kept a.name (last_of z)) (resolved_text cwd to)) l.0
+        ∙ ap (λ (z : List ℕ). target_of (kind_there s d (resolved_text cwd to)) (name_kept z (last_of p)) (resolved_text cwd to)) (named_so cwd from a is_a) in
         let is_goal : IsPath goal = subst IsPath there placed.1 in
         let isnt : is_within p goal ≡ false = ap (λ (z : List ℕ). is_within z goal) (sym l.0) ∙ ap (is_within a.path) (sym there) ∙ settled.0 in
         node_z s low (codes "cp") how tree deeper (rises_beneath (codes "cp") how tree levels) (beneath_z s low (codes "cp") how tree levels) a b (components p) (components goal) (l.0 ∙ l.1.spelled) (there ∙ is_goal.spelled)

@@ -1,5 +1,5 @@
 -- Words of the laws on file utilities: what they come to, from a workspace on a state. An operand is its name with its path.
-use Rattle.std.specs.Prelude.{◌≡◌, ◌≢◌, ◌≤◌, ◌++◌, All, ℕ, Bool, true, List, Result, Option, Some}
+use Rattle.std.specs.Prelude.{◌≡◌, ◌≢◌, ◌≤◌, ◌++◌, All, ℕ, Bool, true, List, Result, Option, Some, None, if◌then◌else◌}
 use Rattle.std.specs.FinMap.{get}
 use Rattle.em_tree.specs.declared.state.State.{State}
 use Rattle.em_tree.specs.declared.node.Kind.{Kind}
@@ -13,7 +13,7 @@ use Rattle.em_view.specs.Held.{NamesPaths}
 use Rattle.em_view.specs.Rows.{change_number}
 use Rattle.em_utility.specs.declared.operand.OperandNo.{OperandNo}
 use Rattle.em_fileutil.specs.Removing.{remove_beneath}
-use Rattle.em_fileutil.specs.Copying.{copy_file, move_file}
+use Rattle.em_fileutil.specs.Copying.{copy_file, move_file, ends_with_dot}
 use Rattle.em_fileutil.specs.Making.{make_directory, remove_directory, touch_operand}
 use Rattle.em_laws.specs.Nodes.{tree_seen, AreAlike}
 
@@ -59,14 +59,18 @@ under p rel = path_text (components p ++ rel)
 abbrev pub IsUnder : List ℕ → List ℕ → Type 0
 IsUnder p k = (rel : List (List ℕ)) × All IsComponent rel × (k ≡ under p rel)
 
--- where `cp` puts a source: in a directory under its last name, else at the operand itself
+-- the name that a source keeps in a directory; one that was named with a `.` at the end keeps none
+abbrev pub name_kept : List ℕ → Option (List ℕ) → Option (List ℕ)
+name_kept from last = if ends_with_dot from then None else last
+
+-- where `cp` puts a source: in a directory under the name that it keeps, else at the operand itself
 abbrev pub target_of : Kind → Option (List ℕ) → List ℕ → List ℕ
 target_of kind.Dir (Some last) to = child_text to last
 target_of _ _ to = to
 
 abbrev pub target : State → Workspace → List ℕ → List ℕ → List ℕ → List ℕ
 target s w cwd from to =
-    target_of (kind_of (get (tree_seen s w) (resolved_text cwd to))) (last_of (resolved_text cwd from)) (resolved_text cwd to)
+    target_of (kind_of (get (tree_seen s w) (resolved_text cwd to))) (name_kept from (last_of (resolved_text cwd from))) (resolved_text cwd to)
 
 -- what stood at p and below it stands at q and below it, beside what stood only there; the rest is as it was
 pub record IsCopied (before after : Table) (p q : List ℕ) : Type 0 where

@@ -98,9 +98,10 @@ pub fn law_rmdir()
         → OthersStay p (tree_seen s w) (tree_seen s (unmade s w d name p).1) }
 {}
 
-/// Where the command `cp -r` has had no fault, and its source isn't below the target, all that stood at the source and below it stands at the
-/// target and below it, beside what stood only there, and nothing else has changed but stamps. In a directory the target is what has
-/// the source's last name.
+/// Where the command `cp -r` has had no fault, and its source isn't below the target, all that stood
+/// at the source and below it stands at the target and below it, beside what stood only there, and
+/// nothing else has changed but stamps. In a directory the target is what has the source's last name,
+/// or, of a source that was named with a `.` at the end, the directory itself.
 pub fn law_cp_tree()
     ensures { (s : State) (w : Workspace) (cwd from to : List ℕ) (d : Done) → AreWhole s w
         → IsPath cwd → (utility (codes "cp" ∷ codes "-r" ∷ codes "--" ∷ from ∷ to ∷ []) cwd

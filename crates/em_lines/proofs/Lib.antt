@@ -3,3 +3,4 @@ mod Rows
 mod Numbered
 mod Bared
 mod Keeping
+mod Folded

@@ -112,7 +112,7 @@ on_first (x ∷ row) = by_cases (eqb x 9) (λ t. goes_on (cond t row (x ∷ row)
     tab [] is = sym (ap (λ n. eqb n 92) is)
     tab (c ∷ row) is = refl
 
-on_put : (tab : Bool) (text next : List ℕ) → goes_on (put tab text next) ≡ goes_on next
+pub on_put : (tab : Bool) (text next : List ℕ) → goes_on (put tab text next) ≡ goes_on next
 on_put true text next = on-append text 10 (untabbed next) ∙ on_untabbed 10 next refl
 on_put false text next = on-append (trimmed_end (without_last text)) 32 (trimmed_start next) ∙ on_trimmed next
 
@@ -122,7 +122,7 @@ last_is [] on = absurd cc
 last_is (b ∷ []) on = ap (λ n. n ∷ []) (eqb-true b 92 on)
 last_is (b ∷ c ∷ bs) on = ap (λ l. b ∷ l) (last_is (c ∷ bs) on) ∙ ap (λ n. take n (b ∷ c ∷ bs) ++ 92 ∷ []) (let e : suc (suc (length bs) - 1) ≡ suc (suc (length bs)) - 1 = omega arith in e)
 
-without_mark : (x : List ℕ) (c : ℕ) → without_last (x ++ c ∷ []) ≡ x
+pub without_mark : (x : List ℕ) (c : ℕ) → without_last (x ++ c ∷ []) ≡ x
 without_mark x c =
     let n : length (x ++ c ∷ []) - 1 ≡ length x = omega (arith, length-append x (c ∷ [])) in
     ap (λ n. take n (x ++ c ∷ [])) n ∙ take-append_seam x (c ∷ [])

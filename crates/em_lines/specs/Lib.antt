@@ -6,3 +6,4 @@ pub mod Comments
 pub mod Lines
 pub mod Kept
 pub mod First
+pub mod Folding

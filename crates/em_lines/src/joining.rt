@@ -29,7 +29,7 @@ fn before_newline(bytes: &[u8]) -> usize
 }
 
 /// The first line of the file, and what stands behind its newline, if it has one.
-fn first_row(bytes: &[u8]) -> (&[u8], Option<&[u8]>)
+pub(crate) fn first_row(bytes: &[u8]) -> (&[u8], Option<&[u8]>)
     ensures { rows bytes.now ≡ result.0.now ∷ rows_in (option_copied result.1) }
 {
     let end = before_newline(bytes);
@@ -38,7 +38,7 @@ fn first_row(bytes: &[u8]) -> (&[u8], Option<&[u8]>)
 
 /// Whether the last byte is a backslash.
 #[tactic(auto, using(crate::proofs::Rows::last_byte))]
-fn goes_on(text: &[u8]) -> bool
+pub(crate) fn goes_on(text: &[u8]) -> bool
     ensures { result ≡ goes_on text.now }
 {
     text.last() == Some(&b'\\')
@@ -55,7 +55,7 @@ fn untabbed(row: &[u8]) -> &[u8]
 }
 
 /// Joins a line with a text that ends with a backslash, outside recipes: the backslash and the blanks round it become a space.
-fn splice(text: &mut Vec<u8>, row: &[u8]) -> Result<(), NoMemory>
+pub(crate) fn splice(text: &mut Vec<u8>, row: &[u8]) -> Result<(), NoMemory>
     ensures { OnOk result (text.new.items
         ≡ trimmed_end (without_last text.old.items) ++ 32 ∷ trimmed_start row.now) }
 {

@@ -87,6 +87,24 @@ fn a_comment_is_cut(rt: HostRuntime) -> Result<(), Fail> {
     Ok(())
 }
 
+/// Each line of a recipe with what is kept of it; those in which all references are closed, and that
+/// have no `$$`, as GNU make 4.3 keeps them.
+#[test]
+fn a_reference_is_one_line(rt: HostRuntime) -> Result<(), Fail> {
+    for (line, wanted) in [
+        (b"a \\\n b".as_slice(), b"a \\\n b".as_slice()),
+        (b"$(a \\\n\tb  \\\n \\\n c) \\\nd", b"$(a b c) \\\nd"),
+        (b"${\\\na(\\\n)}$x", b"${ a( )}$x"),
+        (b"$$(a \\\nb)", b"$$(a \\\nb)"),
+        (b"$(a \\\nb", b"$(a \\\nb"),
+        (b"$(a\nb \\\nc)", b"$(a\nb c)"),
+    ] {
+        let kept = folded_references(rt.alloc(), line)?;
+        assert!(rt; kept.bytes() == wanted);
+    }
+    Ok(())
+}
+
 /// Beginnings of a second line with how many more bytes it can have.
 #[test]
 fn a_line_has_a_limit(rt: HostRuntime) -> Result<(), Fail> {

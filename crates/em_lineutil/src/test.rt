@@ -133,15 +133,18 @@ fn is_negated(words: &[Text]) -> bool
 }
 
 /// The expression behind each `!`, and whether they negate it; `so_far` tells it of those before.
+/// A few steps for each `!`.
 pub fn stripped(so_far: bool, words: &[Text]) -> (bool, &[Text])
     ensures negated { result.0 ≡ (tests.stripped so_far words.now).0 }
     ensures rest { result.1.now ≡ (tests.stripped so_far words.now).1 }
 {
-    if is_negated(words) {
-        stripped(!so_far, &words[1..])
-    } else {
-        (so_far, words)
+    let mut negated = so_far;
+    let mut rest = words;
+    while is_negated(rest) {
+        negated = !negated;
+        rest = &rest[1..];
     }
+    (negated, rest)
 }
 
 fn unary_form(operator: &[u8]) -> Form

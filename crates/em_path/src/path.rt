@@ -3,6 +3,9 @@ ghost use Rattle.std.specs.Prelude.{◌≡◌, ◌+◌, ◌<◌, ◌≤◌, ◌�
 ghost use Rattle.std.specs.Ordering.{nat_cmp};
 ghost use Rattle.std.specs.Cmp.Lexicographic.{pointwise, slice_cmp, nat_list_eq_equiv, nat_list_cmp_total, texts_ties, texts_po};
 ghost use Rattle.std.specs.Cmp.{partial_equiv_from_equiv};
+ghost use Rattle.std.specs.Hash as fed;
+ghost use Rattle.std.specs.Cmp.Rules.{hashing};
+ghost use Rattle.std.proofs.Common.{rules};
 ghost use Rattle.em_path.specs.Paths.{IsComponent, IsPath, root_text, child_text, components, last_of, parent_text, path_text};
 ghost use Rattle.em_path.specs.Reading.{read_fault, resolved_text, name_fault_of, limit_fault};
 ghost use Rattle.em_path.specs.declared.path.PathNo.TheVariants.{NoMemory};
@@ -14,6 +17,7 @@ use bytes::Bytes;
 use em_base::NoMemory;
 use std::alloc::{AllocError, AllocFailed, Global};
 use std::cmp::Ordering;
+use std::hash::{Hash, Hasher};
 use std::marker::Model;
 use thiserror::Error;
 
@@ -267,5 +271,15 @@ impl Ord for Path {
 
     fn cmp(&self, other: &Self) -> Ordering {
         order(self.text(), other.text())
+    }
+}
+
+impl Hash for Path {
+    ghost hash_input = { fed.slice fed.u8 };
+
+    ghost respects_eq = { Prim.search (hashing, rules) };
+
+    fn hash<H: Hasher>(&self, state: &mut H) {
+        self.text().hash(state);
     }
 }

@@ -30,6 +30,7 @@ use Rattle.em_statement.specs.declared.statement.RuleLine.{RuleLine}
 use Rattle.em_statement.specs.declared.statement.Undefine.{Undefine}
 use Rattle.em_statement.specs.declared.head.Head.{Head}
 use Rattle.em_statement.specs.Heads.{head_of, refusal_of}
+use Rattle.em_statement.specs.Shapes.{colons_in}
 use Rattle.em_statement.specs.Split.{is_empty}
 use Rattle.em_reading.specs.declared.no.Fault.{Fault}
 use Rattle.em_reading.specs.declared.no.Fault.TheVariants as fault
@@ -118,14 +119,28 @@ ends_word (Some b) = not (is_blank b || (b == 58))
 abbrev pub goes_on : List ℕ → Bool
 goes_on text = ends_word (slice_get text (length text - 1))
 
-abbrev pub known : Option (List ℕ) → List ℕ → List ℕ
-known None text = text
-known (Some name) text = if goes_on text then text ++ 120 ∷ [] else text
+abbrev pub ended : List ℕ → List ℕ
+ended text = if goes_on text then text ++ 120 ∷ [] else text
 
--- what is refused in the head, from the left; what stands behind a function that is refused isn't known
+abbrev pub has_colon : List ℕ → Bool
+has_colon text = list_any (λ b. b == 58) text
+
+-- where no colon stands in front of the function, those that are written stand behind it, so what is known are targets
+abbrev pub known : List ℕ → List ℕ → List ℕ
+known written text = if has_colon text then ended text else ended text ++ colons_in written
+
+-- what is refused in the head, from the left; what stands behind a function that is refused isn't known but for its colons, so an
+-- assignment counts only where its colon is known
+abbrev pub refusal_by : Option (List ℕ) → RuleLine → List ℕ → Option (List ℕ)
+refusal_by None l text = refusal_of l.assigns text
+refusal_by (Some name) l text = refusal_of (l.assigns && has_colon text) (known l.head text)
+
+abbrev pub refusal_in : RuleLine → Expanded → Option (List ℕ)
+refusal_in l e = refusal_by e.refused l e.text
+
 abbrev pub rule_line : Place → RuleLine → Heard → Reads (Unit {0})
 rule_line p l h =
-    unless_refused (refusal_of l.assigns (known h.first.refused h.first.text)) p
+    unless_refused (refusal_in l h.first) p
     (unless_refused h.first.refused p (rule_by p l h.first.text (head_of h.first.text)))
 
 -- ---- a statement

@@ -2,10 +2,10 @@
 ghost use Rattle.std.specs.Prelude.{◌≡◌, ◌++◌, ◌∷◌, [], IfOk};
 ghost use Rattle.std.specs.List.{list_any};
 ghost use Rattle.em_reader.specs.Acting as acting;
-ghost use Rattle.em_reader.specs.Acting.{is_pattern_rule, known, matched, or_itself, rule_of};
+ghost use Rattle.em_reader.specs.Acting.{has_colon, is_pattern_rule, known, matched, or_itself, rule_of};
 ghost use Rattle.em_namefn.specs.Wildcards.{glyphs_of};
 ghost use Rattle.em_reading.specs.Faults.{is_free};
-ghost use Rattle.em_statement.specs.Heads.{head_of, refusal_of};
+ghost use Rattle.em_statement.specs.Heads.{head_of};
 ghost use Rattle.em_view.specs.Steps.{Does};
 ghost use Rattle.em_wordlist.specs.Stems.{is_percent};
 
@@ -15,7 +15,7 @@ use em_namefn::glyphs_of;
 use em_pathname::matching_names;
 use em_reading::{Expanded, Fault, Heard, ReadNo, Reading, at, desk_fault, refused};
 use em_rules::{RecipeLine, Rule};
-use em_statement::{Head, RuleLine, Statement, is_empty, read_head, refused_in_head};
+use em_statement::{Head, RuleLine, Statement, colons_in, is_empty, read_head, refused_in_head};
 use em_view::{Desk, View};
 use std::alloc::Global;
 
@@ -242,17 +242,55 @@ fn goes_on(text: &[u8]) -> bool
     }
 }
 
-/// The first thing that is refused in a rule's head, of which what stands behind a refused function isn't known.
-fn refused_in_known(alloc: Global, assigns: bool, head: &Expanded) -> Result<Option<Text>, NoMemory>
-    ensures { IfOk result (λ r. r ≡ refusal_of assigns (known head.now.refused head.now.text)) }
+/// The text, whose last word goes on where it doesn't end with the text.
+fn ended(alloc: Global, text: &[u8]) -> Result<Text, NoMemory>
+    ensures { IfOk result (λ e. e ≡ acting.ended text.now) }
+{
+    let mut ended = Text::from_slice(alloc, text)?;
+    if goes_on(text) {
+        ended.add(b"x")?;
+    }
+    Ok(ended)
+}
+
+fn has_colon(text: &[u8]) -> bool
+    ensures { result ≡ has_colon text.now }
+{
+    text.contains(&b':')
+}
+
+/// What is known of a head that is written so, when this stands in front of a function that is
+/// refused.
+fn known(alloc: Global, written: &[u8], text: &[u8]) -> Result<Text, NoMemory>
+    ensures { IfOk result (λ k. k ≡ known written.now text.now) }
+{
+    let mut known = ended(alloc, text)?;
+    if has_colon(text) {
+        return Ok(known);
+    }
+    let colons = colons_in(alloc, written)?;
+    known.add(colons.bytes())?;
+    Ok(known)
+}
+
+/// The first thing that is refused in a rule's head, of which what stands behind a refused function
+/// isn't known but for its colons.
+fn refused_in_known(
+    alloc: Global,
+    line: &RuleLine,
+    head: &Expanded,
+) -> Result<Option<Text>, NoMemory>
+    ensures { IfOk result (λ r. r ≡ acting.refusal_in line.now head.now) }
 {
     let text = head.text.bytes();
-    if head.refused.is_none() || !goes_on(text) {
-        return refused_in_head(alloc, assigns, text);
+    match &head.refused {
+        None => refused_in_head(alloc, line.assigns, text),
+        Some(_) => {
+            let assigns = line.assigns && has_colon(text);
+            let known = known(alloc, line.head.bytes(), text)?;
+            refused_in_head(alloc, assigns, known.bytes())
+        }
     }
-    let mut longer = Text::from_slice(alloc, text)?;
-    longer.add(b"x")?;
-    refused_in_head(alloc, assigns, longer.bytes())
 }
 
 /// The line of a rule.
@@ -267,7 +305,7 @@ fn rule_line<V: View>(
     ensures { Does is_free V.tells desk.old desk.new reading.old reading.new result
         (acting.rule_line place.now line.now heard.now) }
 {
-    if let Some(name) = refused_in_known(alloc, line.assigns, &heard.first)? {
+    if let Some(name) = refused_in_known(alloc, line, &heard.first)? {
         return Err(refused(alloc, place, name.bytes()));
     }
     if let Some(name) = &heard.first.refused {

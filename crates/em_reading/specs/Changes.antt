@@ -6,6 +6,7 @@ use Rattle.em_base.specs.declared.place.Place.{Place}
 use Rattle.em_cond.specs.declared.nest.Conditional.{Conditional}
 use Rattle.em_cond.specs.Nests.{entered, after_other, after_leave, is_active}
 use Rattle.em_lines.specs.declared.line.Line.{Line}
+use Rattle.em_lines.specs.Folding.{folded_references}
 use Rattle.em_lines.specs.Comments.{bare}
 use Rattle.em_rules.specs.declared.rule.Rule.{Rule}
 use Rattle.em_rules.specs.declared.rule.RecipeLine.{RecipeLine}
@@ -94,8 +95,9 @@ begin_by rule (Some target) r = bad rule.place (fault.Rule (Static target)) r
 abbrev pub begin_rule : Rule → Change
 begin_rule rule r = begin_by (undotted_rule rule) (unmatched (undotted_rule rule)) r
 
+-- within a reference of it a backslash-newline is a blank
 abbrev pub recipe_line : Line → RecipeLine
-recipe_line l = record { place = l.place; text = l.text }
+recipe_line l = record { place = l.place; text = folded_references l.text }
 
 abbrev pub with_line : Rule → RecipeLine → Rule
 with_line rule l = record rule { recipe = Some (unwrap_or rule.recipe [] ++ l ∷ []) }

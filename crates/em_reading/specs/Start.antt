@@ -2,7 +2,7 @@
 --     start_vars goals assigned cwd defaults    the variables at the start
 --     start cwd vars said                       nothing is read yet
 --     goal_of book text                         the default goal, where `.DEFAULT_GOAL` has this text
-use Rattle.std.specs.Prelude.{ℕ, ◌==◌, ◌||◌, not, Bool, false, List, [], ◌∷◌, fold, find, Option, Some, None, codes, if◌then◌else◌}
+use Rattle.std.specs.Prelude.{ℕ, ◌==◌, ◌&&◌, ◌||◌, not, Bool, false, List, [], ◌∷◌, fold, find, Option, Some, None, codes, if◌then◌else◌}
 use Rattle.std.specs.List.{list_any}
 use Rattle.std.specs.Option.{option_or}
 use Rattle.em_base.specs.Blanks.{trimmed}
@@ -60,13 +60,13 @@ start cwd vars said = record {
 
 -- ---- the default goal
 
--- a target that begins with a dot is one only where it holds a slash
+-- a target that begins with a dot is one only where it holds a slash, and one with a `%` is none
 abbrev pub begins_with_dot : List ℕ → Bool
 begins_with_dot [] = false
 begins_with_dot (b ∷ bs) = b == 46
 
 abbrev pub is_goal : List ℕ → Bool
-is_goal target = not (begins_with_dot target) || list_any (λ b. b == 47) target
+is_goal target = (not (begins_with_dot target) || list_any (λ b. b == 47) target) && not (list_any (λ b. b == 37) target)
 
 abbrev pub first_goal : List Rule → Option (List ℕ)
 first_goal [] = None

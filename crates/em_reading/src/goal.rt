@@ -12,11 +12,13 @@ use em_rules::{Book, Rule};
 use em_statement::is_empty;
 use std::alloc::Global;
 
-/// Whether a target can be the default goal.
+/// Whether a target can be the default goal: it holds no `%`, and where it begins with a dot it holds
+/// a slash.
 fn is_goal(target: &Text) -> bool
     ensures { result ≡ is_goal target.now }
 {
-    target.bytes().first() != Some(&b'.') || target.bytes().contains(&b'/')
+    let name = target.bytes();
+    (name.first() != Some(&b'.') || name.contains(&b'/')) && !name.contains(&b'%')
 }
 
 /// The first target of a rule that can be the default goal.

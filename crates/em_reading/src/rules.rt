@@ -13,7 +13,7 @@ ghost use Rattle.em_view.specs.Steps.{Works};
 use crate::no::{Fault, ReadNo, RuleNo, at};
 use crate::reading::Reading;
 use em_base::{NoMemory, Place, Seq, Table, Text};
-use em_lines::Line;
+use em_lines::{Line, folded_references};
 use em_rules::{Book, BookNo, RecipeLine, Rule, undotted_rule, unmatched};
 use itoa::Buffer;
 use std::alloc::Global;
@@ -114,13 +114,13 @@ fn with_line(alloc: Global, rule: Rule, line: RecipeLine) -> Result<Rule, NoMemo
     })
 }
 
-/// The line as one of a recipe.
+/// The line as one of a recipe: what is continued within a reference is joined.
 fn recipe_line(alloc: Global, line: &Line) -> Result<RecipeLine, NoMemory>
     ensures { IfOk result (λ l. l ≡ recipe_line line.now) }
 {
     Ok(RecipeLine {
         place: line.place.copy(alloc)?,
-        text: line.text.copy(alloc)?,
+        text: folded_references(alloc, line.text.bytes())?,
     })
 }
 

@@ -11,8 +11,7 @@ use std::marker::Model;
 
 /// The explicit rules of a makefile, in order. Contracts see the list of them. A rule's number is its place, counted from 0.
 ///
-/// An index by name answers each question about a name in one search, whose steps grow with the logarithm of the number of
-/// names. Where memory ran out in `add` there is no index from then on, and an answer takes steps for each name in the rules.
+/// An index by name answers each question about a name in one search by its hash. Where memory ran out in `add` there is no index from then on, and an answer takes steps for each name in the rules.
 #[derive(Drop)]
 pub struct Rules {
     alloc: Global,

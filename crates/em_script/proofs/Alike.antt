@@ -41,7 +41,7 @@ use Rattle.em_command.specs.Jumps.{Acts, of_desk}
 use Rattle.em_command.specs.Heres.{assigned}
 use Rattle.em_command.specs.Streams.{around, redirected}
 use Rattle.em_exec.specs.Copies.{subshell, heard, substituted, collected}
-use Rattle.em_exec.specs.Words.{Deeper, in_copy, worded, expansion_of, fields_in, first_in, glyphs_in, output, hold, expanded, fields, whole, pattern}
+use Rattle.em_exec.specs.Words.{Deeper, in_copy, worded, expansion_of, fields_in, first_in, glyphs_in, output, hold, expanded, added, fields, whole, pattern}
 use Rattle.em_exec.specs.Running.{by_status, assign_if, if_open, is_none, unsubstituted, if_zero, or_next, if_found, if_some, assignment, assignments, redirect_one, redirects, ends_alone, act, simple_of, otherwise, branches, if_of, matches_one, items, case_of}
 use Rattle.em_exec.specs.Running.{in_loop, turns, loop_of, all_rounds, for_of, CompoundBody, body_by, body_of, passed_on, within_streams, routed, compound_of, CommandBody, command_by, command_of, if_last, piped, stages, turned, pipeline_of, goes_with, if_goes, joined_one, joined, and_or_of, in_order, script_of, script_at}
 use Rattle.em_script.proofs.Asking.{asking}
@@ -105,9 +105,13 @@ module _ (deeper : Deeper) (H : (s t : Script) → script_shape s ≡ script_sha
       ∙ ap (held (λ ps. worded (λ h. finish m h.shell.cwd ps) >>= (λ s. done (expansion_of s)))) (words_alike (output deeper scene) (λ s t d. λ i. substituted (H s t d i (in_copy scene.input))) v w e)
       ∙ sym (held_is deeper scene m (word_plan w))
 
+  added_alike : (scene : Scene) (so_far : List (List ℕ)) (v w : Word) → word_shape v ≡ word_shape w → added deeper scene so_far v ≡ added deeper scene so_far w
+  unfolding added
+  added_alike scene so_far v w e = λ i. word_alike scene mode.Fields v w e i >>= (λ z. done (so_far ++ fields_in z))
+
   fields_alike : (scene : Scene) (xs ys : List Word) → row (map word_shape xs) ≡ row (map word_shape ys) → (so_far : List (List ℕ)) → fields deeper scene so_far xs ≡ fields deeper scene so_far ys
   fields_alike scene = in_pairs word_shape (λ xs ys. (so_far : List (List ℕ)) → fields deeper scene so_far xs ≡ fields deeper scene so_far ys) (λ so_far. refl)
-      (λ x y xs ys e k so_far. λ i. word_alike scene mode.Fields x y e i >>= (λ z. k (so_far ++ fields_in z) i))
+      (λ x y xs ys e k so_far. λ i. added_alike scene so_far x y e i >>= (λ more. k more i))
 
   whole_alike : (scene : Scene) (v w : Word) → word_shape v ≡ word_shape w → whole deeper scene v ≡ whole deeper scene w
   unfolding whole

@@ -1,5 +1,5 @@
 -- Plans whose questions are named anew. The pieces of a word do so with the plans that they are made of.
-use Rattle.std.proofs.Common.{◌≡◌, ◌∙◌, ℕ, Bool, List, [], ◌∷◌, ◌++◌, map, Option, Some, None, refl, ap}
+use Rattle.std.proofs.Common.{◌≡◌, ◌∙◌, ℕ, Bool, List, [], Option, Some, None, refl, ap}
 use Rattle.std.specs.Option.{option_map}
 use Rattle.em_fields.specs.declared.part.Part.{Part}
 use Rattle.em_fields.specs.declared.form.Form.{Form}
@@ -7,7 +7,7 @@ use Rattle.em_fields.specs.declared.form.Late.{Late}
 use Rattle.em_fields.specs.declared.form.Late.TheVariants.{Keep, Assign, Complain, Cut}
 use Rattle.em_fields.specs.Forms.{form_of, early_value, late_value}
 use Rattle.em_word.specs.Talk.{Ends, Fails, Pays, Looks, Sets, Asks, and_then}
-use Rattle.em_word.specs.Values.{Plan, text_of, close, argument, unless_early, by_form, is_there, value_piece, in_order}
+use Rattle.em_word.specs.Values.{Plan, text_of, close, argument, unless_early, by_form, is_there, value_piece}
 
 abbrev pub asking : {Q R : Type 0} → (Q → R) → Plan Q → Plan R
 asking f (Ends ps) = Ends ps
@@ -18,7 +18,7 @@ asking f (Sets name value t) = Sets name value (asking f t)
 asking f (Asks q t) = Asks (f q) (λ output. asking f (t output))
 
 module _ {Q R : Type 0} (f : Q → R) where
-  then_asking : (t : Plan Q) (k : List Part → Plan Q) → asking f (and_then t k) ≡ and_then (asking f t) (λ ps. asking f (k ps))
+  pub then_asking : (t : Plan Q) (k : List Part → Plan Q) → asking f (and_then t k) ≡ and_then (asking f t) (λ ps. asking f (k ps))
   then_asking (Ends ps) k = refl
   then_asking (Fails e) k = refl
   then_asking (Pays n t) k = ap (Pays n) (then_asking t k)
@@ -26,11 +26,7 @@ module _ {Q R : Type 0} (f : Q → R) where
   then_asking (Sets name value t) k = ap (Sets name value) (then_asking t k)
   then_asking (Asks q t) k = λ i. Asks (f q) (λ output. then_asking (t output) k i)
 
-  pub order_asking : (ps : List Part) (ts : List (Plan Q)) → asking f (in_order ps ts) ≡ in_order ps (map (asking f) ts)
-  order_asking ps [] = refl
-  order_asking ps (t ∷ ts) = then_asking t (λ more. in_order (ps ++ more) ts) ∙ (λ i. and_then (asking f t) (λ more. order_asking (ps ++ more) ts i))
-
-  close_asking : (late : Late) (q : Bool) (name : List ℕ) (ps : List Part) → asking f (close late q name ps) ≡ close late q name ps
+  pub close_asking : (late : Late) (q : Bool) (name : List ℕ) (ps : List Part) → asking f (close late q name ps) ≡ close late q name ps
   close_asking Keep q name ps = refl
   close_asking Assign q name ps = refl
   close_asking Complain q name ps = refl

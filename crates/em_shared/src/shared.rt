@@ -11,13 +11,17 @@ use em_tree::{Answer, Delta, Kind, NameList, Outcome, Question};
 use std::alloc::Global;
 use std::sync::{Condvar, Mutex, Wait};
 
-/// A board that threads share. Each call takes the lock, makes the board's call of the same name, lets the lock
-/// go, and wakes those that wait where the call may have changed what they wait for. Where the board's call
-/// can't be made, since the job is in another phase, nothing changes.
+/// A board that threads share. Each call takes the lock, makes the board's call of the same name and lets the lock
+/// go. Then it wakes the committer where the job that it waits for has ended, and one of those that wait to claim
+/// where the call may have changed what they wait for: who is woken and claims a job wakes the next one, and who finds
+/// that none is left wakes all. Where the board's call can't be made, since the job is in another phase, nothing changes.
 #[derive(Drop)]
 pub struct Shared<S: Spec> {
     board: Mutex<Board<S>>,
-    changed: Condvar,
+    /// Waited for by who wants to claim a job.
+    claimable: Condvar,
+    /// Waited for by the committer while a worker runs the next job to be settled.
+    ended: Condvar,
 }
 
 impl<S: Spec> Shared<S> {
@@ -25,7 +29,8 @@ impl<S: Spec> Shared<S> {
     pub fn new(board: Board<S>) -> Shared<S> {
         Shared {
             board: Mutex::new(board),
-            changed: Condvar::new(),
+            claimable: Condvar::new(),
+            ended: Condvar::new(),
         }
     }
 
@@ -33,7 +38,8 @@ impl<S: Spec> Shared<S> {
     pub fn claim<R: Wait>(&self, rt: &R) -> Claim {
         let mut board = self.board.lock(rt);
         let claim = board.claim();
-        self.changed.notify_all();
+        drop(board);
+        self.wake_after_claim(&claim);
         claim
     }
 
@@ -46,11 +52,12 @@ impl<S: Spec> Shared<S> {
             match board.claim() {
                 Claim::NotYet => {}
                 claim => {
-                    self.changed.notify_all();
+                    drop(board);
+                    self.wake_after_claim(&claim);
                     return claim;
                 }
             }
-            board = self.changed.wait(rt, board);
+            board = self.claimable.wait(rt, board);
         }
         unreachable!()
     }
@@ -63,7 +70,8 @@ impl<S: Spec> Shared<S> {
             return false;
         }
         let claimed = board.claim_front(job);
-        self.changed.notify_all();
+        drop(board);
+        self.claimable.notify_one();
         claimed
     }
 
@@ -93,8 +101,10 @@ impl<S: Spec> Shared<S> {
         if !board.is_claimed(run.spec().job()) {
             return Err(Held::Phase(run));
         }
+        let awaited = run.spec().job() == board.settled();
         let published = board.publish(run);
-        self.changed.notify_all();
+        drop(board);
+        self.wake_after_end(awaited);
         match published {
             Ok(()) => Ok(()),
             Err(run) => Err(Held::Memory(run)),
@@ -107,8 +117,10 @@ impl<S: Spec> Shared<S> {
         if !board.is_claimed(job) {
             return;
         }
+        let awaited = job == board.settled();
         board.give_up(job);
-        self.changed.notify_all();
+        drop(board);
+        self.wake_after_end(awaited);
     }
 
     /// Takes what a worker has left of the next job to be settled. None where it isn't the next one, or no
@@ -134,7 +146,7 @@ impl<S: Spec> Shared<S> {
                 Taken::NotYet => {}
                 taken => return Some(taken),
             }
-            board = self.changed.wait(rt, board);
+            board = self.ended.wait(rt, board);
         }
         unreachable!()
     }
@@ -146,7 +158,8 @@ impl<S: Spec> Shared<S> {
             return Err(SettleNo::Phase);
         }
         board.settle(job, d, o)?;
-        self.changed.notify_all();
+        drop(board);
+        self.claimable.notify_one();
         Ok(())
     }
 
@@ -154,7 +167,26 @@ impl<S: Spec> Shared<S> {
     pub fn stop<R: Wait>(&self, rt: &R) {
         let mut board = self.board.lock(rt);
         board.stop();
-        self.changed.notify_all();
+        drop(board);
+        self.claimable.notify_all();
+        self.ended.notify_all();
+    }
+
+    /// Wakes those for whom a claim may have changed something.
+    fn wake_after_claim(&self, claim: &Claim) {
+        match claim {
+            Claim::Job(_) => self.claimable.notify_one(),
+            Claim::Done => self.claimable.notify_all(),
+            Claim::NotYet => {}
+        }
+    }
+
+    /// Wakes those for whom the end of a job may have changed something; whether the committer waits for this job.
+    fn wake_after_end(&self, awaited: bool) {
+        self.claimable.notify_one();
+        if awaited {
+            self.ended.notify_all();
+        }
     }
 }
 

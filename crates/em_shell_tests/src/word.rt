@@ -21,6 +21,9 @@ enum Part {
     Bytes(bool, &'static str),
     /// A value of the variable `x`: its form, and its argument, which is one piece, not quoted; `None` is no argument.
     Value(bool, &'static str, Option<&'static str>),
+    /// The begin of the argument of a value of `x` in this form, and its end; not quoted.
+    Begin(&'static str),
+    End,
     /// The output of an empty script, not quoted.
     Output,
 }
@@ -34,30 +37,42 @@ fn bytes(alloc: Global, quoted: bool, bytes: &str) -> Result<WordPiece, NoMemory
     Ok(WordPiece { quoted, what })
 }
 
-fn one(alloc: Global, piece: WordPiece) -> Result<Word, NoMemory> {
-    let mut pieces = Vec::new(alloc);
-    pieces.push(piece)?;
-    Ok(Word { pieces })
+/// A value of `x`.
+fn value(alloc: Global, form: &str) -> Result<Value, NoMemory> {
+    let form = text(alloc, form)?;
+    let name = text(alloc, "x")?;
+    Ok(Value { name, form })
 }
 
-fn argument(alloc: Global, text: Option<&str>) -> Result<Option<Word>, NoMemory> {
-    match text {
-        Some(text) => Ok(Some(one(alloc, bytes(alloc, false, text)?)?)),
-        None => Ok(None),
+fn begin(alloc: Global, quoted: bool, form: &str) -> Result<WordPiece, NoMemory> {
+    let what = WordWhat::Argument(value(alloc, form)?);
+    Ok(WordPiece { quoted, what })
+}
+
+fn end() -> WordPiece {
+    WordPiece {
+        quoted: false,
+        what: WordWhat::End,
     }
 }
 
-/// A value of `x` with this argument.
-fn with_argument(
+/// Adds a value of `x`, perhaps with an argument.
+fn add_value(
     alloc: Global,
+    pieces: &mut Vec<WordPiece>,
     quoted: bool,
     form: &str,
-    arg: Option<Word>,
-) -> Result<WordPiece, NoMemory> {
-    let form = text(alloc, form)?;
-    let name = text(alloc, "x")?;
-    let what = WordWhat::Value(Value { name, form, arg });
-    Ok(WordPiece { quoted, what })
+    argument: Option<&str>,
+) -> Result<(), NoMemory> {
+    let Some(argument) = argument else {
+        let what = WordWhat::Value(value(alloc, form)?);
+        pieces.push(WordPiece { quoted, what })?;
+        return Ok(());
+    };
+    pieces.push(begin(alloc, quoted, form)?)?;
+    pieces.push(bytes(alloc, false, argument)?)?;
+    pieces.push(end())?;
+    Ok(())
 }
 
 fn output(alloc: Global) -> WordPiece {
@@ -69,20 +84,23 @@ fn output(alloc: Global) -> WordPiece {
     }
 }
 
-fn piece(alloc: Global, part: &Part) -> Result<WordPiece, NoMemory> {
+fn add_part(alloc: Global, pieces: &mut Vec<WordPiece>, part: &Part) -> Result<(), NoMemory> {
     match part {
-        Part::Bytes(quoted, text) => bytes(alloc, *quoted, text),
-        Part::Value(quoted, form, arg) => {
-            with_argument(alloc, *quoted, form, argument(alloc, *arg)?)
+        Part::Bytes(quoted, text) => pieces.push(bytes(alloc, *quoted, text)?)?,
+        Part::Value(quoted, form, argument) => {
+            add_value(alloc, pieces, *quoted, form, *argument)?
         }
-        Part::Output => Ok(output(alloc)),
+        Part::Begin(form) => pieces.push(begin(alloc, false, form)?)?,
+        Part::End => pieces.push(end())?,
+        Part::Output => pieces.push(output(alloc))?,
     }
+    Ok(())
 }
 
 fn word(alloc: Global, parts: &[Part]) -> Result<Word, NoMemory> {
     let mut pieces = Vec::new(alloc);
     for part in parts {
-        pieces.push(piece(alloc, part)?)?;
+        add_part(alloc, &mut pieces, part)?;
     }
     Ok(Word { pieces })
 }
@@ -512,13 +530,13 @@ fn a_value_is_set_before_an_output_is_asked_for(rt: HostRuntime) -> Result<(), F
 }
 
 /// `${x-${x=n}$(c)}$(d)`
-fn nested(alloc: Global) -> Result<Word, NoMemory> {
-    let arg = word(alloc, &[Part::Value(false, "=", Some("n")), Part::Output])?;
-    let value = with_argument(alloc, false, "-", Some(arg))?;
-    let mut word = one(alloc, value)?;
-    word.pieces.push(output(alloc))?;
-    Ok(word)
-}
+static NESTED_PARTS: [Part; 5] = [
+    Part::Begin("-"),
+    Part::Value(false, "=", Some("n")),
+    Part::Output,
+    Part::End,
+    Part::Output,
+];
 
 /// The text of `x`, and what is told of the word above.
 static NESTED: [(Option<&str>, &str); 2] = [(None, "x=n;(0)(1)[nqq]|8"), (Some("v"), "(1)[vq]|4")];
@@ -538,7 +556,7 @@ fn is_nested(
 #[test]
 fn arguments_are_words(rt: HostRuntime) -> Result<(), Fail> {
     let state = state(rt.alloc(), "")?;
-    let word = nested(rt.alloc())?;
+    let word = word(rt.alloc(), &NESTED_PARTS)?;
     for (x, wanted) in &NESTED {
         assert!(rt; is_nested(rt.alloc(), &state, &word, *x, wanted)?);
     }

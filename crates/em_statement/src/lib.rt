@@ -18,5 +18,6 @@ pub use condition::{Condition, Sides};
 pub use head::{Head, read_head, words};
 pub use line::read_statement;
 pub use refusal::refused_in_head;
+pub use shape::colons_in;
 pub use split::{first_word, is_empty};
 pub use statement::{Include, RuleLine, Statement, Undefine};

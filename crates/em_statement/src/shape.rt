@@ -1,7 +1,7 @@
 //! A line without what its references hold.
 ghost use Rattle.std.specs.Prelude.{◌≡◌, ◌++◌, IfOk, OnOk};
 ghost use Rattle.em_statement.specs.Shapes as shapes;
-ghost use Rattle.em_statement.specs.Shapes.{blotted, part_shape};
+ghost use Rattle.em_statement.specs.Shapes.{blotted, part_shape, colons_of};
 
 use em_base::{NoMemory, Span, Text};
 use em_refs::{Bracket, Part, Parted, parts_before};
@@ -54,4 +54,26 @@ pub fn shape(alloc: Global, text: &[u8]) -> Result<Text, NoMemory>
         add_blots(alloc, &mut shape, Span { start, end }.of(text))?;
     }
     Ok(shape)
+}
+
+/// The colons of a text, each behind a blank.
+fn colons_of(alloc: Global, text: &[u8]) -> Result<Text, NoMemory>
+    ensures { IfOk result (λ c. c ≡ colons_of text.now) }
+{
+    let mut colons = Text::new(alloc);
+    for byte in text {
+        if *byte == b':' {
+            colons.add(b" :")?;
+        }
+    }
+    Ok(colons)
+}
+
+/// The colons that are written outside references, each behind a blank. Steps for each byte.
+#[tactic(auto, unfolding(crate::specs::Shapes::colons_in))]
+pub fn colons_in(alloc: Global, text: &[u8]) -> Result<Text, NoMemory>
+    ensures { IfOk result (λ c. c ≡ shapes.colons_in text.now) }
+{
+    let shape = shape(alloc, text)?;
+    colons_of(alloc, shape.bytes())
 }

@@ -1,2 +1,2 @@
-pub mod Parted
-pub mod Scripts
+pub mod Variants
+pub mod Counting

@@ -1,6 +1,7 @@
 //! The syntax tree of a recipe line in a subset of the POSIX shell.
 #![tactic(auto)]
 
+pub mod laws;
 mod script;
 mod tree;
 

@@ -140,14 +140,15 @@ pub struct Item {
     pub body: Option<Script>,
 }
 
-/// A word: its pieces from left to right.
+/// A word: its pieces from left to right, in one list. The argument of a value stands between an `Argument` and the `End` that belongs to
+/// it, so however deep values stand in one another, no word holds a word.
 #[cycle(tree)]
 #[derive(Drop)]
 pub struct Word {
     pub pieces: Vec<WordPiece>,
 }
 
-/// A piece of a word. What is `quoted` is neither split nor expanded to path names.
+/// A piece of a word. What is `quoted` is neither split nor expanded to path names; an `End` never is.
 #[cycle(tree)]
 #[derive(Drop)]
 pub struct WordPiece {
@@ -155,21 +156,26 @@ pub struct WordPiece {
     pub what: WordWhat,
 }
 
-/// Bytes that stand for themselves, the value of a variable, or the output of commands.
+/// What a piece of a word is.
 #[cycle(tree)]
 #[derive(Drop)]
 pub enum WordWhat {
+    /// Bytes that stand for themselves.
     Bytes(Text),
+    /// A value without an argument: `$name`, `${name}`, `${#name}` or `$?`.
     Value(Value),
+    /// The begin of the argument of this value, which goes on up to the `End` that belongs to it.
+    Argument(Value),
+    /// The end of the innermost argument.
+    End,
+    /// The output of commands.
     Output(Script),
 }
 
 /// `$name` and its kin. The form is what stands between the name and the argument, as `:-` or `%%`; `#` without an argument is a length,
 /// and `?` with an empty name is `$?`.
-#[cycle(tree)]
 #[derive(Drop)]
 pub struct Value {
     pub name: Text,
     pub form: Text,
-    pub arg: Option<Word>,
 }

@@ -1,8 +1,9 @@
 //! The options of a utility.
-ghost use Rattle.std.specs.Prelude.{◌≡◌, ◌+◌, ◌<◌, ◌^◌, IfOk, drop, false};
+ghost use Rattle.std.specs.Prelude.{◌≡◌, ◌+◌, ◌<◌, ◌≤◌, ◌^◌, IfOk, drop, length, false};
 ghost use Rattle.em_view.specs.Ends.{is_want};
 ghost use Rattle.em_view.specs.Performs.{is_free};
-ghost use Rattle.em_utility.specs.Options.{is_letter, is_in, are_letters, is_option, takes_value, no_options, role_of, with_word, goes_on, options_of, unlisted, read_options};
+ghost use Rattle.em_utility.specs.Options as options;
+ghost use Rattle.em_utility.specs.Options.{is_letter, is_in, are_letters, plain_count, letter_count, is_digit, are_digits, is_old_form, is_option, takes_value, lacks_value, or_before, no_options, role_of, with_letters, with_word, goes_on, options_of, unlisted, read_options};
 
 use em_base::{Construct, NoMemory, Text};
 use em_view::ExecNo;
@@ -67,33 +68,91 @@ fn are_letters(listed: &[u8], bytes: &[u8]) -> bool
     bytes.iter().all(|b| is_letter(*b) || is_in(listed, *b))
 }
 
-/// Whether the word is a dash and letters.
-fn is_option(listed: &[u8], word: &[u8]) -> bool
-    ensures { result ≡ is_option listed.now word.now }
+/// How many of the bytes stand before the first letter that takes a value.
+fn plain_count(valued: &[u8], bytes: &[u8]) -> usize
+    ensures count { result ≡ plain_count valued.now bytes.now }
+    ensures within { result ≤ length bytes.now }
+{
+    bytes.iter().take_while(|b| !is_in(valued, **b)).count()
+}
+
+/// How many of the bytes are letters, up to the first one that takes a value.
+fn letter_count(valued: &[u8], bytes: &[u8]) -> usize
+    ensures count { result ≡ letter_count valued.now bytes.now }
+    ensures within { result ≤ length bytes.now }
+{
+    bytes.len().min(plain_count(valued, bytes) + 1)
+}
+
+/// The letters of a word without its dash.
+fn letters_in<'a>(valued: &[u8], bytes: &'a [u8]) -> &'a [u8]
+    ensures { result.now ≡ options.letters_in valued.now bytes.now }
+{
+    &bytes[..letter_count(valued, bytes)]
+}
+
+/// What stands behind them: the value of the last one, unless it is empty.
+fn value_in<'a>(valued: &[u8], bytes: &'a [u8]) -> &'a [u8]
+    ensures { result.now ≡ options.value_in valued.now bytes.now }
+{
+    &bytes[letter_count(valued, bytes)..]
+}
+
+fn is_digit(byte: u8) -> bool
+    ensures { result ≡ is_digit byte }
+{
+    matches!(byte, b'0'..=b'9')
+}
+
+fn are_digits(bytes: &[u8]) -> bool
+    ensures { result ≡ are_digits bytes.now }
+{
+    bytes.iter().all(|b| is_digit(*b))
+}
+
+/// Whether the bytes behind a dash are the old form of an option with a value.
+fn is_old_form(valued: &[u8], bytes: &[u8]) -> bool
+    ensures { result ≡ is_old_form valued.now bytes.now }
+{
+    !valued.is_empty() && are_digits(bytes)
+}
+
+/// Whether the word is one of options.
+fn is_option(listed: &[u8], valued: &[u8], word: &[u8]) -> bool
+    ensures { result ≡ is_option listed.now valued.now word.now }
 {
     match word.split_first() {
-        Some((dash, letters)) => {
-            *dash == b'-' && !letters.is_empty() && are_letters(listed, letters)
+        Some((dash, bytes)) => {
+            *dash == b'-'
+                && !bytes.is_empty()
+                && (are_letters(listed, letters_in(valued, bytes)) || is_old_form(valued, bytes))
         }
         None => false,
     }
 }
 
 /// Whether a letter of the word takes a value.
-fn takes_value(valued: &[u8], word: &[u8]) -> bool
-    ensures { result ≡ takes_value valued.now word.now }
+fn takes_value(valued: &[u8], bytes: &[u8]) -> bool
+    ensures { result ≡ takes_value valued.now bytes.now }
 {
-    word.iter().skip(1).any(|b| is_in(valued, *b))
+    bytes.iter().any(|b| is_in(valued, *b))
 }
 
-fn role_of(listed: &[u8], awaits: bool, word: &[u8]) -> Role
-    ensures { result ≡ role_of listed.now awaits word.now }
+/// Whether the value of a letter is the next word.
+fn lacks_value(valued: &[u8], bytes: &[u8]) -> bool
+    ensures { result ≡ lacks_value valued.now bytes.now }
+{
+    takes_value(valued, bytes) && value_in(valued, bytes).is_empty()
+}
+
+fn role_of(listed: &[u8], valued: &[u8], awaits: bool, word: &[u8]) -> Role
+    ensures { result ≡ role_of listed.now valued.now awaits word.now }
 {
     if awaits {
         Role::Value
     } else if word == b"--".as_slice() {
         Role::End
-    } else if is_option(listed, word) {
+    } else if is_option(listed, valued, word) {
         Role::Letters
     } else {
         Role::Operand
@@ -120,6 +179,41 @@ fn no_options(alloc: Global) -> Options
     }
 }
 
+/// The value, or the one before where it is empty.
+fn or_before(alloc: Global, before: Option<Text>, value: &[u8]) -> Result<Option<Text>, NoMemory>
+    ensures { IfOk result (λ v. v ≡ or_before before value.now) }
+{
+    if value.is_empty() {
+        return Ok(before);
+    }
+    Ok(Some(Text::from_slice(alloc, value)?))
+}
+
+/// The options with those of a word, without its dash.
+fn with_letters(
+    alloc: Global,
+    valued: &[u8],
+    so_far: Options,
+    bytes: &[u8],
+) -> Result<Options, NoMemory>
+    requires { so_far.taken + 1 < 2 ^ 64 }
+    ensures { IfOk result (λ o. o ≡ with_letters valued.now so_far bytes.now) }
+{
+    let Options {
+        mut letters,
+        value,
+        lacks: _,
+        taken,
+    } = so_far;
+    letters.add(letters_in(valued, bytes))?;
+    Ok(Options {
+        letters,
+        value: or_before(alloc, value, value_in(valued, bytes))?,
+        lacks: lacks_value(valued, bytes),
+        taken: taken + 1,
+    })
+}
+
 /// The options with those of one more word.
 fn with_word(
     alloc: Global,
@@ -139,9 +233,8 @@ fn with_word(
             all.taken += 1;
         }
         Role::Letters => {
-            all.letters.add(word.get(1..).unwrap_or(&[]))?;
-            all.lacks = takes_value(valued, word);
-            all.taken += 1;
+            let bytes = word.get(1..).unwrap_or(&[]);
+            return with_letters(alloc, valued, all, bytes);
         }
         Role::End => all.taken += 1,
         Role::Operand => {}
@@ -160,7 +253,7 @@ fn options_of(
 {
     let mut so_far = no_options(alloc);
     for word in words {
-        let role = role_of(listed, so_far.lacks, word.bytes());
+        let role = role_of(listed, valued, so_far.lacks, word.bytes());
         so_far = with_word(alloc, valued, so_far, word.bytes(), role)?;
         if !goes_on(role) {
             return Ok(so_far);
@@ -185,10 +278,11 @@ fn letter(alloc: Global, utility: &[u8], letter: u8) -> Result<Construct, NoMemo
 /// The options of a utility's words, without its name: the words of a dash and ASCII letters before
 /// the first operand, or before `--`. A dash alone is an operand, and so is a word with another
 /// byte, unless that is listed. `listed` are the letters that the utility has, and `valued` those
-/// of them that take the next word as their value. The error is `Refused` by the first letter that
-/// isn't listed, and else want of memory. POSIX, Utility Syntax Guidelines 3 to 10, but that a
-/// value is a word of its own. Steps for each byte of the options, times the letters that are
-/// listed.
+/// of them that take a value: what stands behind the letter in its word, or else the next word.
+/// Where there are such, a dash and digits alone is refused by its first digit: the old form of an
+/// option with a value. The error is `Refused` by the first letter that isn't listed, and else want
+/// of memory. POSIX, Utility Syntax Guidelines 3 to 10. Steps for each byte of the options, times
+/// the letters that are listed.
 pub fn read_options(
     alloc: Global,
     utility: &[u8],

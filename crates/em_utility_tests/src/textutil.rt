@@ -91,7 +91,7 @@ static CASES: [Case; 83] = [
     ("printf a\\t%%\\q", "", "a\t%\\q0"),
     ("printf", "", "<emake: printf: : missing operand\n>2"),
     ("head -n 2 f", "", "b\na\n0"),
-    ("head -n 0 f", "", "0"),
+    ("head -n1 f", "", "b\n0"),
     (
         "head",
         "1\n2\n3\n4\n5\n6\n7\n8\n9\n10\n11\n",
@@ -102,7 +102,7 @@ static CASES: [Case; 83] = [
     ("head -n", "", "<emake: head: : missing operand\n>2"),
     ("head f g", "", "<emake: head: : extra operand\n>2"),
     ("tail -n 1 f", "", "a\n0"),
-    ("tail -n 1 l", "", "b0"),
+    ("tail -n1 l", "", "b0"),
     ("tail -n 0 l", "", "0"),
     ("tail x", "", "<emake: tail: x: absent\n>1"),
     ("wc -l", "a\nb\n", "2\n0"),
@@ -199,8 +199,9 @@ fn commands_leave(rt: HostRuntime) -> Result<(), Fail> {
 }
 
 /// Commands that have no end: an option or a construct that is refused, and no fuel.
-static REFUSED: [(&str, u64, &str); 9] = [
+static REFUSED: [(&str, u64, &str); 10] = [
     ("cat -n f", 9, "!n"),
+    ("head -5 f", 9, "!5"),
     ("grep -i x", 9, "!i"),
     ("grep x", 9, "!C"),
     ("printf %5d", 9, "!5"),

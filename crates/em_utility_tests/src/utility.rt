@@ -38,18 +38,22 @@ fn show(words: &[Text], given: &Result<Options, ExecNo>, log: &mut Text) -> Resu
     }
 }
 
-static OPTIONS: [(&str, &str); 11] = [
+static OPTIONS: [(&str, &str); 15] = [
     ("a -f", "// a -f"),
     ("-fr -f a", "frf// a"),
     ("-f -- -f", "f// -f"),
     ("- -f", "// - -f"),
-    ("-5 a", "// -5 a"),
+    ("-5 a", "!"),
+    ("-5x a", "// -5x a"),
+    ("-- -5", "// -5"),
     ("-1f a", "1f// a"),
     ("-n 5 a", "n/5/ a"),
     ("-n -x -n -- a", "nn/--/ a"),
     ("-f -n", "fn/?"),
     ("-fx a", "!"),
-    ("-n5", "// -n5"),
+    ("-n5 a", "n/5/ a"),
+    ("-fn-x a", "fn/-x/ a"),
+    ("-n 3 -fn5 -n4 a", "nfnn/4/ a"),
 ];
 
 fn is_read(alloc: Global, line: &str, wanted: &str) -> Result<bool, Fail> {

@@ -1,7 +1,8 @@
-pub mod Planned
 mod Plans
+mod Meaning
 mod Counting
 mod Holding
 mod Stepping
 mod Landing
 mod Seeing
+pub mod Literals

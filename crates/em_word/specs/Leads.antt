@@ -1,5 +1,5 @@
 -- A step of an expander: how it goes on with the plan.
-use Rattle.std.specs.Prelude.{◌≡◌, List, Result, Ok, Err}
+use Rattle.std.specs.Prelude.{◌≡◌, Result, Ok, Err}
 use Rattle.em_view.specs.Performs.{DeskState, Told, Performs}
 use Rattle.em_word.specs.declared.shell.Shell.{Shell}
 use Rattle.em_word.specs.declared.fault.WordFault.{WordFault}

@@ -6,6 +6,8 @@ pub use Rattle.em_syntax.specs.Scripts
 pub mod Talk
 pub mod Values
 pub mod Words
+pub mod Passing
+pub mod Literal
 pub mod Ends
 pub mod Turns
 pub mod Held

@@ -2,7 +2,7 @@
 --     names_of cwd f         a field: the names that match it, or the field itself
 --     finish mode cwd ps     what a word comes to in a mode
 --     turn mode t shell      the plan t, as far as it goes on this shell
-use Rattle.std.specs.Prelude.{ℕ, Bool, true, false, List, [], ◌∷◌, ◌++◌, Option, Some, None, if◌then◌else◌}
+use Rattle.std.specs.Prelude.{ℕ, List, [], ◌∷◌, ◌++◌, Option, Some, if◌then◌else◌}
 use Rattle.em_glob.specs.declared.glyph.Glyph.{Glyph}
 use Rattle.em_glob.specs.Patterns.{is_pattern, bytes_of}
 use Rattle.em_view.specs.Actions.{Action, ◌>>=◌, done, fail, lift, spend}

@@ -1,8 +1,7 @@
 -- The pieces of a word, each on what its parts give. `q` says whether the piece is quoted.
 --     output_piece q s            `$( )`: a unit, the output of s without the newlines at its end, its blocks
 --     value_piece q name form w   `$name` and its kin: a unit, the value, its blocks; w is the argument
---     in_order ps pieces          the pieces from left to right, after these parts
-use Rattle.std.specs.Prelude.{ℕ, Bool, true, false, List, [], ◌∷◌, ◌++◌, length, Option, Some, None, option_map, codes, if◌then◌else◌}
+use Rattle.std.specs.Prelude.{ℕ, Bool, true, false, List, [], ◌∷◌, ◌++◌, length, Option, Some, None, option_map, codes}
 use Rattle.em_base.specs.declared.construct.Construct.TheVariants.{Positional}
 use Rattle.em_vars.specs.Entries.{value_of}
 use Rattle.em_view.specs.Rows.{blocks}
@@ -10,7 +9,7 @@ use Rattle.em_fields.specs.declared.part.Part.{Part}
 use Rattle.em_fields.specs.declared.form.Form.{Form}
 use Rattle.em_fields.specs.declared.form.Late.{Late}
 use Rattle.em_fields.specs.declared.form.Late.TheVariants.{Keep, Assign, Complain, Cut}
-use Rattle.em_fields.specs.Parts.{marked, mark, glyphs, bytes, without_newlines}
+use Rattle.em_fields.specs.Parts.{marked, mark, joined, glyphs, bytes, without_newlines}
 use Rattle.em_fields.specs.Forms.{form_of, early_value, late_value, text}
 use Rattle.em_fields.specs.Cuts.{cut_off}
 use Rattle.em_word.specs.declared.shell.Shell.{Shell}
@@ -44,7 +43,7 @@ abbrev pub assigned : {Q : Type 0} → Bool → List ℕ → List ℕ → Plan Q
 assigned q name value = Pays (blocks (length value)) (Sets name value (Ends (marked q value)))
 
 abbrev pub close : {Q : Type 0} → Late → Bool → List ℕ → List Part → Plan Q
-close Keep q name ps = charged (mark q ++ ps)
+close Keep q name ps = charged (joined (mark q) ps)
 close Assign q name ps = assigned q name (bytes ps)
 close Complain q name ps = Fails (Unset (complaint name (bytes ps)))
 close (Cut side) q name ps = Looks (λ shell. charged (marked q (cut_off side (glyphs ps) (text (text_of shell name)))))
@@ -69,7 +68,3 @@ is_there (Some a) = true
 
 unfoldable pub value_piece : {Q : Type 0} → Bool → List ℕ → List ℕ → Option (Plan Q) → Plan Q
 value_piece q name form w = Pays 1 (by_form (form_of name form (is_there w)) q name w)
-
-abbrev pub in_order : {Q : Type 0} → List Part → List (Plan Q) → Plan Q
-in_order ps [] = Ends ps
-in_order ps (p ∷ rest) = and_then p (λ more. in_order (ps ++ more) rest)

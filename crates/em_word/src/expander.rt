@@ -1,8 +1,8 @@
 //! An expander: a word on the way to its expansion.
-ghost use Rattle.std.specs.Prelude.{◌≡◌, IfOk, MatchResult};
+ghost use Rattle.std.specs.Prelude.{◌≡◌, option_map, IfOk, MatchResult};
 ghost use Rattle.em_view.specs.Performs.{Performs};
 ghost use Rattle.em_word.specs.Ends.{is_want};
-ghost use Rattle.em_word.specs.Held.{plan_of, plan_given, word_of, mode_of, with_piece, given, seen, IsReady, IsWaiting, IsSteady, StandsAfter};
+ghost use Rattle.em_word.specs.Held.{plan_of, plan_given, word_of, mode_of, asked_of, with_piece, given, seen, IsReady, IsWaiting, IsSteady, StandsAfter};
 ghost use Rattle.em_word.specs.Leads.{IsSame, GoesOn, Failed};
 ghost use Rattle.em_word.specs.Turns as turns;
 ghost use Rattle.em_word.specs.Turns.{turn};
@@ -16,7 +16,7 @@ use crate::step::{Step, charge};
 use crate::turn::{Mode, WordTurn};
 use em_base::{NoMemory, Seq, Stack, Text};
 use em_fields::{Late, Part, add_bytes, bytes, fields, glyphs, without_newlines};
-use em_syntax::{Word, WordPiece};
+use em_syntax::{Script, Word, WordPiece};
 use em_view::{Desk, View};
 use std::alloc::Global;
 use std::mem;
@@ -30,11 +30,11 @@ pub struct Expander<'a> {
     pub(crate) before: usize,
     /// What the innermost open text has come to so far.
     pub(crate) parts: Seq<Part>,
-    /// What is left of it.
+    /// The pieces that are left.
     pub(crate) rest: &'a [WordPiece],
     /// The values whose arguments are open.
     pub(crate) outer: Stack<Open<'a>>,
-    pub(crate) stage: Stage,
+    pub(crate) stage: Stage<'a>,
 }
 
 /// A value whose argument is being expanded.
@@ -43,28 +43,27 @@ pub(crate) struct Open<'a> {
     pub(crate) quoted: bool,
     pub(crate) late: Late,
     pub(crate) name: &'a [u8],
-    /// What the text around it has come to, and what is left of that.
+    /// What the text around it has come to.
     pub(crate) parts: Seq<Part>,
-    pub(crate) rest: &'a [WordPiece],
 }
 
 /// Whether the output of a command is needed.
 #[derive(Drop)]
-pub(crate) enum Stage {
+pub(crate) enum Stage<'a> {
     Ready,
-    /// It is, and is quoted or not.
-    Waiting(bool),
+    /// That of this script is, and is quoted or not.
+    Waiting(bool, &'a Script),
     /// It was handed in.
     Given(bool, Text),
 }
 
 /// The stage after an output was handed in.
-fn with_output(stage: &Stage, output: Text) -> Stage
+fn with_output<'a>(stage: &Stage<'a>, output: Text) -> Stage<'a>
     ensures { result ≡ given stage.now output }
 {
     match stage {
         Stage::Ready => Stage::Given(false, output),
-        Stage::Waiting(quoted) | Stage::Given(quoted, _) => Stage::Given(*quoted, output),
+        Stage::Waiting(quoted, _) | Stage::Given(quoted, _) => Stage::Given(*quoted, output),
     }
 }
 
@@ -84,6 +83,17 @@ impl<'a> Expander<'a> {
             outer: Stack::new(alloc),
             stage: Stage::Ready,
         })
+    }
+
+    /// The script whose output the last turn asked for, where it did: the word's substitution of
+    /// the number that the turn gave. Takes no memory, and no search.
+    pub fn script(&self) -> Option<&'a Script>
+        ensures { option_map (λ s. s.now) result ≡ asked_of self.now }
+    {
+        match self.stage {
+            Stage::Waiting(_, script) => Some(script),
+            Stage::Ready | Stage::Given(..) => None,
+        }
     }
 
     /// Hands in the output that the last turn asked for. Takes no memory.
@@ -129,14 +139,16 @@ impl<'a> Expander<'a> {
     {
         match mem::replace(&mut self.stage, Stage::Ready) {
             Stage::Given(quoted, output) => self.use_output(quoted, output.bytes(), shell, desk),
-            Stage::Ready | Stage::Waiting(_) => Ok(()),
+            Stage::Ready | Stage::Waiting(..) => Ok(()),
         }
     }
 
-    /// Goes on to the next turn. Before it is called again, the value of a turn `Set` is to be set in the shell, and the output of
-    /// a turn `Output` is to be given; after another turn or a fault it isn't called again. A unit of fuel is taken before each
-    /// `$` or backquote expansion, and the blocks of what it gives after it. Steps for each byte of what the expansions give, those
-    /// of a match for each byte that a pattern is tried from, and those of path name expansion.
+    /// Goes on to the next turn. Before it is called again, the value of a turn `Set` is to be set
+    /// in the shell, and the output of a turn `Output` is to be given; after another turn or a
+    /// fault it isn't called again. A unit of fuel is taken before each `$` or backquote expansion,
+    /// and the blocks of what it gives after it. All turns of a word together take steps for each
+    /// of its pieces, for each byte of what the expansions give, those of a match for each byte
+    /// that a pattern is tried from, and those of path name expansion.
     pub fn fields<V: View>(
         &mut self,
         alloc: Global,

@@ -1,13 +1,15 @@
 //! One step of an expander.
-ghost use Rattle.std.specs.Prelude.{◌≡◌, ◌+◌, ◌++◌, [], length, option_map, IfOk, MatchResult};
+ghost use Rattle.std.specs.Prelude.{◌≡◌, ◌+◌, ◌++◌, [], length, drop, option_map, IfOk, MatchResult};
 ghost use Rattle.em_view.specs.Actions.{lift, spend};
 ghost use Rattle.em_view.specs.Performs.{Performs};
 ghost use Rattle.em_view.specs.Rows.{blocks};
+ghost use Rattle.em_syntax.specs.Scripts.{scripts_in};
 ghost use Rattle.em_fields.specs.Forms as forms;
-ghost use Rattle.em_fields.specs.Parts.{marked};
+ghost use Rattle.em_fields.specs.Parts.{marked, joined};
 ghost use Rattle.em_word.specs.Ends.{is_want, of_desk};
-ghost use Rattle.em_word.specs.Held.{plan_of, mode_of, with_piece, value_plan, value_scripts, argument_pieces, IsSteady, IsBetween, IsBehind, Entered};
+ghost use Rattle.em_word.specs.Held.{plan_of, mode_of, with_piece, with_begin, with_end, value_plan, IsSteady, Entered};
 ghost use Rattle.em_word.specs.Leads.{Stepped, Failed, IsSame, closed};
+ghost use Rattle.em_word.specs.Passing.{behind};
 ghost use Rattle.em_word.specs.Values as values;
 ghost use Rattle.em_word.specs.Values.{charged};
 ghost use Rattle.em_word.specs.declared.expander.Stage.TheVariants as stage;
@@ -16,6 +18,7 @@ ghost use Rattle.em_word.specs.declared.turn.WordTurn.TheVariants as turn;
 
 use crate::expander::{Expander, Open, Stage};
 use crate::fault::WordFault;
+use crate::passing::{behind_argument, sum};
 use crate::shell::Shell;
 use crate::turn::WordTurn;
 use em_base::{Construct, NoMemory, Seq, Text};
@@ -23,7 +26,7 @@ use em_fields::{
     Early, Late, Part, add_bytes, add_mark, add_parts, bytes, cut_off, early_value, form_of,
     glyphs, late_value, size,
 };
-use em_syntax::{Value, WordPiece, WordWhat};
+use em_syntax::{Script, Value, WordWhat};
 use em_view::{Desk, View, blocks};
 use itoa::Buffer;
 use std::alloc::Global;
@@ -66,33 +69,6 @@ fn charge_unit<V: View>(desk: &mut Desk<V>) -> Result<(), WordFault>
     Ok(())
 }
 
-/// The pieces of an argument.
-fn pieces_of(value: &Value) -> &[WordPiece]
-    ensures { result.now ≡ argument_pieces value.now }
-{
-    match &value.arg {
-        Some(word) => &word.pieces,
-        None => &[],
-    }
-}
-
-/// How many command substitutions there are before what stands behind the argument. More than a `usize` counts are want of memory.
-#[tactic(auto, using(crate::proofs::Counting::argument_count, crate::proofs::Counting::no_count))]
-fn count_behind(before: usize, value: &Value) -> Result<usize, NoMemory>
-    ensures { IfOk result (λ n. n ≡ before + length (value_scripts value.now)) }
-{
-    let Some(word) = &value.arg else {
-        return Ok(before);
-    };
-    let Some(inside) = word.script_count() else {
-        return Err(NoMemory);
-    };
-    match before.checked_add(inside) {
-        Some(number) => Ok(number),
-        None => Err(NoMemory),
-    }
-}
-
 /// The variable's text.
 fn text_of<'s>(shell: &'s Shell, name: &[u8]) -> Option<&'s [u8]>
     ensures { option_map (λ t. t.now) result ≡ values.text_of shell.now name.now }
@@ -121,15 +97,17 @@ fn complaint(alloc: Global, name: &[u8], word: &[u8]) -> Result<Text, NoMemory>
 
 impl<'a> Expander<'a> {
     /// Asks for the output of the next substitution.
-    fn ask(&mut self, quoted: bool) -> Result<Step, NoMemory>
+    fn ask(&mut self, quoted: bool, script: &'a Script) -> Result<Step, NoMemory>
         ensures turn { IfOk result (λ s. s ≡ step.Turn (turn.Output self.old.before)) }
         ensures new { IfOk result
-            (λ s. self.new
-            ≡ record self.old { before = self.old.before + 1; stage = stage.Waiting quoted }) }
+            (λ s. self.new ≡ record self.old {
+              before = self.old.before + 1;
+              stage = stage.Waiting quoted script.entry;
+            }) }
     {
         let number = self.before;
         self.before = number.checked_add(1).ok_or(NoMemory)?;
-        self.stage = Stage::Waiting(quoted);
+        self.stage = Stage::Waiting(quoted, script);
         Ok(Step::Turn(WordTurn::Output(number)))
     }
 
@@ -144,41 +122,39 @@ impl<'a> Expander<'a> {
         ensures { IfOk result (λ u. Entered self.old self.new quoted late value.now) }
     {
         let parts = mem::replace(&mut self.parts, Seq::new(alloc));
-        let rest = mem::replace(&mut self.rest, pieces_of(value));
         self.outer.push(Open {
             quoted,
             late,
             name: value.name.bytes(),
             parts,
-            rest,
         })
     }
 
-    /// Adds a value whose argument isn't expanded.
-    fn add_value(&mut self, quoted: bool, text: &[u8], value: &Value) -> Result<(), NoMemory>
-        ensures { IfOk result
-            (λ u. self.new
-            ≡ record self.old {
-              parts = self.old.parts ++ marked quoted text.now;
-              before = self.old.before + length (value_scripts value.now);
-            }) }
+    /// Passes over the argument that begins here.
+    #[tactic(auto, unfolding(crate::specs::Held::word_of, crate::specs::Held::mode_of))]
+    fn pass_over(&mut self) -> Result<(), NoMemory>
+        ensures new { IfOk result
+            (λ u. self.new ≡ record self.old { rest = self.new.rest; before = self.new.before }) }
+        ensures rest { IfOk result (λ u. self.new.rest.now ≡ behind 1 self.old.rest.now) }
+        ensures steady { IfOk result (λ u. IsSteady self.old → IsSteady self.new) }
+        ensures same { IfOk result (λ u. IsSame self.old self.new) }
     {
-        self.before = count_behind(self.before, value)?;
-        add_bytes(&mut self.parts, quoted, text)
+        let (rest, scripts) = behind_argument(self.rest)?;
+        self.before = sum(self.before, scripts)?;
+        self.rest = rest;
+        Ok(())
     }
 
-    /// A value on which its argument doesn't bear.
+    /// A value on which no argument bears.
     #[tactic(auto, unfolding(crate::specs::Held::word_of, crate::specs::Held::mode_of))]
     fn settle<V: View>(
         &mut self,
         quoted: bool,
         text: &[u8],
-        value: &Value,
         shell: &Shell,
         desk: &mut Desk<V>,
     ) -> Result<Step, WordFault>
-        requires between { IsBetween self.old }
-        requires counted { IsBehind (value_scripts value.now) self.old }
+        requires { IsSteady self.old }
         ensures steps { MatchResult result
             (Stepped V.tells (mode_of self.old) shell.now desk.old desk.new
             (with_piece (charged (marked quoted text.now)) self.old) self.new)
@@ -187,22 +163,21 @@ impl<'a> Expander<'a> {
         ensures same { IfOk result (λ s. IsSame self.old self.new) }
     {
         charge(desk, text.len())?;
-        self.add_value(quoted, text, value)?;
+        add_bytes(&mut self.parts, quoted, text)?;
         Ok(Step::Goes)
     }
 
-    /// A value of the word.
+    /// A value without an argument.
     #[tactic(auto, unfolding(crate::specs::Held::word_of, crate::specs::Held::mode_of))]
     fn value<V: View>(
         &mut self,
         alloc: Global,
         quoted: bool,
-        value: &'a Value,
+        value: &Value,
         shell: &Shell,
         desk: &mut Desk<V>,
     ) -> Result<Step, WordFault>
-        requires between { IsBetween self.old }
-        requires counted { IsBehind (value_scripts value.now) self.old }
+        requires { IsSteady self.old }
         ensures steps { MatchResult result
             (Stepped V.tells (mode_of self.old) shell.now desk.old desk.new
             (with_piece (value_plan value.now quoted) self.old) self.new)
@@ -211,18 +186,67 @@ impl<'a> Expander<'a> {
         ensures same { IfOk result (λ s. IsSame self.old self.new) }
     {
         charge_unit(desk)?;
-        let Some(form) = form_of(value.name.bytes(), value.form.bytes(), value.arg.is_some()) else {
+        let name = value.name.bytes();
+        let Some(form) = form_of(name, value.form.bytes(), false) else {
             return Err(WordFault::Refused(Construct::Positional));
         };
-        match early_value(form, text_of(shell, value.name.bytes()), shell.status) {
+        match early_value(form, text_of(shell, name), shell.status) {
+            Early::Text(text) => self.settle(quoted, text, shell, desk),
+            Early::Number(number) => {
+                let mut buffer = Buffer::new();
+                self.settle(quoted, buffer.format(number).as_bytes(), shell, desk)
+            }
+            Early::Argument => {
+                let late = late_value(form);
+                let argument = Seq::new(alloc);
+                let bare = Closed {
+                    quoted,
+                    late,
+                    name,
+                    argument,
+                };
+                self.close(alloc, &bare, shell, desk)
+            }
+        }
+    }
+
+    /// The begin of a value's argument: it is gone into where it bears on the value, and else
+    /// passed over.
+    #[tactic(auto, unfolding(crate::specs::Held::word_of, crate::specs::Held::mode_of))]
+    fn begin<V: View>(
+        &mut self,
+        alloc: Global,
+        quoted: bool,
+        value: &'a Value,
+        shell: &Shell,
+        desk: &mut Desk<V>,
+    ) -> Result<Step, WordFault>
+        requires { IsSteady self.old }
+        ensures steps { MatchResult result
+            (Stepped V.tells (mode_of self.old) shell.now desk.old desk.new
+            (with_begin value.now quoted self.old) self.new)
+            (Failed V.tells (mode_of self.old) shell.now desk.old desk.new
+            (with_begin value.now quoted self.old)) }
+        ensures same { IfOk result (λ s. IsSame self.old self.new) }
+    {
+        charge_unit(desk)?;
+        let name = value.name.bytes();
+        let Some(form) = form_of(name, value.form.bytes(), true) else {
+            return Err(WordFault::Refused(Construct::Positional));
+        };
+        match early_value(form, text_of(shell, name), shell.status) {
             Early::Argument => {
                 self.enter(alloc, quoted, late_value(form), value)?;
                 Ok(Step::Goes)
             }
-            Early::Text(text) => self.settle(quoted, text, value, shell, desk),
+            Early::Text(text) => {
+                self.pass_over()?;
+                self.settle(quoted, text, shell, desk)
+            }
             Early::Number(number) => {
+                self.pass_over()?;
                 let mut buffer = Buffer::new();
-                self.settle(quoted, buffer.format(number).as_bytes(), value, shell, desk)
+                self.settle(quoted, buffer.format(number).as_bytes(), shell, desk)
             }
         }
     }
@@ -272,7 +296,7 @@ impl<'a> Expander<'a> {
         }
     }
 
-    /// Ends the innermost open text.
+    /// The end of the innermost argument; where none is open it is passed over.
     #[tactic(auto, unfolding(crate::specs::Held::word_of, crate::specs::Held::mode_of))]
     fn leave<V: View>(
         &mut self,
@@ -280,26 +304,23 @@ impl<'a> Expander<'a> {
         shell: &Shell,
         desk: &mut Desk<V>,
     ) -> Result<Step, WordFault>
-        requires steady { IsSteady self.old }
-        requires empty { self.old.rest.now ≡ [] }
+        requires { IsSteady self.old }
         ensures steps { MatchResult result
             (Stepped V.tells (mode_of self.old) shell.now desk.old desk.new
-            (plan_of self.old) self.new)
-            (Failed V.tells (mode_of self.old) shell.now desk.old desk.new (plan_of self.old)) }
+            (with_end self.old) self.new)
+            (Failed V.tells (mode_of self.old) shell.now desk.old desk.new (with_end self.old)) }
         ensures same { IfOk result (λ s. IsSame self.old self.new) }
     {
         let Some(open) = self.outer.pop() else {
-            return Ok(Step::Ended);
+            return Ok(Step::Goes);
         };
         let Open {
             quoted,
             late,
             name,
             parts,
-            rest,
         } = open;
         let argument = mem::replace(&mut self.parts, parts);
-        self.rest = rest;
         let value = Closed {
             quoted,
             late,
@@ -325,7 +346,7 @@ impl<'a> Expander<'a> {
         ensures same { IfOk result (λ s. IsSame self.old self.new) }
     {
         let Some((piece, rest)) = self.rest.split_first() else {
-            return self.leave(alloc, shell, desk);
+            return Ok(Step::Ended);
         };
         self.rest = rest;
         match &piece.what {
@@ -333,11 +354,13 @@ impl<'a> Expander<'a> {
                 add_bytes(&mut self.parts, piece.quoted, text.bytes())?;
                 Ok(Step::Goes)
             }
-            WordWhat::Output(_) => {
+            WordWhat::Output(script) => {
                 charge_unit(desk)?;
-                Ok(self.ask(piece.quoted)?)
+                Ok(self.ask(piece.quoted, script)?)
             }
             WordWhat::Value(value) => self.value(alloc, piece.quoted, value, shell, desk),
+            WordWhat::Argument(value) => self.begin(alloc, piece.quoted, value, shell, desk),
+            WordWhat::End => self.leave(alloc, shell, desk),
         }
     }
 }

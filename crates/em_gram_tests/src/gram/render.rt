@@ -169,9 +169,14 @@ fn piece(to: &mut Text, piece: &WordPiece) {
             put(to, side);
         }
         WordWhat::Value(of) => {
-            put(to, if piece.quoted { b"=$" } else { b"-$" });
-            value(to, of)
+            value(to, piece.quoted, of);
+            put(to, b"}");
         }
+        WordWhat::Argument(of) => {
+            value(to, piece.quoted, of);
+            put(to, b" ");
+        }
+        WordWhat::End => put(to, b"}"),
         WordWhat::Output(of) => {
             put(to, if piece.quoted { b"=$" } else { b"-$" });
             block(to, of)
@@ -179,15 +184,11 @@ fn piece(to: &mut Text, piece: &WordPiece) {
     }
 }
 
-#[cycle(shown)]
-fn value(to: &mut Text, value: &Value) {
+/// What stands before the argument of a value, or its end.
+fn value(to: &mut Text, quoted: bool, value: &Value) {
+    put(to, if quoted { b"=$" } else { b"-$" });
     put(to, b"{");
     put(to, value.name.bytes());
     put(to, b" ");
     put(to, value.form.bytes());
-    if let Some(arg) = &value.arg {
-        put(to, b" ");
-        word(to, arg);
-    }
-    put(to, b"}");
 }

@@ -56,7 +56,7 @@ const FAULTS: [Row; 35] = [
 ];
 
 /// What isn't supported, by its name.
-const REFUSED: [Row; 38] = [
+const REFUSED: [Row; 42] = [
     (b"a:: b\n", b"*** Makefile:1: refused ::"),
     (b"a &:: b\n", b"*** Makefile:1: refused ::"),
     (b"a &: b\n", b"*** Makefile:1: refused &:"),
@@ -107,6 +107,10 @@ const REFUSED: [Row; 38] = [
     (b"unexport\n", b"*** Makefile:1: refused unexport"),
     (b"a: $(shell ls)\n", b"*** Makefile:1: refused shell"),
     (b"a :: $(shell x)\n", b"*** Makefile:1: refused ::"),
+    (b"lib(m) $(shell x): y\n", b"*** Makefile:1: refused lib(m)"),
+    (b"a %.o $(shell x): y\n", b"*** Makefile:1: refused %"),
+    (b"%.o $(shell x): y\n", b"*** Makefile:1: refused shell"),
+    (b"lib(m) $(shell x)\n", b"*** Makefile:1: refused shell"),
     (b"a: $(shell x) .WAIT\n", b"*** Makefile:1: refused shell"),
     // a word that a refused function stands right behind isn't known as a whole
     (b"a: .WAIT$(shell x)\n", b"*** Makefile:1: refused shell"),

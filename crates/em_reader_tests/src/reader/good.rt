@@ -2,7 +2,7 @@
 use super::*;
 
 /// Rules.
-const RULES: [Row; 16] = [
+const RULES: [Row; 18] = [
     (b"", b"="),
     (
         b"a: b | c ;echo 1\n\techo 2\n",
@@ -33,6 +33,11 @@ const RULES: [Row; 16] = [
     ),
     (b"a: ;\n", b"a: |{}\n=a"),
     (b"a: #b\n\t1\\\n\t2\n", b"a: |{1\\\n2}\n=a"),
+    (
+        b"a:\n\t$(if x,p \\\n\tq \\\n \\\n r) \\\n\t2\n",
+        b"a: |{$(if x,p q r) \\\n2}\n=a",
+    ),
+    (b"%.o: %.o: b\na:\n", b"%.o: b|\na: |\n=a"),
     (
         b".PHONY: a\n.SUFFIXES:\n.NOTPARALLEL: a\n",
         b".PHONY: a|\n.SUFFIXES: |\n.NOTPARALLEL: a|\n=",

@@ -1,6 +1,6 @@
 //! Scripts, and what they write by the pages of POSIX.
 
-pub static SCRIPTS: [(&str, &str); 79] = [
+pub static SCRIPTS: [(&str, &str); 81] = [
     ("cat b", "-;"),
     ("", "-;"),
     // cp
@@ -18,6 +18,8 @@ pub static SCRIPTS: [(&str, &str); 79] = [
     ("cp b b", "12emake: cp: b: same file\n;"),
     ("cp -r d d", "12emake: cp: d: same file\n;"),
     ("cp -r / e", "12emake: cp: /: same file\n;"),
+    ("cp -r d/./ e;ls -a e", "0;01.h\nx\n;"),
+    ("cp -r . e", "12emake: cp: .: same file\n;"),
     ("cp  e", "12emake: cp: : bad path\n;"),
     ("cp b q/a", "12emake: cp: q/a: no parent\n;"),
     ("cp d/x b/a", "12emake: cp: b/a: not a directory\n;"),

@@ -9,12 +9,13 @@ use Rattle.em_syntax.specs.declared.tree.Loop.{out-Loop}
 use Rattle.em_syntax.specs.declared.tree.For.{out-For}
 use Rattle.em_word.specs.declared.turn.Mode.TheVariants as mode
 use Rattle.em_word.specs.Turns.{turn}
-use Rattle.em_word.specs.Held.{plan_of, mode_of, word_of}
+use Rattle.em_word.specs.Held.{plan_of, mode_of}
 use Rattle.em_command.specs.declared.here.Here.{Here}
 use Rattle.em_command.specs.Heres.{branch}
 use Rattle.em_exec.specs.Copies.{apart, unwritten, put_back, subshell, heard, substituted, collected}
 use Rattle.em_syntax.specs.declared.tree.Compound.{out-Compound}
-use Rattle.em_exec.specs.Words.{expanded, whole, pattern, first_in}
+use Rattle.em_exec.specs.Words.{expanded, added, whole, pattern, first_in}
+use Rattle.em_exec.proofs.Literal.{literal_s}
 use Rattle.em_exec.specs.Running.{if_goes, if_zero, if_goes_on, goes_with, goes_on, branches, pipeline_of, and_or_of, joined_one, command_of, simple_of, act, assignment, redirect_one, compound_of, routed, body_of, if_of, one_turn, body_turn, for_of, round, case_of, script_at}
 use Rattle.em_exec.proofs.Looking.{looked_s, kept_by, caught_s, worded_ok, worded_err}
 use Rattle.em_exec.proofs.Holding.{by_turns}
@@ -452,27 +453,42 @@ pub whole-returns : goal.whole-returns
 unfolding whole
 whole-returns g t c = then_s _ c.in_ok-expansion.ensures (rw (sym (c.first_in.ensures ∙ ap first_in c.fields_in.ensures)) finish_s)
 
-pub fields_of-returns-in_err-expansion : goal.fields_of-returns-in_err-expansion
-fields_of-returns-in_err-expansion g t c = let at_item = left_at c.args.words.now c.loop-word.word-index c.word-item.result c.loop-word-test.true c.word-item.is in
-    stop_s _ (rw at_item at c.loop-word.invariant) c.from_residual.ensures.1 c.in_err-expansion.ensures
+pub added-returns-in_err-with_text-in-Some : goal.added-returns-in_err-with_text-in-Some
+added-returns-in_err-with_text-in-Some g t c = out_s _ refl c.from_residual.ensures.1
+
+pub added-returns-in_ok-with_text-in-Some : goal.added-returns-in_ok-with_text-in-Some
+unfolding added
+added-returns-in_ok-with_text-in-Some g t c = rw c.in_ok-with_text-in-Some.ensures (then_s _ (literal_s (script_at c.args.left) c.args.scene.now c.args.word.now c.in-Some.text.now (sym c.in-Some.ensures)) finish_s)
+
+pub added-returns-in_err-expansion-in-None : goal.added-returns-in_err-expansion-in-None
+unfolding added
+added-returns-in_err-expansion-in-None g t c = leave_s _ c.from_residual-in_err-expansion-in-None.ensures.1 c.in_err-expansion-in-None.ensures
+
+pub added-returns-in_err-appended-in-None : goal.added-returns-in_err-appended-in-None
+unfolding added
+added-returns-in_err-appended-in-None g t c = then_s _ c.in_ok-expansion-in-None.ensures (out_s _ refl c.from_residual-in_err-appended-in-None.ensures.1)
+
+pub added-returns-in_ok-appended-in-None : goal.added-returns-in_ok-appended-in-None
+unfolding added
+added-returns-in_ok-appended-in-None g t c = then_s _ c.in_ok-expansion-in-None.ensures (rw (c.in_ok-appended-in-None.ensures, c.fields_in.ensures) finish_s)
 
 pub fields_of-returns-in_err-all : goal.fields_of-returns-in_err-all
 fields_of-returns-in_err-all g t c = let at_item = left_at c.args.words.now c.loop-word.word-index c.word-item.result c.loop-word-test.true c.word-item.is in
-    end_s (rw at_item at c.loop-word.invariant) (then_s _ c.in_ok-expansion.ensures (out_s _ refl c.from_residual-in_err-all.ensures.1))
+    stop_s _ (rw at_item at c.loop-word.invariant) c.from_residual.ensures.1 c.in_err-all.ensures
 
 pub fields_of-loop-word-preserved : goal.fields_of-loop-word-preserved
 fields_of-loop-word-preserved g t c = let at_item = left_at c.args.words.now c.loop-word.word-index c.word-item.result c.loop-word-test.true c.word-item.is in
-    rw (c.in_ok-all.ensures, c.fields_in.ensures) (more_s _ (rw at_item at c.loop-word.invariant) c.in_ok-expansion.ensures)
+    more_s _ (rw at_item at c.loop-word.invariant) c.in_ok-all.ensures
 
 pub fields_of-returns : goal.fields_of-returns
 fields_of-returns g t c = let at_end = none_at c.args.words.now c.loop-word.word-index c.loop-word-test.false in
     end_s (rw at_end at c.loop-word.invariant) finish_s
 
-pub output_at-returns-in-Some : goal.output_at-returns-in-Some
-output_at-returns-in-Some g t c = rw c.in-Some.ensures.found c.output_of.ensures
+pub output_if-returns-in-Some : goal.output_if-returns-in-Some
+output_if-returns-in-Some g t c = rw c.in-Some.is c.output_of.ensures
 
-pub output_at-returns-in-None : goal.output_at-returns-in-None
-output_at-returns-in-None g t c = out_s _ refl refl
+pub output_if-returns-in-None : goal.output_if-returns-in-None
+output_if-returns-in-None g t c = out_s _ refl refl
 
 pub script_in-returns-then-left-eq0 : goal.script_in-returns-then-left-eq0
 script_in-returns-then-left-eq0 g t c = rw c.if-left-eq0.true (refused_s _ (λ n. refl))
@@ -535,7 +551,7 @@ pub expanded-returns-in_err-expander : goal.expanded-returns-in_err-expander
 expanded-returns-in_err-expander g t c = out_s _ refl c.from_residual.ensures.1
 
 pub expanded-loop-init : goal.expanded-loop-init
-expanded-loop-init g t c = (λ new u r p. p, c.in_ok-expander.ensures.ready, c.in_ok-expander.ensures.what.0)
+expanded-loop-init g t c = (λ new u r p. p, c.in_ok-expander.ensures.ready)
 
 pub expanded-returns-in_err-expansion : goal.expanded-returns-in_err-expansion
 unfolding expanded
@@ -548,7 +564,7 @@ expanded-returns-in-Some g t c = rw (sym c.in_ok-expander.ensures.plan, sym c.in
 pub expanded-loop-preserved : goal.expanded-loop-preserved
 expanded-loop-preserved g t c =
     let went = rw c.in-None.is at c.in_ok-expansion.ensures in
-    (λ new u r p. c.loop.invariant.0 _ _ _ (went.goes _ _ _ p), went.ready, went.same.0 ∙ c.loop.invariant.2)
+    (λ new u r p. c.loop.invariant.0 _ _ _ (went.goes _ _ _ p), went.ready)
 
 pub expanded-returns : goal.expanded-returns
 unfolding expanded
@@ -571,20 +587,16 @@ turn_of_word-returns-in_ok-assign-in-Ok-Set g t c = record {
 }
 
 pub turn_of_word-give-requires : goal.turn_of_word-give-requires
-turn_of_word-give-requires g t c = rw c.in-Ok-Output.field-0-is at c.in-Ok-Output.ensures.stands
+turn_of_word-give-requires g t c = (rw c.in-Ok-Output.field-0-is at c.in-Ok-Output.ensures.stands).waits
 
 pub turn_of_word-returns-in_err-text-in-Ok-Output : goal.turn_of_word-returns-in_err-text-in-Ok-Output
-unfolding word_of
 turn_of_word-returns-in_err-text-in-Ok-Output g t c =
-    let word = sym (c.in-Ok-Output.ensures.same.0 ∙ c.requires.word) in
-    turned_err _ _ _ _ _ c.from_residual-in_err-text-in-Ok-Output.ensures.1 (rw (by_turns (script_at c.args.left) c.args.scene.now (mode_of c.args.expander.now) (plan_of c.args.expander.now)) (then_s _ (worded_ok (λ (h : Here). turn (mode_of c.args.expander.now) (plan_of c.args.expander.now) h.shell) (rw c.in-Ok-Output.field-0-is at c.in-Ok-Output.ensures.turn)) (exit_s _ (rw word at c.in_err-text-in-Ok-Output.ensures))))
+    turned_err _ _ _ _ _ c.from_residual-in_err-text-in-Ok-Output.ensures.1 (rw (by_turns (script_at c.args.left) c.args.scene.now (mode_of c.args.expander.now) (plan_of c.args.expander.now)) (then_s _ (worded_ok (λ (h : Here). turn (mode_of c.args.expander.now) (plan_of c.args.expander.now) h.shell) (rw c.in-Ok-Output.field-0-is at c.in-Ok-Output.ensures.turn)) (exit_s _ (rw c.script.ensures at c.in_err-text-in-Ok-Output.ensures))))
 
 pub turn_of_word-returns-in_ok-text-in-Ok-Output : goal.turn_of_word-returns-in_ok-text-in-Ok-Output
-unfolding word_of
 turn_of_word-returns-in_ok-text-in-Ok-Output g t c =
-    let word = sym (c.in-Ok-Output.ensures.same.0 ∙ c.requires.word) in
     record {
-      goes = λ end u r p. rw (by_turns (script_at c.args.left) c.args.scene.now (mode_of c.args.expander.now) (plan_of c.args.expander.now)) (then_s _ (worded_ok (λ (h : Here). turn (mode_of c.args.expander.now) (plan_of c.args.expander.now) h.shell) (rw c.in-Ok-Output.field-0-is at c.in-Ok-Output.ensures.turn)) (then_s _ (rw word at c.in_ok-text-in-Ok-Output.ensures) (rw (c.give.ensures.plan, c.give.ensures.same.1 ∙ c.in-Ok-Output.ensures.same.1) at p)));
+      goes = λ end u r p. rw (by_turns (script_at c.args.left) c.args.scene.now (mode_of c.args.expander.now) (plan_of c.args.expander.now)) (then_s _ (worded_ok (λ (h : Here). turn (mode_of c.args.expander.now) (plan_of c.args.expander.now) h.shell) (rw c.in-Ok-Output.field-0-is at c.in-Ok-Output.ensures.turn)) (then_s _ (rw c.script.ensures at c.in_ok-text-in-Ok-Output.ensures) (rw (c.give.ensures.plan, c.give.ensures.same.1 ∙ c.in-Ok-Output.ensures.same.1) at p)));
       ready = c.give.ensures.ready;
       same = (c.give.ensures.same.0 ∙ c.in-Ok-Output.ensures.same.0, c.give.ensures.same.1 ∙ c.in-Ok-Output.ensures.same.1);
     }

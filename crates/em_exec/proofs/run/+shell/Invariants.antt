@@ -2,7 +2,7 @@ use Rattle.std.proofs.Common.{◌≡◌, ◌+◌, ◌*◌, ◌<◌, ◌++◌, �
 use Rattle.em_view.proofs.Doing.{Goes}
 use Rattle.em_syntax.specs.declared.tree.Loop.{out-Loop}
 use Rattle.em_syntax.specs.declared.tree.For.{out-For}
-use Rattle.em_word.specs.Held.{IsReady, word_of}
+use Rattle.em_word.specs.Held.{IsReady}
 use Rattle.em_exec.specs.Leads.{rest_of}
 use Rattle.em_command.specs.Jumps.{is_free}
 use Rattle.em_command.specs.Streams.{around}
@@ -28,8 +28,8 @@ decreases-subshell_in g l = 40 * l.left + 1
 abbrev pub decreases-output_of : goal.decreases-output_of
 decreases-output_of g l = 40 * l.left + 1
 
-abbrev pub decreases-output_at : goal.decreases-output_at
-decreases-output_at g l = 40 * l.left + 2
+abbrev pub decreases-output_if : goal.decreases-output_if
+decreases-output_if g l = 40 * l.left + 2
 
 abbrev pub decreases-turn_of_word : goal.decreases-turn_of_word
 decreases-turn_of_word g l = 40 * l.left + 3
@@ -41,7 +41,10 @@ abbrev pub decreases-whole : goal.decreases-whole
 decreases-whole g l = 40 * l.left + 5
 
 abbrev pub decreases-fields_of : goal.decreases-fields_of
-decreases-fields_of g l = 40 * l.left + 5
+decreases-fields_of g l = 40 * l.left + 6
+
+abbrev pub decreases-added : goal.decreases-added
+decreases-added g l = 40 * l.left + 5
 
 abbrev pub decreases-pattern_of : goal.decreases-pattern_of
 decreases-pattern_of g l = 40 * l.left + 5
@@ -86,7 +89,7 @@ abbrev pub decreases-rounds_in : goal.decreases-rounds_in
 decreases-rounds_in g l = 40 * l.left + 2
 
 abbrev pub decreases-for_in : goal.decreases-for_in
-decreases-for_in g l = 40 * l.left + 6
+decreases-for_in g l = 40 * l.left + 7
 
 abbrev pub decreases-items_in : goal.decreases-items_in
 decreases-items_in g l = 40 * l.left + 7
@@ -175,7 +178,7 @@ invariant-fields_of-loop-word g l = Goes is_free g.V.View.tells l.initial.desk l
 
 abbrev pub invariant-expanded-loop : goal.invariant-expanded-loop
 invariant-expanded-loop g l = Goes is_free g.V.View.tells l.initial.desk l.desk l.initial.here l.here (rest_of (script_at l.left) l.scene l.initial.expander) (rest_of (script_at l.left) l.scene l.expander)
-    × IsReady l.expander × (word_of l.expander ≡ l.word)
+    × IsReady l.expander
 
 abbrev pub decreases-loop_in-loop-scene : goal.decreases-loop_in-loop-scene
 decreases-loop_in-loop-scene g l = l.desk.work.fuel

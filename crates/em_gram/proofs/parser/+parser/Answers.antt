@@ -18,13 +18,13 @@ use Rattle.em_gram.proofs.Spellings.{script_made, and_or_made, joined_made, pipe
 use Rattle.em_gram.proofs.parser.+parser.Goals as goal
 
 pub word_rest-loop-alloc-init : goal.word_rest-loop-alloc-init
-word_rest-loop-alloc-init t c = record { within = omega arith; turns = rw (c.new-nest.ensures.parts, c.new-nest.ensures.depth) (begun shell c.args.left _ _) }
+word_rest-loop-alloc-init t c = record { within = omega arith; counted = c.new-nest.ensures.counted; turns = rw (c.new-nest.ensures.parts, c.new-nest.ensures.depth) (begun shell c.args.left _ _) }
 
 pub word_rest-returns-in_err-behind-clause-reads : goal.word_rest-returns-in_err-behind-clause-reads
 word_rest-returns-in_err-behind-clause-reads t c = off c.args.left _ _ _ _ _ c.from_residual.ensures (turn_off shell (c.loop-alloc.invariant.turns) _ (c.in_err-behind.ensures.err (key WordEnd)))
 
 pub word_rest-loop-alloc-preserved : goal.word_rest-loop-alloc-preserved
-word_rest-loop-alloc-preserved t c = record { within = omega (arith, c.loop-alloc.invariant.within, c.in_ok-behind.ensures.shorter); turns = moved c.loop-alloc.invariant.turns (c.in_ok-behind.ensures.moves (key WordEnd)) _ (c.in_ok-behind.ensures.spells _ c.loop-alloc.invariant.turns.spells) }
+word_rest-loop-alloc-preserved t c = record { counted = c.in_ok-behind.ensures.counted; within = omega (arith, c.loop-alloc.invariant.within, c.in_ok-behind.ensures.shorter); turns = moved c.loop-alloc.invariant.turns (c.in_ok-behind.ensures.moves (key WordEnd)) _ (c.in_ok-behind.ensures.spells _ c.loop-alloc.invariant.turns.spells) }
 
 pub word_rest-returns-then-is_open-clause-reads : goal.word_rest-returns-then-is_open-clause-reads
 word_rest-returns-then-is_open-clause-reads t c = turn_off shell c.loop-alloc.invariant.turns (Some (0, whats c.loop-alloc.rest.now)) (still_open c.args.left _ (key WordEnd) _ (sym c.is_open-2.ensures ∙ c.if-is_open.true) (go_at (whats c.loop-alloc.rest.now) false _ true (c.is_open.ensures ∙ sym c.is_open-2.ensures ∙ c.if-is_open.true) (sym c.goes_on.ensures ∙ c.loop-alloc-test.false)))
@@ -33,22 +33,22 @@ pub word_rest-returns-in_err-last-clause-reads : goal.word_rest-returns-in_err-l
 word_rest-returns-in_err-last-clause-reads t c = off c.args.left _ _ _ _ _ c.from_residual-in_err-last.ensures (turn_off shell (no_more _ (sym c.is_open-2.ensures ∙ c.if-is_open.false) (go_at (whats c.loop-alloc.rest.now) false _ false (c.is_open.ensures ∙ sym c.is_open-2.ensures ∙ c.if-is_open.false) (sym c.goes_on.ensures ∙ c.loop-alloc-test.false)) c.loop-alloc.invariant.turns) _ (c.in_err-last.ensures.reads c.args.left))
 
 pub word_rest-word_step-requires : goal.word_rest-word_step-requires
-word_rest-word_step-requires t c = (omega (arith, c.decreases), go_at (whats c.loop-alloc.rest.now) true _ _ c.is_open.ensures (sym c.goes_on.ensures ∙ c.loop-alloc-test.true))
+word_rest-word_step-requires t c = (omega (arith, c.decreases), (go_at (whats c.loop-alloc.rest.now) true _ _ c.is_open.ensures (sym c.goes_on.ensures ∙ c.loop-alloc-test.true), c.loop-alloc.invariant.counted))
 
 pub word_rest-into_pieces-pieces-requires : goal.word_rest-into_pieces-pieces-requires
-word_rest-into_pieces-pieces-requires t c = none_open _ (sym c.is_open-2.ensures ∙ c.if-is_open.false)
+word_rest-into_pieces-pieces-requires t c = record { none = none_open _ (sym c.is_open-2.ensures ∙ c.if-is_open.false); counted = c.loop-alloc.invariant.counted }
 
 pub word_rest-returns-clause-reads : goal.word_rest-returns-clause-reads
-word_rest-returns-clause-reads t c = rw (word_pattern c.into_pieces-pieces.result, c.into_pieces-pieces.ensures) (turn_on shell (no_more _ (sym c.is_open-2.ensures ∙ c.if-is_open.false) (go_at (whats c.loop-alloc.rest.now) false _ false (c.is_open.ensures ∙ sym c.is_open-2.ensures ∙ c.if-is_open.false) (sym c.goes_on.ensures ∙ c.loop-alloc-test.false)) c.loop-alloc.invariant.turns) (c.in_ok-last.ensures.reads c.args.left))
+word_rest-returns-clause-reads t c = rw (word_pattern c.into_pieces-pieces.result c.into_pieces-pieces.ensures.closed, c.into_pieces-pieces.ensures.parts) (turn_on shell (no_more _ (sym c.is_open-2.ensures ∙ c.if-is_open.false) (go_at (whats c.loop-alloc.rest.now) false _ false (c.is_open.ensures ∙ sym c.is_open-2.ensures ∙ c.if-is_open.false) (sym c.goes_on.ensures ∙ c.loop-alloc-test.false)) c.loop-alloc.invariant.turns) (c.in_ok-last.ensures.reads c.args.left))
 
-pub word_step-returns-in_err-head-clause-err : goal.word_step-returns-in_err-head-clause-err
-word_step-returns-in_err-head-clause-err t c = exit_step c.args.left _ _ _ _ c.from_residual.ensures (λ g. rw (c.in_err-head.ensures.free (sym c.opens.ensures ∙ c.if-opens.true)) tt)
+pub word_step-returns-in_err-begin-clause-err : goal.word_step-returns-in_err-begin-clause-err
+word_step-returns-in_err-begin-clause-err t c = exit_step c.args.left _ _ _ _ c.from_residual.ensures (λ g. rw (c.in_err-begin.ensures.free (sym c.opens.ensures ∙ c.if-opens.true)) tt)
 
 pub word_step-returns-then-opens-clause-moves : goal.word_step-returns-then-opens-clause-moves
-word_step-returns-then-opens-clause-moves t c = λ g. open_moves c.args.left _ _ g _ _ _ c.in_ok-enter.ensures.depth (c.in_ok-head.ensures.reads c.args.left).spells
+word_step-returns-then-opens-clause-moves t c = λ g. open_moves c.args.left _ _ g _ _ c.in_ok-enter.ensures.depth c.in_ok-begin.ensures.lexeme
 
 pub word_step-returns-then-opens-clause-spells : goal.word_step-returns-then-opens-clause-spells
-word_step-returns-then-opens-clause-spells t c = λ start h. part_spelled _ _ _ start _ _ c.in_ok-enter.ensures.parts (c.in_ok-head.ensures.reads c.args.left).spells h
+word_step-returns-then-opens-clause-spells t c = λ start h. part_spelled _ _ _ start _ _ c.in_ok-enter.ensures.parts (c.in_ok-begin.ensures.reads c.args.left).spells h
 
 pub word_step-returns-in_err-rest-clause-err : goal.word_step-returns-in_err-rest-clause-err
 word_step-returns-in_err-rest-clause-err t c = exit_step c.args.left _ _ _ _ c.from_residual-in_err-rest.ensures (λ g. absurd (not_wrong c.in_err-rest.ensures.wrong (sym c.opens-2.ensures ∙ c.if-opens-2.true)))
@@ -57,16 +57,16 @@ pub word_step-returns-then-opens-2-clause-moves : goal.word_step-returns-then-op
 word_step-returns-then-opens-2-clause-moves t c = λ g. close_moves c.args.left _ _ g _ _ c.in_ok-leave.ensures.depth (c.in_ok-rest.ensures.reads c.args.left).spells
 
 pub word_step-returns-then-opens-2-clause-spells : goal.word_step-returns-then-opens-2-clause-spells
-word_step-returns-then-opens-2-clause-spells t c = λ start h. c.in_ok-leave.ensures.spells start _ _ h (c.in_ok-rest.ensures.reads c.args.left).spells
+word_step-returns-then-opens-2-clause-spells t c = λ start h. part_spelled _ _ _ start _ _ c.in_ok-leave.ensures.parts (c.in_ok-rest.ensures.reads c.args.left).spells h
 
 pub word_step-leave-requires : goal.word_step-leave-requires
-word_step-leave-requires t c = end_is_open (nest_depth c.args.nest.now) (whats c.args.tokens.now) c.requires (sym c.opens-2.ensures ∙ c.if-opens-2.true)
+word_step-leave-requires t c = record { counted = c.requires.counted; some = end_is_open (nest_depth c.args.nest.now) (whats c.args.tokens.now) c.requires.goes_on (sym c.opens-2.ensures ∙ c.if-opens-2.true) }
 
 pub word_step-returns-in_err-next-clause-err : goal.word_step-returns-in_err-next-clause-err
-word_step-returns-in_err-next-clause-err t c = exit_step c.args.left _ _ _ _ c.from_residual-in_err-next.ensures (λ g. piece_exit c.args.left _ g _ (piece_next (nest_depth c.args.nest.now) (whats c.args.tokens.now) c.requires (sym c.opens.ensures ∙ c.if-opens.false) (sym c.opens-2.ensures ∙ c.if-opens-2.false)) _ c.in_err-next.ensures.reads)
+word_step-returns-in_err-next-clause-err t c = exit_step c.args.left _ _ _ _ c.from_residual-in_err-next.ensures (λ g. piece_exit c.args.left _ g _ (piece_next (nest_depth c.args.nest.now) (whats c.args.tokens.now) c.requires.goes_on (sym c.opens.ensures ∙ c.if-opens.false) (sym c.opens-2.ensures ∙ c.if-opens-2.false)) _ c.in_err-next.ensures.reads)
 
 pub word_step-returns-clause-moves : goal.word_step-returns-clause-moves
-word_step-returns-clause-moves t c = λ g. piece_moves c.args.left _ _ g _ _ _ c.in_ok-add.ensures.depth (piece_next (nest_depth c.args.nest.now) (whats c.args.tokens.now) c.requires (sym c.opens.ensures ∙ c.if-opens.false) (sym c.opens-2.ensures ∙ c.if-opens-2.false)) c.in_ok-next.ensures.reads
+word_step-returns-clause-moves t c = λ g. piece_moves c.args.left _ _ g _ _ _ c.in_ok-add.ensures.depth (piece_next (nest_depth c.args.nest.now) (whats c.args.tokens.now) c.requires.goes_on (sym c.opens.ensures ∙ c.if-opens.false) (sym c.opens-2.ensures ∙ c.if-opens-2.false)) c.in_ok-next.ensures.reads
 
 pub word_step-returns-clause-spells : goal.word_step-returns-clause-spells
 word_step-returns-clause-spells t c = λ start h. part_spelled _ _ _ start _ _ c.in_ok-add.ensures.parts c.in_ok-next.ensures.reads.spells h
@@ -93,7 +93,7 @@ pub output-returns-in_err-rest-clause-reads : goal.output-returns-in_err-rest-cl
 output-returns-in_err-rest-clause-reads t c = off c.args.left _ _ _ _ _ c.from_residual-in_err-rest.ensures (turn_off shell (c.in_ok-quoted.ensures.turns _) _ (then_off shell _ (c.newlines-rest.ensures.reads c.args.left) _ (then_off shell _ (c.in_ok-script.ensures.reads) _ (c.in_err-rest.ensures.reads c.args.left))))
 
 pub output-returns-clause-reads : goal.output-returns-clause-reads
-output-returns-clause-reads t c = respelled (turn_on shell (c.in_ok-quoted.ensures.turns _) (then_on shell (c.newlines-rest.ensures.reads c.args.left) (then_on shell (c.in_ok-script.ensures.reads) (c.in_ok-rest.ensures.reads c.args.left)))) c.output_piece.ensures
+output-returns-clause-reads t c = respelled (turn_on shell (c.in_ok-quoted.ensures.turns _) (then_on shell (c.newlines-rest.ensures.reads c.args.left) (then_on shell (c.in_ok-script.ensures.reads) (c.in_ok-rest.ensures.reads c.args.left)))) c.output_piece.ensures.spells
 
 pub word-returns-in_err-rest-clause-reads : goal.word-returns-in_err-rest-clause-reads
 word-returns-in_err-rest-clause-reads t c = off c.args.left _ _ _ _ _ c.from_residual.ensures (then_exit shell c.args.left _ _ _ _ (c.in_err-rest.ensures.reads c.args.left))

@@ -6,7 +6,7 @@ use Rattle.em_token.specs.Kinds.{whats}
 use Rattle.em_token.specs.Shell as Grammar
 use Rattle.em_token.specs.Shell.{shell, Expr, key}
 use Rattle.em_gram.specs.Patterns as Tree
-use Rattle.em_gram.specs.Nesting.{nest_parts, nest_depth}
+use Rattle.em_gram.specs.Nesting.{nest_parts, nest_depth, IsCounted}
 use Rattle.em_gram.specs.Simple.{so_far}
 use Rattle.em_token.specs.declared.kind.Kind.TheVariants.{Pipe, WordEnd, Elif}
 use Rattle.em_gram.proofs.parser.+parser.Given as goal
@@ -244,6 +244,7 @@ decreases-arguments-loop-alloc l = length l.rest
 
 abbrev pub invariant-word_rest-loop-alloc : goal.invariant-word_rest-loop-alloc
 invariant-word_rest-loop-alloc l = record {
+  counted : IsCounted l.nest;
   within : length l.rest ≤ length l.fn.tokens;
   turns : Turns shell l.fn.left Grammar.word_rest (whats l.fn.tokens) (all (nest_parts l.nest)) (Grammar.pieces (nest_depth l.nest) ⨾ key WordEnd) (whats l.rest);
 }

@@ -1,5 +1,8 @@
-use Rattle.em_gram.proofs.Nested.{flat_add}
+use Rattle.em_gram.proofs.Nested.{parts_add, stays_add}
 use Rattle.em_gram.proofs.nest.Nest.add.Goals as goal
 
 pub returns-clause-parts : goal.returns-clause-parts
-returns-clause-parts c = flat_add _ _ _ _ c.in_ok-push.ensures.items
+returns-clause-parts c = parts_add _ _ _ c.in_ok-push.ensures.items
+
+pub returns-clause-counted : goal.returns-clause-counted
+returns-clause-counted c = stays_add _ _ _ _ c.in_ok-push.ensures.items c.requires.counted c.requires.stays

@@ -1,6 +1,10 @@
-use Rattle.std.proofs.Common.{ap}
-use Rattle.em_gram.proofs.Nested.{flat_left}
+use Rattle.std.proofs.Common.{◌∙◌, ap, map, ◌++◌, ◌∷◌, [], arith}
+use Rattle.em_gram.specs.Nesting.{piece_pattern}
+use Rattle.em_gram.proofs.Nested.{parts_add, closes_add}
 use Rattle.em_gram.proofs.nest.Nest.leave.Goals as goal
 
-pub returns-in_ok-push-clause-spells : goal.returns-in_ok-push-clause-spells
-returns-in_ok-push-clause-spells c = λ start us rest h k. flat_left _ _ c.in-Some.open _ _ _ _ c.closed.result start us rest c.in-Some.ensures.items (ap (λ v. v.items) c.replace-pieces.ensures.value) (ap (λ v. v.items) c.replace-pieces.ensures.after) c.closed.ensures c.in_ok-push.ensures.items h k
+pub returns-clause-parts : goal.returns-clause-parts
+returns-clause-parts c = parts_add _ _ _ c.in_ok-push.ensures.items ∙ ap (λ p. map piece_pattern c.args.self.now.pieces.items ++ p ∷ []) c.end_piece.ensures.pattern
+
+pub returns-clause-counted : goal.returns-clause-counted
+returns-clause-counted c = closes_add _ _ _ _ _ c.in_ok-push.ensures.items c.requires.counted c.end_piece.ensures.nesting (omega (arith, c.requires.some))

@@ -6,7 +6,7 @@ use Rattle.em_word.proofs.expander.Expander.give.Goals as goal
 
 runs_on : (s : Stage) (output : List ℕ) → waits (given s output) ≡ false
 runs_on Ready output = refl
-runs_on (Waiting q) output = refl
+runs_on (Waiting q s) output = refl
 runs_on (Given q _) output = refl
 
 pub returns-clause-plan : goal.returns-clause-plan

@@ -1,6 +1,6 @@
-use Rattle.std.proofs.Common.{◌≡◌, ◌∙◌, ◌⊎◌, inl, inr, Bool, refl, sym, ap}
-use Rattle.em_word.specs.Held.{plan_of, word_of, mode_of, IsCounted, staged, outside}
-use Rattle.em_word.specs.Talk.{and_then}
+use Rattle.std.proofs.Common.{◌≡◌, ◌∙◌, ◌⊎◌, inl, inr, Bool, refl, sym, ap, Bor}
+use Rattle.em_syntax.specs.declared.tree.Script.{Script}
+use Rattle.em_word.specs.Held.{plan_of, word_of, mode_of, IsCounted, staged, arounds}
 use Rattle.em_word.specs.declared.expander.Expander.{Expander}
 use Rattle.em_word.specs.declared.expander.Stage.{Stage}
 use Rattle.em_word.specs.declared.expander.Stage.TheVariants.{Ready, Waiting}
@@ -21,10 +21,10 @@ unfolding word_of mode_of
 returns-in-Given-clause-same g c = c.use_output.ensures.same
 
 -- nothing was handed in
-idle : (e : Expander) (s : Stage) → e.stage ≡ s → (s ≡ Ready) ⊎ ((x : Bool) × (s ≡ Waiting x)) → plan_of e ≡ plan_of (record e { stage = Ready })
+idle : (e : Expander) (s : Stage) → e.stage ≡ s → (s ≡ Ready) ⊎ ((x : Bool) × (t : Bor Script) × (s ≡ Waiting x t)) → plan_of e ≡ plan_of (record e { stage = Ready })
 unfolding plan_of
-idle e s is (inl r) = ap (λ t. and_then (staged t e.parts e.rest.now) (outside e.outer)) (is ∙ r)
-idle e s is (inr w) = ap (λ t. and_then (staged t e.parts e.rest.now) (outside e.outer)) (is ∙ w.1)
+idle e s is (inl r) = ap (λ t. staged t (arounds e) e.parts e.rest.now) (is ∙ r)
+idle e s is (inr w) = ap (λ t. staged t (arounds e) e.parts e.rest.now) (is ∙ w.2)
 
 pub returns-in-Ready : goal.returns-in-Ready
 unfolding word_of mode_of IsCounted

@@ -1,0 +1,9 @@
+pub mod Lists
+pub mod Chained
+pub mod Started
+pub mod Lower
+pub mod Graham
+pub mod Walking
+pub mod Linking
+pub mod Filing
+pub mod Dispatching
