@@ -1,4 +1,5 @@
--- Lists: positions on a rest, rests and fronts, spans, lists of references, and what holds of each item.
+-- Lists: positions on a rest, rests and fronts, spans, lists of references, and what holds of each
+-- item.
 --     by_cases            the two cases of a test, each with its equation
 --     Runs, runs_to, runs_out      what a search in the rest of a text tells of the text
 --     prefix_until        how long a run is that ends at the next byte

@@ -4,7 +4,8 @@ ghost use Rattle.std.specs.Cmp.Lexicographic.{pointwise};
 ghost use Rattle.em_base.specs.Blanks.{is_blank, trimmed};
 ghost use Rattle.em_base.specs.Numbers.{number_of};
 
-/// A text has a number exactly where it is what is written of the number, and the number is at most the limit.
+/// A text has a number exactly where it is what is written of the number, and the number is at most
+/// the limit.
 pub fn law_number()
     ensures { (limit n : ℕ) (text : List ℕ) → limit < 2 ^ 64
         → (number_of limit text ≡ Some n) ↔ ((n ≤ limit) × (text ≡ decimal n)) }

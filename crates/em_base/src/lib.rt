@@ -1,4 +1,5 @@
-//! What every other crate speaks of: byte texts, sequences, stacks and tables, places in a file, fuel, and want of memory.
+//! What every other crate speaks of: byte texts, sequences, stacks and tables, places in a file,
+//! fuel, and want of memory.
 #![tactic(auto)]
 
 mod blanks;

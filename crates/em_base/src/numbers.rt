@@ -22,8 +22,9 @@ fn are_digits(text: &[u8]) -> bool
     text.iter().all(|b| b.is_ascii_digit())
 }
 
-/// The number that the text writes in canonical decimal: digits without a sign, the first a zero only in `0` itself.
-/// None where the text is nothing of that kind, or the number is above the limit.
+/// The number that the text writes in canonical decimal: digits without a sign, the first a zero
+/// only in `0` itself. None where the text is nothing of that kind, or the number is above the
+/// limit.
 pub fn number(limit: u64, text: &[u8]) -> Option<u64>
     ensures { result ≡ number_of limit text.now }
 {

@@ -6,7 +6,8 @@ use crate::memory::NoMemory;
 use crate::text::Text;
 use std::alloc::Global;
 
-/// A line of a file. Lines count from 1, and each line from number 4,294,967,295 on has that number.
+/// A line of a file. Lines count from 1, and each line from number 4,294,967,295 on has that
+/// number.
 #[derive(Debug, Drop, PartialEq, Eq)]
 pub struct Place {
     /// The file's name as it was found.

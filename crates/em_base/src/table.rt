@@ -8,8 +8,9 @@ use std::alloc::Global;
 use std::collections::HashMap;
 use std::marker::Model;
 
-/// Values by name, found by a hash of the name. Contracts see a finite map from texts. A search takes steps for each byte of
-/// the name, and as many more as names share its hash, which are few unless they were chosen for it.
+/// Values by name, found by a hash of the name. Contracts see a finite map from texts. A search
+/// takes steps for each byte of the name, and as many more as names share its hash, which are few
+/// unless they were chosen for it.
 #[derive(Drop)]
 pub struct Table<V> {
     held: HashMap<Vec<u8>, V>,
@@ -72,7 +73,8 @@ impl<V: Drop> Table<V> {
         Ok(())
     }
 
-    /// Takes the name out, and gives its value; `None` exactly where the name isn't there, and then nothing changes.
+    /// Takes the name out, and gives its value; `None` exactly where the name isn't there, and then
+    /// nothing changes.
     pub fn remove(&mut self, name: &[u8]) -> Option<V>
         ensures value { result ≡ table.get self.old name.now }
         ensures rest { self.new ≡ table.remove self.old name.now }

@@ -37,7 +37,8 @@ static WAYS: [Way; 14] = [
     (64, false),
 ];
 
-/// Ten jobs, each of which reads the file of the one before. The first reads a file that isn't there.
+/// Ten jobs, each of which reads the file of the one before. The first reads a file that isn't
+/// there.
 static TEN: [(&str, &str); 10] = [
     ("/z", "/a"),
     ("/a", "/b"),
@@ -87,7 +88,8 @@ fn jobs_of(alloc: Global, plan: Plan<'_>, is_declared: bool) -> Result<Jobs, Fai
     Ok(Jobs { links, waits })
 }
 
-/// Builds the jobs over a root alone. What can't be built, as no plan here, is told as want of memory.
+/// Builds the jobs over a root alone. What can't be built, as no plan here, is told as want of
+/// memory.
 fn build_jobs<R: Threads + Wait + Sync, W: Work<Link> + Sync, G: Gate + Sync, H: Host>(
     rt: &R,
     alloc: Global,

@@ -36,7 +36,8 @@ fn claim_twice<R: Wait>(rt: &R, shared: &Shared<Link>, stages: &Stages) -> (Clai
     (first, second)
 }
 
-/// Settles job 0 once the worker waits, and stops the board once it waits again. Whether all of that could be done.
+/// Settles job 0 once the worker waits, and stops the board once it waits again. Whether all of
+/// that could be done.
 fn settle_and_stop<R: Wait>(
     rt: &R,
     shared: &Shared<Link>,
@@ -52,7 +53,8 @@ fn settle_and_stop<R: Wait>(
     begun && settled && claimed
 }
 
-/// Whether a worker that waits for job 1 gets it once job 0 is settled, and waits again until the board is stopped.
+/// Whether a worker that waits for job 1 gets it once job 0 is settled, and waits again until the
+/// board is stopped.
 fn is_woken<R: Threads + Wait + Sync>(
     rt: &R,
     shared: &Shared<Link>,
@@ -117,7 +119,8 @@ fn leave_first<R: Wait>(
     begun && shared.publish(rt, run).is_ok()
 }
 
-/// What a committer takes of job 0 that waits for it while the run is published, or its job given up.
+/// What a committer takes of job 0 that waits for it while the run is published, or its job given
+/// up.
 fn take_left<R: Threads + Wait + Sync>(
     rt: &R,
     shared: &Shared<Link>,

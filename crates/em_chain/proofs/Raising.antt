@@ -120,7 +120,8 @@ last_lies m x (e ∷ c) l = last_lies m (cond (nat_lt e.0 m) (Some e) x) c (by_c
     by_case true k = ltb-true e.0 m k
     by_case false k = l
 
--- the last pair below the floor, and the chain's end, tell the last pair below each job from there on
+-- the last pair below the floor, and the chain's end, tell the last pair below each job from there
+-- on
 last_joined : (m n : ℕ) (c : Pairs) → m ≤ n → T (is_sorted nat_cmp c) → last_below n (cons_option (last_below m c) (from_job m c)) ≡ last_below n c
 last_joined m n c le s = last_head n (last_below m c) (from_job m c) (lower (last_below m c) m n le (last_lies m None c tt)) ∙ sym (last_split m n None c le s)
 

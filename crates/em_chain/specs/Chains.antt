@@ -1,4 +1,5 @@
--- What jobs make of one path: a chain of pairs, each of a job and what the path becomes, in rising order of job.
+-- What jobs make of one path: a chain of pairs, each of a job and what the path becomes, in rising
+-- order of job.
 --     chain_of ps p         of each post that names p, in order, its job and what p becomes
 --     last_below j c        the last pair whose job is below j
 --     counted n             one step more

@@ -11,7 +11,8 @@ use std::collections::VecDeque;
 use std::marker::Model;
 use std::mem;
 
-/// How many jobs of chains were read. Contracts see the number. Only `Chain` adds to it; at 2^64 - 1 it stays.
+/// How many jobs of chains were read. Contracts see the number. Only `Chain` adds to it; at 2^64 -
+/// 1 it stays.
 #[derive(Drop)]
 pub struct Steps {
     count: u64,
@@ -56,8 +57,9 @@ struct Spot {
     before: Option<u32>,
 }
 
-/// The jobs whose posts name one path, in rising order, each with what the path becomes. Contracts see the list of the pairs.
-/// Pairs come at the back and go from the front, as jobs are posted and settled, so both ends are near.
+/// The jobs whose posts name one path, in rising order, each with what the path becomes. Contracts
+/// see the list of the pairs. Pairs come at the back and go from the front, as jobs are posted and
+/// settled, so both ends are near.
 #[derive(Drop)]
 pub struct Chain {
     held: VecDeque<(u32, Option<Node>)>,
@@ -145,7 +147,8 @@ impl Chain {
         }
     }
 
-    /// The last pair whose job is below the given one. Steps for the logarithm of how many pairs there are.
+    /// The last pair whose job is below the given one. Steps for the logarithm of how many pairs
+    /// there are.
     pub(crate) fn last(&self, job: u32, steps: &mut Steps) -> Option<(u32, &Option<Node>)>
         ensures last { option_map (λ e. (e.0, e.1.now)) result ≡ last_below job self.now }
         ensures on { steps.old ≤ steps.new }

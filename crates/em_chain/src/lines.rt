@@ -26,9 +26,10 @@ pub(crate) struct Line {
     chain: Chain,
 }
 
-/// The chains that aren't empty, by their paths, with an index from each directory to those right under it. Contracts see the
-/// finite map. Each call takes steps for the logarithms of how many paths there are and of how many pairs their chains have,
-/// and `make_place` and `erase` also for each pair on the nearer side of the job's.
+/// The chains that aren't empty, by their paths, with an index from each directory to those right
+/// under it. Contracts see the finite map. Each call takes steps for the logarithms of how many
+/// paths there are and of how many pairs their chains have, and `make_place` and `erase` also for
+/// each pair on the nearer side of the job's.
 #[derive(Drop)]
 pub(crate) struct Lines {
     alloc: Global,
@@ -210,7 +211,8 @@ impl Lines {
         }
     }
 
-    /// How many chains begin with a job below the floor; 2^64 - 1 where that is less. Steps for each chain.
+    /// How many chains begin with a job below the floor; 2^64 - 1 where that is less. Steps for
+    /// each chain.
     pub(crate) fn count_below(&self, floor: u32) -> u64
         ensures { result ≡ min (map.len (merged_in floor self.now)) (2 ^ 64 - 1) }
     {

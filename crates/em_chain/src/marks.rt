@@ -1,4 +1,5 @@
-//! Marking in the chains what a post changes: all that takes memory comes first, and is undone where it fails.
+//! Marking in the chains what a post changes: all that takes memory comes first, and is undone
+//! where it fails.
 ghost use Rattle.std.specs.Prelude.{◌≡◌, ◌&&◌, ℕ, List, IsSome, IfOk, OnOk, OnErr, is_some, option_copied, not, true, false, if◌then◌else◌, option_map, T, min, ◌-◌, ◌^◌};
 ghost use Rattle.std.specs.Ordering.{nat_cmp, eq_by_cmp};
 ghost use Rattle.std.specs.Cmp.Lexicographic.{slice_cmp};
@@ -59,7 +60,8 @@ fn make_room(lines: &mut Lines, changes: &[Change], job: u32) -> Result<(), NoMe
     Ok(())
 }
 
-/// Sees that the job, which has posted what is given, has a pair in the chain of each path of its next delta.
+/// Sees that the job, which has posted what is given, has a pair in the chain of each path of its
+/// next delta.
 pub(crate) fn stage(
     lines: &mut Lines,
     changes: &[Change],
@@ -100,7 +102,8 @@ fn write_all(lines: &mut Lines, changes: Vec<Change>, job: u32)
     }
 }
 
-/// Takes the job out of the chains of the paths that a delta names, but for those that another one does.
+/// Takes the job out of the chains of the paths that a delta names, but for those that another one
+/// does.
 pub(crate) fn drop_stale(lines: &mut Lines, d: &Delta, keep: Option<&Delta>, job: u32)
     ensures { (q : List ℕ) → chain_at lines.new q
         ≡ dropped job (option_copied keep.entry) q (map.entries d.now) (chain_at lines.old q) }
@@ -130,7 +133,8 @@ fn is_kept(keep: Option<&Delta>, p: &Path) -> bool
     }
 }
 
-/// What a job has posted before is taken out where its next delta doesn't name it, once that one is written.
+/// What a job has posted before is taken out where its next delta doesn't name it, once that one is
+/// written.
 pub(crate) fn commit(
     lines: &mut Lines,
     changes: Vec<Change>,
@@ -149,7 +153,8 @@ pub(crate) fn commit(
     drop(old);
 }
 
-/// Takes what the job has posted before out of the chains, but for the paths that another delta names.
+/// Takes what the job has posted before out of the chains, but for the paths that another delta
+/// names.
 pub(crate) fn drop_old(lines: &mut Lines, old: &Option<Post>, keep: Option<&Delta>, job: u32)
     ensures { (q : List ℕ) → chain_at lines.new q
         ≡ dropped_by job (option_copied keep.entry) q old.now (chain_at lines.old q) }
@@ -171,7 +176,8 @@ pub(crate) fn delta_of(posts: &BTreeMap<u32, Post>, job: u32) -> Option<&Delta>
     }
 }
 
-/// The chains of the paths that a delta names begin with the job, which has a pair there, or behind it.
+/// The chains of the paths that a delta names begin with the job, which has a pair there, or behind
+/// it.
 pub(crate) fn cut_all(lines: &mut Lines, d: &Delta, job: u32)
     requires { (q : List ℕ) → names (map.entries d.now) q ≡ true
         → IsSome (find nat_cmp job (chain_at lines.old q)) }
@@ -200,7 +206,8 @@ pub(crate) fn take_delta(posts: &mut BTreeMap<u32, Post>, alloc: Global, job: u3
     }
 }
 
-/// How many changes the jobs from the floor on have posted; 2^64 - 1 where that is less. Steps for each post.
+/// How many changes the jobs from the floor on have posted; 2^64 - 1 where that is less. Steps for
+/// each post.
 pub(crate) fn count_live(posts: &BTreeMap<u32, Post>, floor: u32) -> u64
     ensures { result ≡ min (sum_by (λ e. map.len e.1.delta)
         (filter (λ e. is_live floor e.0) posts.now.entries)) (2 ^ 64 - 1) }

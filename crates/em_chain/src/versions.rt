@@ -26,11 +26,13 @@ use std::collections::btree_set::Iter;
 use std::collections::{BTreeMap, BTreeSet};
 use std::marker::Model;
 
-/// A starting state, and what jobs have posted over it. A job is answered by the start with the posts of the jobs below it laid
-/// over it, in order of number; such a table need not be a tree. Beside the posts stands the chain of each path that they name.
+/// A starting state, and what jobs have posted over it. A job is answered by the start with the
+/// posts of the jobs below it laid over it, in order of number; such a table need not be a tree.
+/// Beside the posts stands the chain of each path that they name.
 ///
-/// No job below the floor asks: their posts are merged, and a path keeps the last job that posted it. Contracts see the start, the
-/// floor, what is merged, and the posts, of which those below the floor have an outcome alone.
+/// No job below the floor asks: their posts are merged, and a path keeps the last job that posted
+/// it. Contracts see the start, the floor, what is merged, and the posts, of which those below the
+/// floor have an outcome alone.
 #[derive(Drop)]
 pub struct Versions {
     alloc: Global,
@@ -87,8 +89,8 @@ impl Versions {
         self.floor
     }
 
-    /// How many pairs of a path and a job the chains have; 2^64 - 1 where that is less. Steps for each path and each post, so it is
-    /// for measures alone.
+    /// How many pairs of a path and a job the chains have; 2^64 - 1 where that is less. Steps for
+    /// each path and each post, so it is for measures alone.
     pub fn entries(&self) -> u64
         ensures { result ≡ min (entries_of self.now) (2 ^ 64 - 1) }
     {
@@ -96,9 +98,9 @@ impl Versions {
         merged.saturating_add(count_live(&self.posts, self.floor))
     }
 
-    /// Raises the floor, and takes no memory: of the jobs below it each path keeps the last one that posted it. Steps for each job
-    /// between the floors a search in the posts, and for each path that it posted one in the paths and in the path's chain, and the
-    /// pairs that go.
+    /// Raises the floor, and takes no memory: of the jobs below it each path keeps the last one
+    /// that posted it. Steps for each job between the floors a search in the posts, and for each
+    /// path that it posted one in the paths and in the path's chain, and the pairs that go.
     pub fn raise(&mut self, to: u32)
         requires { self.old.floor ≤ to }
         ensures { IsRaised self.old to self.new }
@@ -120,8 +122,9 @@ impl Versions {
         self.floor = job + 1;
     }
 
-    /// Posts what a job changes and how it ended, in place of what it had posted. Steps for the logarithm of how many jobs have
-    /// posted, and for each path that its deltas name a few searches, in the paths and in the path's chain, and the jobs above it there.
+    /// Posts what a job changes and how it ended, in place of what it had posted. Steps for the
+    /// logarithm of how many jobs have posted, and for each path that its deltas name a few
+    /// searches, in the paths and in the path's chain, and the jobs above it there.
     pub fn post(&mut self, job: u32, d: Delta, o: Outcome) -> Result<(), NoMemory>
         requires { self.old.floor ≤ job }
         ensures ok { OnOk result (self.new ≡ record self.old {
@@ -161,9 +164,9 @@ impl Versions {
         drop(old);
     }
 
-    /// The greatest job below the given one whose post named the path, of those that are merged the one that the path keeps; `None`
-    /// exactly where there is none. It reads at most about as many jobs as the logarithm of how many the path's chain has, each of
-    /// which is one of the steps.
+    /// The greatest job below the given one whose post named the path, of those that are merged the
+    /// one that the path keeps; `None` exactly where there is none. It reads at most about as many
+    /// jobs as the logarithm of how many the path's chain has, each of which is one of the steps.
     pub fn last(&self, job: u32, p: &Path, steps: &mut Steps) -> Option<u32>
         requires { self.now.floor ≤ job }
         ensures last { result ≡ last_over self.now job p.now }
@@ -297,7 +300,8 @@ impl Versions {
         Ok(())
     }
 
-    /// Puts in and takes out what the posts of the jobs below one do right under a path: a search for each name that they touch.
+    /// Puts in and takes out what the posts of the jobs below one do right under a path: a search
+    /// for each name that they touch.
     fn lay_all(&self, set: &mut BTreeSet<Text>, job: u32, p: &Path) -> Result<(), NoMemory>
         requires floor { self.now.floor ≤ job }
         requires listing { IsListing p.now self.now.start.tree set.old.keys }
@@ -325,8 +329,9 @@ impl Versions {
         Ok(Some(list_of(self.alloc, &set)?))
     }
 
-    /// What a job is answered: by the start with what the jobs below it have posted. An answer that holds no memory always comes.
-    /// Steps for a search in the paths and one in the path's chain, and for names these for each name that posts touch there.
+    /// What a job is answered: by the start with what the jobs below it have posted. An answer that
+    /// holds no memory always comes. Steps for a search in the paths and one in the path's chain,
+    /// and for names these for each name that posts touch there.
     #[tactic(auto, unfolding(crate::specs::Floors::looked_over))]
     pub fn look(&self, job: u32, q: &Question) -> Result<Answer, NoMemory>
         requires { self.now.floor ≤ job }

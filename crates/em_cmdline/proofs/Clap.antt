@@ -1,4 +1,5 @@
--- A command that is built from its options, one after another, and what clap says of it: for each simple command.
+-- A command that is built from its options, one after another, and what clap says of it: for each
+-- simple command.
 use Rattle.std.proofs.Common.{◌≡◌, ◌≢◌, ◌∙◌, ap, ap₂, subst, true, false, inl, inr, ℕ, List, [], Some, Result, Ok, Err}
 use Rattle.std.proofs.lemmas.Bool.{and_parts}
 use Rattle.std.specs.Borrow.{Bor}

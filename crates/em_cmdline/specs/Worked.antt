@@ -1,4 +1,5 @@
--- Worked command lines, each with what the definition is to say of it. Bars stand between the words.
+-- Worked command lines, each with what the definition is to say of it. Bars stand between the
+-- words.
 use Rattle.std.specs.Prelude.{ℕ, ◌==◌, true, false, List, [], ◌∷◌, codes, Option, Some, None, Result, Ok, Err}
 use Rattle.std.specs.List.{slice_split}
 use Rattle.clap.specs.Words.{Text}

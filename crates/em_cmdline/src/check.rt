@@ -17,7 +17,8 @@ pub(crate) fn positive(limit: u64, text: &str) -> Option<u64>
     number(limit, text.as_bytes()).filter(|n| *n > 0)
 }
 
-/// The name and the value of an assignment: what stands before its first `=`, and what stands after it.
+/// The name and the value of an assignment: what stands before its first `=`, and what stands after
+/// it.
 pub(crate) fn assignment(word: &str) -> Option<(&str, &str)>
     ensures { option_map (λ a. (a.0.now, a.1.now)) result ≡ spec.assignment word.now }
 {

@@ -59,16 +59,19 @@ pub struct Order {
 /// Why the words order nothing. The first that applies counts.
 #[derive(Debug, Drop, PartialEq, Eq, Error)]
 pub enum WordNo {
-    /// A word isn't UTF-8, is no option, lacks its value or stands twice, or `--mode` has another value.
+    /// A word isn't UTF-8, is no option, lacks its value or stands twice, or `--mode` has another
+    /// value.
     #[error("unknown word")]
     Unknown,
     /// There is neither `-I` nor `--gen`, or there are both.
     #[error("missing -I")]
     Missing,
-    /// A number isn't canonical decimal in its range: the first such value of `-j`, `--fuel`, `--gen`.
+    /// A number isn't canonical decimal in its range: the first such value of `-j`, `--fuel`,
+    /// `--gen`.
     #[error("bad number")]
     BadNumber(Text),
-    /// The first assignment whose name is empty or holds a space, a tab, `:`, `#` or `$`: the whole word.
+    /// The first assignment whose name is empty or holds a space, a tab, `:`, `#` or `$`: the whole
+    /// word.
     #[error("bad name")]
     BadName(Text),
     /// The host's file that two of `-I`, `--history` and `--report` name.

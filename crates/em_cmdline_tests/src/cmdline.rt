@@ -5,7 +5,8 @@ use std::alloc::Global;
 use std::process::Abort;
 use std::test::Fail;
 
-/// What is read of the words, in one line: the fields that aren't as without options, or the refusal.
+/// What is read of the words, in one line: the fields that aren't as without options, or the
+/// refusal.
 fn read(alloc: Global, words: &[Text]) -> Result<Text, Fail> {
     let given = read_words(alloc, words);
     let mut out = Text::new(alloc);

@@ -1,4 +1,5 @@
--- How what was done below is put together with what is done with its end, beside the lemmas of em_view and em_utility.
+-- How what was done below is put together with what is done with its end, beside the lemmas of
+-- em_view and em_utility.
 --     gave_any       a value or an error that was found without the desk
 --     looked_by      what is done for a word, and then by how that ended
 --     settled_by     a built-in, the fault of whose operand is written

@@ -1,6 +1,7 @@
 -- What a simple command does once its words and redirections are known.
 --     perform words streams input in_loop
--- The first word is its name. The blocks of what it wrote are taken before anything goes where it is written to.
+-- The first word is its name. The blocks of what it wrote are taken before anything goes where it
+-- is written to.
 use Rattle.std.specs.Prelude.{ℕ, ◌+◌, Bool, List, [], ◌∷◌, length, Result, Ok, Err}
 use Rattle.em_view.specs.declared.done.Piece.{Piece}
 use Rattle.em_view.specs.Actions.{spend}

@@ -11,7 +11,8 @@ use thiserror::Error;
 /// Why the commands that follow aren't run.
 #[derive(Debug, Drop, PartialEq, Eq, Error)]
 pub enum Jump {
-    /// `exit`, or `${name?word}` of a name that is unset: the shell ends. Its status is that with which it ends.
+    /// `exit`, or `${name?word}` of a name that is unset: the shell ends. Its status is that with
+    /// which it ends.
     #[error("the shell ends")]
     Exit,
     /// `break`: the innermost loop ends.

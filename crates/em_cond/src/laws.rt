@@ -11,8 +11,8 @@ pub fn law_first()
         → (branch_after (c ∷ cs) ≡ Taken) ↔ (position_or_len (λ b. b) (c ∷ cs) ≡ length cs) }
 {}
 
-/// How far a conditional is that was entered and has had further branches: a plain `else` counts as a condition that holds, and
-/// nothing follows it.
+/// How far a conditional is that was entered and has had further branches: a plain `else` counts as
+/// a condition that holds, and nothing follows it.
 pub fn law_branches()
     ensures branch { (holds : Bool) (cs : List (Option Bool)) (ks rest : List Conditional)
         (k : Conditional)

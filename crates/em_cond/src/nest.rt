@@ -27,8 +27,8 @@ pub struct Conditional {
     pub closed: bool,
 }
 
-/// The conditionals that are open. Contracts see their list, the innermost first. Each call takes one step, and `enter` one more for
-/// each open conditional where it needs memory.
+/// The conditionals that are open. Contracts see their list, the innermost first. Each call takes
+/// one step, and `enter` one more for each open conditional where it needs memory.
 #[derive(Debug, Drop)]
 pub struct Nest {
     open: Stack<Conditional>,
@@ -95,8 +95,8 @@ impl Nest {
         }
     }
 
-    /// Opens a conditional (`ifeq`, `ifneq`, `ifdef`, `ifndef`) whose condition holds or doesn't. The only error is `NoMemory`,
-    /// and then the nest is as before.
+    /// Opens a conditional (`ifeq`, `ifneq`, `ifdef`, `ifndef`) whose condition holds or doesn't.
+    /// The only error is `NoMemory`, and then the nest is as before.
     pub fn enter(&mut self, holds: bool) -> Result<(), CondNo>
         ensures ok { OnOk result (self.new ≡ entered holds ∷ self.old) }
         ensures err { OnErr result (self.new ≡ self.old) }
@@ -112,9 +112,10 @@ impl Nest {
         Ok(())
     }
 
-    /// Goes on to the next branch of the innermost conditional: that of an `else` with a condition that holds or doesn't, or,
-    /// for `None`, of a plain `else`. `Unbalanced` comes exactly where no conditional is open or a plain `else` came before;
-    /// the nest is then as before. Takes no memory.
+    /// Goes on to the next branch of the innermost conditional: that of an `else` with a condition
+    /// that holds or doesn't, or, for `None`, of a plain `else`. `Unbalanced` comes exactly where
+    /// no conditional is open or a plain `else` came before; the nest is then as before. Takes no
+    /// memory.
     pub fn other(&mut self, condition: Option<bool>) -> Result<(), CondNo>
         ensures { MatchResult result
             (λ _. after_other condition self.old ≡ Some self.new)
@@ -135,8 +136,8 @@ impl Nest {
         Ok(())
     }
 
-    /// Closes the innermost conditional (`endif`). `Unbalanced` comes exactly where none is open; the nest is then as before.
-    /// Takes no memory.
+    /// Closes the innermost conditional (`endif`). `Unbalanced` comes exactly where none is open;
+    /// the nest is then as before. Takes no memory.
     pub fn leave(&mut self) -> Result<(), CondNo>
         ensures { MatchResult result
             (λ _. after_leave self.old ≡ Some self.new)
@@ -149,8 +150,9 @@ impl Nest {
         Ok(())
     }
 
-    /// Whether a further branch of the innermost conditional, if its condition holds, would be read: no branch of it was read and no
-    /// plain `else` has come, and the conditionals round it are read. Elsewhere its condition can't matter. One step.
+    /// Whether a further branch of the innermost conditional, if its condition holds, would be
+    /// read: no branch of it was read and no plain `else` has come, and the conditionals round it
+    /// are read. Elsewhere its condition can't matter. One step.
     pub fn may_turn(&self) -> bool
         ensures { result ≡ may_turn self.now }
     {
@@ -160,8 +162,9 @@ impl Nest {
         }
     }
 
-    /// Whether lines are read: in each open conditional the present branch is the first whose condition holds, where a plain
-    /// `else` counts as one that holds. One step, however many are open.
+    /// Whether lines are read: in each open conditional the present branch is the first whose
+    /// condition holds, where a plain `else` counts as one that holds. One step, however many are
+    /// open.
     pub fn active(&self) -> bool
         ensures { result ≡ is_active self.now }
     {

@@ -1,4 +1,5 @@
--- Which job changed a path last, as a table keeps it: a path may have a place though no job has changed it.
+-- Which job changed a path last, as a table keeps it: a path may have a place though no job has
+-- changed it.
 use Rattle.std.specs.Prelude.{ℕ, List, Option, Some, None, Bool}
 use Rattle.std.specs.List.{list_any}
 use Rattle.std.specs.Ordering.{nat_cmp, eq_by_cmp}

@@ -18,10 +18,11 @@ use std::alloc::Global;
 use std::marker::Model;
 use std::mem;
 
-/// Jobs, what was posted of them, and the journal of all that happened. Its type keeps that the journal is
-/// legal, that what is posted and the phases are its replay, but for what was taken, and that there is room
-/// for the events of all later calls but asks. So claims, `give_up`, `take` and `stop` take no memory. What the
-/// settled jobs have posted is merged: no claimed job is one of them.
+/// Jobs, what was posted of them, and the journal of all that happened. Its type keeps that the
+/// journal is legal, that what is posted and the phases are its replay, but for what was taken, and
+/// that there is room for the events of all later calls but asks. So claims, `give_up`, `take` and
+/// `stop` take no memory. What the settled jobs have posted is merged: no claimed job is one of
+/// them.
 #[derive(Drop)]
 pub struct Board<S: Spec> {
     alloc: Global,
@@ -72,8 +73,8 @@ impl<S: Spec> Model for Board<S> {
 }
 
 impl<S: Spec> Board<S> {
-    /// A board of free jobs, one for each list of the jobs that it waits for. It takes the room of three
-    /// events for each job and of one stop. Steps for each job and each of its waits.
+    /// A board of free jobs, one for each list of the jobs that it waits for. It takes the room of
+    /// three events for each job and of one stop. Steps for each job and each of its waits.
     pub fn new(alloc: Global, start: State, waits: Seq<Seq<u32>>) -> Result<Board<S>, NoMemory>
         requires small { length waits < 2 ^ 32 }
         requires lower { (j : ℕ) → All (λ k. k < j) (slice_index_or waits j []) }
@@ -164,8 +165,8 @@ impl<S: Spec> Board<S> {
         }
     }
 
-    /// Claims the least free job all of whose waits have ended, unless the board is stopped. Steps for the
-    /// logarithm of how many jobs there are.
+    /// Claims the least free job all of whose waits have ended, unless the board is stopped. Steps
+    /// for the logarithm of how many jobs there are.
     pub fn claim(&mut self) -> Claim
         ensures { Claims self.old self.new result }
     {
@@ -179,8 +180,8 @@ impl<S: Spec> Board<S> {
         found
     }
 
-    /// Claims the next job to be settled for the committer, if it is free. Steps for the logarithm of how
-    /// many jobs there are.
+    /// Claims the next job to be settled for the committer, if it is free. Steps for the logarithm
+    /// of how many jobs there are.
     pub fn claim_front(&mut self, job: u32) -> bool
         requires job { job < length self.old.phases }
         requires next { job ≡ (told self.old).settled }
@@ -196,9 +197,9 @@ impl<S: Spec> Board<S> {
         true
     }
 
-    /// Answers a question of a job that a worker has, by the start with what the jobs below it have posted;
-    /// the journal and what the job asked have it then. Where memory runs out nothing changes. Steps as a
-    /// look at the versions takes.
+    /// Answers a question of a job that a worker has, by the start with what the jobs below it have
+    /// posted; the journal and what the job asked have it then. Where memory runs out nothing
+    /// changes. Steps as a look at the versions takes.
     pub fn ask(&mut self, job: u32, q: &Question) -> Result<Answer, NoMemory>
         requires { slice_get self.old.phases job ≡ Some phase.Claimed }
         ensures answer { IfOk result (λ a. a ≡ answer_now self.old job q.now) }
@@ -214,8 +215,8 @@ impl<S: Spec> Board<S> {
         Ok(answer)
     }
 
-    /// Publishes a run of a job that a worker has. Where memory runs out the run is given back and nothing
-    /// changes. Steps for each change of the run, and for each job that waits for this one.
+    /// Publishes a run of a job that a worker has. Where memory runs out the run is given back and
+    /// nothing changes. Steps for each change of the run, and for each job that waits for this one.
     pub fn publish(&mut self, run: Run<S>) -> Result<(), Run<S>>
         requires { slice_get self.old.phases (S.job_of run.spec) ≡ Some phase.Claimed }
         ensures ok { OnOk result (self.new ≡ moved self.old
@@ -252,8 +253,8 @@ impl<S: Spec> Board<S> {
         self.owed -= 1;
     }
 
-    /// Takes what a worker has left of the next job to be settled: its run with what it asked, or nothing
-    /// where it was given up.
+    /// Takes what a worker has left of the next job to be settled: its run with what it asked, or
+    /// nothing where it was given up.
     pub fn take(&mut self, job: u32) -> Taken<S>
         requires next { job ≡ (told self.old).settled }
         requires left { can_take (slice_get self.old.phases job) ≡ true }
@@ -268,9 +269,9 @@ impl<S: Spec> Board<S> {
         left_by(phase, asked)
     }
 
-    /// Settles the next job, which the committer has: what it changes and how it ended stand in place of what
-    /// was posted, and are merged with what the jobs before it have. Where memory runs out nothing changes.
-    /// Steps for each change, and for each job that waits for this one.
+    /// Settles the next job, which the committer has: what it changes and how it ended stand in
+    /// place of what was posted, and are merged with what the jobs before it have. Where memory
+    /// runs out nothing changes. Steps for each change, and for each job that waits for this one.
     pub fn settle(&mut self, job: u32, d: Delta, o: Outcome) -> Result<(), NoMemory>
         requires next { job ≡ (told self.old).settled }
         requires fronted { can_settle (slice_get self.old.phases job) ≡ true }

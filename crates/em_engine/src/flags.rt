@@ -6,11 +6,11 @@ use em_base::NoMemory;
 use std::alloc::Global;
 use std::marker::Model;
 
-/// Flags in a row, seen as a list. The first raised one is found, and a flag is put, in steps for the logarithm
-/// of how many there are, and both take no memory.
+/// Flags in a row, seen as a list. The first raised one is found, and a flag is put, in steps for
+/// the logarithm of how many there are, and both take no memory.
 ///
-/// `any` is a full binary tree in a row: node `k` tells whether a flag below it is raised, its halves are the
-/// nodes `2 * k` and `2 * k + 1`, and the flags are the nodes from `width` on.
+/// `any` is a full binary tree in a row: node `k` tells whether a flag below it is raised, its
+/// halves are the nodes `2 * k` and `2 * k + 1`, and the flags are the nodes from `width` on.
 #[derive(Drop)]
 pub struct Flags {
     levels: u32,

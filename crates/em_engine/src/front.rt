@@ -16,9 +16,9 @@ use std::alloc::Global;
 use std::marker::Model;
 use std::mem;
 
-/// The jobs in order, of which the first ones are committed. Its type keeps that they have run so in the serial
-/// run from the start, and that the front stands where they leave it: its state, whether the run has ended, and
-/// the fuel and the delta of each.
+/// The jobs in order, of which the first ones are committed. Its type keeps that they have run so
+/// in the serial run from the start, and that the front stands where they leave it: its state,
+/// whether the run has ended, and the fuel and the delta of each.
 #[derive(Drop)]
 pub struct Front<S: Spec> {
     alloc: Global,
@@ -144,8 +144,8 @@ impl<S: Spec> Front<S> {
         }
     }
 
-    /// What is to be found of a run that the board answered so. It takes no memory, and steps for each entry as
-    /// an answer of the state takes.
+    /// What is to be found of a run that the board answered so. It takes no memory, and steps for
+    /// each entry as an answer of the state takes.
     pub fn check(&self, run: &Run<S>, asked: &[Entry]) -> Verdict
         requires { IsSome (next_of self.now) }
         ensures { IfSome (next_of self.now)
@@ -173,8 +173,9 @@ impl<S: Spec> Front<S> {
         }
     }
 
-    /// Commits a run of the next job with whose usage the front's state agrees, and gives its output. Where
-    /// memory runs out the run is given back and nothing changes. A search for each path that the run changes.
+    /// Commits a run of the next job with whose usage the front's state agrees, and gives its
+    /// output. Where memory runs out the run is given back and nothing changes. A search for each
+    /// path that the run changes.
     pub fn commit(&mut self, run: Run<S>) -> Result<Text, Run<S>>
         requires next { IsSomeAnd (next_of self.old) (λ next. S.eq run.spec next ≡ true) }
         requires agrees { Agrees self.old.state run.usage }

@@ -1,5 +1,5 @@
-//! The board on which jobs are claimed, ask, and are settled, with its journal; and the front, which stands
-//! where the serial run stands.
+//! The board on which jobs are claimed, ask, and are settled, with its journal; and the front,
+//! which stands where the serial run stands.
 #![tactic(auto)]
 
 mod board;

@@ -25,8 +25,8 @@ pub struct Note {
 /// Why a job was run again.
 #[derive(Debug, Drop, PartialEq, Eq)]
 pub enum Cause {
-    /// Its first run was answered otherwise at this place; `after` is the last job before it that changed what
-    /// was asked.
+    /// Its first run was answered otherwise at this place; `after` is the last job before it that
+    /// changed what was asked.
     Differ {
         place: usize,
         question: Question,

@@ -29,9 +29,9 @@ pub enum Claim {
     NotYet,
 }
 
-/// The jobs that each job waits for, and the stage of each. A job that ends is taken off the waits of those
-/// that wait for it, and the jobs that can be claimed are flagged, so that the least of them is found without
-/// a look at the others. All but `new` take no memory.
+/// The jobs that each job waits for, and the stage of each. A job that ends is taken off the waits
+/// of those that wait for it, and the jobs that can be claimed are flagged, so that the least of
+/// them is found without a look at the others. All but `new` take no memory.
 #[derive(Drop)]
 pub struct Ready {
     waits: Seq<Seq<u32>>,
@@ -88,8 +88,8 @@ impl Ready {
         })
     }
 
-    /// The least job that can be claimed, in steps for the logarithm of how many jobs there are; else whether a
-    /// job is free.
+    /// The least job that can be claimed, in steps for the logarithm of how many jobs there are;
+    /// else whether a job is free.
     pub fn least(&self) -> Claim
         ensures { Finds self.now result }
     {
@@ -125,8 +125,8 @@ impl Ready {
         self.finish(job, Stage::Ended);
     }
 
-    /// A job that is claimed or has ended is settled; where it is claimed it ends so, in steps for each job
-    /// that waits for it.
+    /// A job that is claimed or has ended is settled; where it is claimed it ends so, in steps for
+    /// each job that waits for it.
     pub fn settle(&mut self, job: u32)
         requires { (slice_get self.old.stages job ≡ Some stage.Claimed)
             ⊎ (slice_get self.old.stages job ≡ Some stage.Ended) }

@@ -71,7 +71,8 @@ static ROWS: [Row; 6] = [
         ],
         "3 - 7 - ",
     ),
-    // Seven jobs, each of which makes a file of its own and changes the root. Below the floor a path keeps its last job.
+    // Seven jobs, each of which makes a file of its own and changes the root. Below the floor a
+    // path keeps its last job.
     (
         &[
             Post(0, &[("/a", 10), ("/", 10)]),
@@ -198,7 +199,8 @@ fn raise(v: &mut Versions, to: u32) {
     }
 }
 
-/// The i-th of five questions: of the path its kind, its stamp and its content, the root's names, and how job 2 ended.
+/// The i-th of five questions: of the path its kind, its stamp and its content, the root's names,
+/// and how job 2 ended.
 fn question(alloc: Global, i: u8, text: &str) -> Result<Question, NoMemory> {
     let path = path(alloc, text.as_bytes())?;
     Ok(match i {

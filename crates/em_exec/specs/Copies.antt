@@ -27,7 +27,8 @@ seen f (Err p) = f (Err p.0) p.1
 abbrev pub after : Ended → Here
 after e = seen (λ ended h. h) e
 
--- from a state of its own; how it ended and what it has come to are looked at, also where it has no end
+-- from a state of its own; how it ended and what it has come to are looked at, also where it has no
+-- end
 unfoldable pub looked_at : {A : Type 0} → (Here → Here) → (Here → Result (Unit {0}) Jump → Here → A × Here) → Acts (Unit {0}) → Acts A
 looked_at from back m = λ h o w. (Ok (seen (back h) (m (from h) o w).0), (m (from h) o w).1)
 

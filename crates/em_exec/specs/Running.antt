@@ -1,7 +1,8 @@
 -- What commands do, one line or block for each construct.
 --     script_of, and_or_of, pipeline_of, command_of, ..      the constructs of the syntax tree
--- `deeper` is how a script runs that is one level deeper; the scene is what is read, and whether a loop is around. After each command
--- its status is the shell's. `exit`, `break`, `continue` and what has no end leave what follows out, as errors do.
+-- `deeper` is how a script runs that is one level deeper; the scene is what is read, and whether a
+-- loop is around. After each command its status is the shell's. `exit`, `break`, `continue` and
+-- what has no end leave what follows out, as errors do.
 use Rattle.std.specs.Prelude.{ℕ, zero, suc, ◌==◌, Bool, true, false, not, List, [], ◌∷◌, Option, Some, None, Result, Ok, Err, if◌then◌else◌}
 use Rattle.em_base.specs.declared.construct.Construct.TheVariants.{Depth}
 use Rattle.em_glob.specs.declared.glyph.Glyph.{Glyph}
@@ -103,7 +104,8 @@ module _ (deeper : Deeper) (scene : Scene) where
     word ← whole deeper scene (out-Redirect r).target
     redirected (out-Redirect r).fd (out-Redirect r).kind word s
 
-  -- from left to right up to the first that fails; then there are no streams, and the command isn't run
+  -- from left to right up to the first that fails; then there are no streams, and the command isn't
+  -- run
   abbrev pub redirects : List Redirect → Streams → Acts (Option Streams)
   redirects [] s = done (Some s)
   redirects (r ∷ rs) s = do
@@ -206,7 +208,8 @@ abbrev pub again : Option ℕ → (ℕ → Acts (Unit {0})) → Acts (Unit {0})
 again None rest = done tt
 again (Some last) rest = rest last
 
--- a turn costs a unit, also the one whose test ends the loop; by a number above the fuel, so that the turns end before it does
+-- a turn costs a unit, also the one whose test ends the loop; by a number above the fuel, so that
+-- the turns end before it does
 abbrev pub turns : ℕ → Bool → Acts (Unit {0}) → Acts (Unit {0}) → ℕ → Acts (Unit {0})
 turns zero until test body last = refuse (End exec.Spent)
 turns (suc n) until test body last = do

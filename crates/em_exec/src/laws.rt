@@ -13,7 +13,8 @@ ghost use Rattle.em_command.specs.Jumps.{Acts};
 ghost use Rattle.em_exec.specs.Copies.{after, subshell};
 ghost use Rattle.em_exec.specs.Running.{script_at};
 
-/// An empty script does nothing: it writes nothing, changes nothing, asks nothing and costs nothing. Its status is 0.
+/// An empty script does nothing: it writes nothing, changes nothing, asks nothing and costs
+/// nothing. Its status is 0.
 pub fn law_empty()
     ensures { (left : ℕ) (script : Script) (scene : Scene) (h : Here) (o : Oracle) (w : Workspace)
         → (out-Script script).list.items ≡ []

@@ -56,16 +56,19 @@ fn close(
     }
 }
 
-/// Runs a script. The answer is its status, from 0 to 255; after it the shell has its variables, its working directory and, as
-/// `$?`, its status. What it writes to its streams 1 and 2 is appended to `out`, in the order of writing, also before an error.
+/// Runs a script. The answer is its status, from 0 to 255; after it the shell has its variables,
+/// its working directory and, as `$?`, its status. What it writes to its streams 1 and 2 is
+/// appended to `out`, in the order of writing, also before an error.
 ///
-/// Errors: `Refused` by the first construct that it comes to and that isn't supported: an option, a command that is refused by
-/// its name, a descriptor, or more than 64 compound commands and substitutions in one another. `Spent`, where the fuel doesn't
-/// suffice: each simple command, each turn of a loop and each `$` expansion costs a unit, each 256 bytes that a command writes or
-/// an expansion gives cost one, and the desk takes its own. The changes till then stand. `NoMemory`.
+/// Errors: `Refused` by the first construct that it comes to and that isn't supported: an option, a
+/// command that is refused by its name, a descriptor, or more than 64 compound commands and
+/// substitutions in one another. `Spent`, where the fuel doesn't suffice: each simple command, each
+/// turn of a loop and each `$` expansion costs a unit, each 256 bytes that a command writes or an
+/// expansion gives cost one, and the desk takes its own. The changes till then stand. `NoMemory`.
 ///
-/// The shell's variables are copied once, and once for each subshell, substitution and stage of a pipeline. For the rest it takes
-/// the steps of its commands, and for each byte that is written one step for each redirection and copy around it.
+/// The shell's variables are copied once, and once for each subshell, substitution and stage of a
+/// pipeline. For the rest it takes the steps of its commands, and for each byte that is written one
+/// step for each redirection and copy around it.
 pub fn exec<V: View>(
     alloc: Global,
     script: &Script,

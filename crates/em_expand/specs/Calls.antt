@@ -18,7 +18,8 @@ use Rattle.em_expand.specs.Table.{Row, row_of, function_of}
 abbrev pub deep_after : Bracket → ℕ → ℕ → ℕ
 deep_after bracket deep b = if b == opening_of bracket then deep + 1 else if b == closing_of bracket then deep - 1 else deep
 
--- where the first comma stands outside brackets, with so many open so far; the first byte stands at `at`
+-- where the first comma stands outside brackets, with so many open so far; the first byte stands at
+-- `at`
 abbrev pub comma : Bracket → ℕ → ℕ → List ℕ → Option ℕ
 comma bracket deep at [] = None
 comma bracket deep at (b ∷ bs) = if (b == 44) && (deep == 0) then Some at else comma bracket (deep_after bracket deep b) (at + 1) bs
@@ -50,7 +51,8 @@ pub record Call : Type 0 where
 abbrev pub word_length : List ℕ → ℕ
 word_length text = prefix_len (λ b. not (is_blank b)) text
 
--- a function's name with a blank behind it makes a call; the blanks in front of the first argument don't belong to it
+-- a function's name with a blank behind it makes a call; the blanks in front of the first argument
+-- don't belong to it
 abbrev pub called_by : Bracket → Option Row → List ℕ → Option Call
 called_by bracket (Some row) (b ∷ rest) = Some (record { row = row; args = split_args bracket row.greatest (trimmed_start rest) })
 called_by bracket _ _ = None

@@ -1,9 +1,11 @@
--- The expansion of a text: what stands before its first reference, the reference's meaning, the expansion of the rest.
+-- The expansion of a text: what stands before its first reference, the reference's meaning, the
+-- expansion of the rest.
 --     expansion vars cwd place text       the whole
 --     expand_text left set frames text out    a text in which so many references may stand in one another
 --     reference left set frames ..        a reference or a call, with what it costs
--- `out` is the text that is being made: each of these puts its result behind it. `deeper` expands the texts inside a reference,
--- one level deeper. What `info` and `warning` say and the texts for `eval` are the state.
+-- `out` is the text that is being made: each of these puts its result behind it. `deeper` expands
+-- the texts inside a reference, one level deeper. What `info` and `warning` say and the texts for
+-- `eval` are the state.
 use Rattle.std.specs.Prelude.{ℕ, zero, suc, ◌-◌, nat_lt, Bool, true, false, not, List, [], ◌∷◌, ◌++◌, length, unwrap_or, Option, Some, None, Result, Ok, Err, codes, if◌then◌else◌}
 use Rattle.em_base.specs.Blanks.{trimmed}
 use Rattle.em_base.specs.Spans.{cut}
@@ -144,8 +146,8 @@ foreach deeper frames args out = do
   list ← deeper frames (nth 1 args) []
   turns deeper frames (trimmed name) (nth 2 args) (words_of list) [] out
 
--- the text of the variable that is called: a recursive one's is expanded with the arguments bound to numbers. A call is no
--- reference to the variable
+-- the text of the variable that is called: a recursive one's is expanded with the arguments bound
+-- to numbers. A call is no reference to the variable
 abbrev pub put_called : Deeper → List Frame → List (List ℕ) → Stands → List ℕ → Says (List ℕ)
 put_called deeper frames args (plain t) out = done (out ++ t)
 put_called deeper frames args (recursive t) out = deeper (called args ∷ frames) t out

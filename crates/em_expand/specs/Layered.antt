@@ -1,4 +1,5 @@
--- The variables with which a text is expanded: shared ones, and over them some of the text's own, as a job's automatic ones.
+-- The variables with which a text is expanded: shared ones, and over them some of the text's own,
+-- as a job's automatic ones.
 --     automatic t             a variable of a text's own
 --     with_own vars own       the shared variables, with those of the text's own set
 use Rattle.std.specs.Prelude.{ℕ, false, List, [], ◌∷◌, Option, option_map}

@@ -1,4 +1,5 @@
--- Where a text stands: the names that are bound there, and the variables that are being expanded, the innermost first.
+-- Where a text stands: the names that are bound there, and the variables that are being expanded,
+-- the innermost first.
 --     bound frames name       what the innermost `foreach` or `call` that binds the name binds it to
 --     is_open frames name     the recursive variable of this name is being expanded
 use Rattle.std.specs.Prelude.{ℕ, ◌==◌, Bool, false, ◌||◌, List, [], ◌∷◌, slice_get, unwrap_or, Option, Some, None, option_map, if◌then◌else◌}

@@ -1,4 +1,5 @@
-//! What the text in the brackets of a reference is: a call of a function, a substitution, or a name.
+//! What the text in the brackets of a reference is: a call of a function, a substitution, or a
+//! name.
 ghost use Rattle.std.specs.Prelude.{◌≡◌, ◌==◌, ◌<◌, ◌≤◌, length, map, option_map, IfOk, IfSome};
 ghost use Rattle.std.specs.List.{position, list_any};
 ghost use Rattle.em_base.specs.Blanks.{is_blank};
@@ -99,9 +100,10 @@ fn call_in<'a>(
     Ok(Some(Call { row, args }))
 }
 
-/// The call that the text in a reference's brackets is, where it is one: behind leading blanks the name of a function, a blank, and
-/// arguments. They are parted at the commas outside brackets of the reference's own kind; the last argument that a function takes
-/// has all commas behind it. Steps for each byte, and a step for each function.
+/// The call that the text in a reference's brackets is, where it is one: behind leading blanks the
+/// name of a function, a blank, and arguments. They are parted at the commas outside brackets of
+/// the reference's own kind; the last argument that a function takes has all commas behind it.
+/// Steps for each byte, and a step for each function.
 pub(crate) fn call_of<'a>(
     alloc: Global,
     bracket: Option<Bracket>,

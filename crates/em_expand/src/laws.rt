@@ -22,7 +22,8 @@ pub fn law_doubled()
         → expansion vars cwd place (doubled text) ≡ done text }
 {}
 
-/// A reference without brackets to an undefined variable, whose name is the one byte, is empty and costs one unit.
+/// A reference without brackets to an undefined variable, whose name is the one byte, is empty and
+/// costs one unit.
 pub fn law_undefined()
     ensures { (vars : Entries) (cwd : List ℕ) (place : Place) (b : ℕ)
         → (s : Spoken) (o : Oracle) (w : Workspace)
@@ -31,7 +32,8 @@ pub fn law_undefined()
         ≡ (Ok ([], s), record w { fuel = w.fuel - 1 }) }
 {}
 
-/// A text's own variable hides a shared one of its name, and every other name is what it is among the shared ones.
+/// A text's own variable hides a shared one of its name, and every other name is what it is among
+/// the shared ones.
 pub fn law_layers()
     ensures own { (vars : Entries) (own : List (List ℕ × List ℕ)) (n t : List ℕ)
         → own_text own n ≡ Some t → value_of (with_own vars own) n ≡ Some (automatic t) }

@@ -7,7 +7,8 @@ use em_base::Text;
 use em_vars::{Var, Vars};
 use std::marker::Model;
 
-/// A variable of a text's own: simple, of origin `Automatic`, and not exported. Contracts see the pair of its name and its text.
+/// A variable of a text's own: simple, of origin `Automatic`, and not exported. Contracts see the
+/// pair of its name and its text.
 #[derive(Drop)]
 pub struct OwnVar {
     name: &'static [u8],
@@ -46,7 +47,8 @@ pub(crate) enum Held<'a> {
     Shared(&'a Var),
 }
 
-/// The text of a text's own variable of this name; `None` exactly where there is none. Steps for each of the variables.
+/// The text of a text's own variable of this name; `None` exactly where there is none. Steps for
+/// each of the variables.
 pub fn own_text<'a>(own: &'a [OwnVar], name: &[u8]) -> Option<&'a [u8]>
     ensures { option_map (λ t. t.now) result ≡ own_text own.now name.now }
 {

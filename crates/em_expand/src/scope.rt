@@ -4,8 +4,9 @@ ghost use Rattle.em_expand.specs.Scopes.{frames_of, nth, argument, argument_of, 
 
 use em_base::{Text, number, trim};
 
-/// The names that are bound and the variables that are being expanded around a text. Each scope stands in an outer one and lies on
-/// the stack of the call that made it, so that nothing is to be restored.
+/// The names that are bound and the variables that are being expanded around a text. Each scope
+/// stands in an outer one and lies on the stack of the call that made it, so that nothing is to be
+/// restored.
 #[derive(Clone, Copy)]
 pub(crate) enum Scope<'a> {
     /// Nothing is bound.
@@ -44,7 +45,8 @@ fn argument_of<'a>(args: &'a [Text], name: &[u8]) -> Option<&'a [u8]>
     Some(argument(args, n as usize))
 }
 
-/// What the innermost turn of `foreach` or `call` that binds the name binds it to. Steps for each scope.
+/// What the innermost turn of `foreach` or `call` that binds the name binds it to. Steps for each
+/// scope.
 pub(crate) fn bound<'a>(scope: &Scope<'a>, name: &[u8]) -> Option<&'a [u8]>
     ensures { option_map (λ t. t.now) result ≡ bound (frames_of scope.now) name.now }
 {

@@ -32,7 +32,8 @@ pub(crate) struct Setting<'a> {
     pub(crate) place: &'a Place,
 }
 
-/// The expansion of a text behind what there is, in which at most `left` references stand in one another.
+/// The expansion of a text behind what there is, in which at most `left` references stand in one
+/// another.
 #[cycle(expander)]
 fn expand_text<V: View>(
     alloc: Global,
@@ -411,19 +412,23 @@ fn call<V: View>(
     }
 }
 
-/// The expansion of a text: `$$` is `$`, `$x`, `$(x)` and `${x}` are the value of a variable, `$(x:a=b)` is that of a substitution,
-/// and `$(function arguments)` what the function gives. Names are read against `cwd`, and `warning` says `place`.
+/// The expansion of a text: `$$` is `$`, `$x`, `$(x)` and `${x}` are the value of a variable,
+/// `$(x:a=b)` is that of a substitution, and `$(function arguments)` what the function gives. Names
+/// are read against `cwd`, and `warning` says `place`.
 ///
-/// What `info` and `warning` say and the texts for `eval` are appended to `spoken`; after an error it holds what came before. The
-/// error is the first in the text, from the left: `SelfReference` where a recursive variable that is being expanded is referred to
-/// again; `UserError` by `error`; `BadArgument` for too few arguments, or bad ones of `word` and `wordlist`; `Unclosed` at a reference
-/// that isn't closed; `Refused` for a function that isn't supported; `TooDeep` where more than 200 references and calls stand in one
-/// another; `Spent` where fuel doesn't suffice. Each reference and call costs a unit before and the blocks of its result behind it,
-/// each turn of `foreach` a unit, and `wildcard` what it asks.
+/// What `info` and `warning` say and the texts for `eval` are appended to `spoken`; after an error
+/// it holds what came before. The error is the first in the text, from the left: `SelfReference`
+/// where a recursive variable that is being expanded is referred to again; `UserError` by `error`;
+/// `BadArgument` for too few arguments, or bad ones of `word` and `wordlist`; `Unclosed` at a
+/// reference that isn't closed; `Refused` for a function that isn't supported; `TooDeep` where more
+/// than 200 references and calls stand in one another; `Spent` where fuel doesn't suffice. Each
+/// reference and call costs a unit before and the blocks of its result behind it, each turn of
+/// `foreach` a unit, and `wildcard` what it asks.
 ///
-/// The time is linear in what is expanded and made, with a step for each scope at each name. A byte of plain text is copied once,
-/// to the result, at whatever depth it stands; no variable is copied. A value that is needed apart, as a name, an argument or a list,
-/// is a text of its own, so that a byte that passes through a function is copied at most three times for it.
+/// The time is linear in what is expanded and made, with a step for each scope at each name. A byte
+/// of plain text is copied once, to the result, at whatever depth it stands; no variable is copied.
+/// A value that is needed apart, as a name, an argument or a list, is a text of its own, so that a
+/// byte that passes through a function is copied at most three times for it.
 pub fn expand<V: View>(
     alloc: Global,
     text: &[u8],

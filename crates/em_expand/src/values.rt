@@ -19,8 +19,8 @@ pub(crate) enum Meaning<'b, 'v> {
     Recursive(&'v [u8]),
 }
 
-/// What the name stands for: what it is bound to, else its variable's text; an undefined name is empty. One search, and steps for
-/// each scope.
+/// What the name stands for: what it is bound to, else its variable's text; an undefined name is
+/// empty. One search, and steps for each scope.
 pub(crate) fn meaning_of<'b, 'v>(
     vars: &Layers<'v>,
     scope: &Scope<'b>,

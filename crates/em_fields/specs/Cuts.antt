@@ -1,4 +1,5 @@
--- A text without a part at its begin or end that matches a pattern, the shortest such part or the longest.
+-- A text without a part at its begin or end that matches a pattern, the shortest such part or the
+-- longest.
 --     first_place test n, last_place test n    the first and the last place up to n that passes the test
 use Rattle.std.specs.Prelude.{ℕ, zero, suc, ◌+◌, ◌-◌, Bool, List, take, drop, length, Option, Some, None, option_map, if◌then◌else◌}
 use Rattle.em_glob.specs.declared.glyph.Glyph.{Glyph}

@@ -1,4 +1,5 @@
--- What an expansion gives: bytes, quoted or not, and the places where a quoted text begins, which keep a field that is empty.
+-- What an expansion gives: bytes, quoted or not, and the places where a quoted text begins, which
+-- keep a field that is empty.
 --     marked q text        the bytes of a text, all quoted or none
 --     glyphs, bytes        the bytes with their quoting, and without
 --     joined ps qs         one behind the other; two marks side by side are one

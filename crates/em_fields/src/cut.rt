@@ -67,8 +67,8 @@ fn last_prefix(pattern: &[Glyph], text: &[u8]) -> Option<usize>
     None
 }
 
-/// The text without the part that matches; the whole text where none does. Takes no memory. Steps: those of one match for each
-/// byte of the text.
+/// The text without the part that matches; the whole text where none does. Takes no memory. Steps:
+/// those of one match for each byte of the text.
 pub fn cut_off<'a>(cut: Cut, pattern: &[Glyph], text: &'a [u8]) -> &'a [u8]
     ensures { result.now ≡ cuts.cut_off cut pattern.now text.now }
 {

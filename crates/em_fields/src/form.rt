@@ -58,8 +58,8 @@ fn argued_form(form: &[u8]) -> Option<Form>
     }
 }
 
-/// The form that is written between the name and the argument. `None` exactly where a parameter can't be expanded so.
-/// Takes no memory, and a bounded number of steps.
+/// The form that is written between the name and the argument. `None` exactly where a parameter
+/// can't be expanded so. Takes no memory, and a bounded number of steps.
 pub fn form_of(name: &[u8], form: &[u8], argued: bool) -> Option<Form>
     ensures { result ≡ forms.form_of name.now form.now argued }
 {

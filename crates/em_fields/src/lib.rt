@@ -1,4 +1,5 @@
-//! What the expansions of a shell's word are made of: bytes and whether they are quoted, the forms of `${..}` on values, and fields.
+//! What the expansions of a shell's word are made of: bytes and whether they are quoted, the forms
+//! of `${..}` on values, and fields.
 #![tactic(auto)]
 
 mod cut;

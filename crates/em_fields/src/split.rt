@@ -36,8 +36,8 @@ fn runs(alloc: Global, parts: &[Part]) -> Result<Vec<&[Part]>, NoMemory>
     Ok(runs)
 }
 
-/// The fields: what stands between spaces, tabs and newlines that aren't quoted, where something does, and be it an empty quoted
-/// text. Steps for each part.
+/// The fields: what stands between spaces, tabs and newlines that aren't quoted, where something
+/// does, and be it an empty quoted text. Steps for each part.
 pub fn fields(alloc: Global, parts: &[Part]) -> Result<Seq<Seq<Glyph>>, NoMemory>
     ensures { IfOk result (λ fs. fs ≡ parts_of.fields parts.now) }
 {

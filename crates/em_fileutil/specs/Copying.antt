@@ -47,8 +47,9 @@ abbrev pub leave_source : Manner → Operand → Tries
 leave_source Move s = at s.name (remove s.path)
 leave_source _ s = done tt
 
--- a directory: its target is made where nothing is; then what its names are, in order, whatever faults that has. Where it is moved,
--- it is removed in the end, which fails where something stayed in it
+-- a directory: its target is made where nothing is; then what its names are, in order, whatever
+-- faults that has. Where it is moved, it is removed in the end, which fails where something stayed
+-- in it
 unfoldable pub copy_tree : List ℕ → Deeper → Manner → Operand → Operand → Tries
 copy_tree utility deeper manner s t = do
   u ← make_missing t.name t.path
@@ -112,8 +113,8 @@ unslashed name = take (length name - suffix_len is_slash name) name
 abbrev pub ends_with_dot : List ℕ → Bool
 ends_with_dot name = bytes_eq (unslashed name) (codes ".") || ends_with nat_eq (unslashed name) (codes "/.")
 
--- in a directory a source keeps its last name, which the root has none of; of one that was named with a `.` at the end, what is in
--- it goes to the directory itself
+-- in a directory a source keeps its last name, which the root has none of; of one that was named
+-- with a `.` at the end, what is in it goes to the directory itself
 abbrev pub place_of : Target → Operand → Result Operand OperandNo
 place_of to s = if to.is_dir && not (ends_with_dot s.name) then in_target s to.operand (last_of s.path) else Ok to.operand
 

@@ -1,4 +1,5 @@
--- An operand: its name, as it was typed, and its path. What comes of it has a name of its own: a child of `d` is `d/x`.
+-- An operand: its name, as it was typed, and its path. What comes of it has a name of its own: a
+-- child of `d` is `d/x`.
 --     operand_at cwd name     an operand as it was typed
 --     child o c               what has the name c in it
 --     is_within s t           the path t is s, or stands below it

@@ -1,5 +1,5 @@
--- A project of n sources, to measure builds with: each target is its source and behind it the target of half the number before its own, and doesn't
--- say that it needs the latter.
+-- A project of n sources, to measure builds with: each target is its source and behind it the
+-- target of half the number before its own, and doesn't say that it needs the latter.
 --     makefile n, source i       the files' bytes
 --     project n                  the tree; all stamps are 1
 use Rattle.std.specs.Prelude.{ℕ, ◌-◌, ◌/◌, ◌==◌, List, ◌++◌, codes, decimal, fold, if◌then◌else◌}

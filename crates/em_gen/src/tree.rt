@@ -58,9 +58,10 @@ fn put_source(alloc: Global, tree: &mut Tree, i: u32) -> Result<(), NoMemory>
     put_file(alloc, tree, name.bytes(), bytes.bytes())
 }
 
-/// A tree of 1 to 10,000 sources `/s0`, `/s1`, .., each of its number and a newline, and a `/Makefile` whose goal `all` makes `t0`, `t1`, .. : each
-/// target is its source and behind it the target of half the number before its own, which the makefile doesn't name as a prerequisite. All stamps are 1. Linear
-/// in n but for a search in the tree for each source.
+/// A tree of 1 to 10,000 sources `/s0`, `/s1`, .., each of its number and a newline, and a
+/// `/Makefile` whose goal `all` makes `t0`, `t1`, .. : each target is its source and behind it the
+/// target of half the number before its own, which the makefile doesn't name as a prerequisite. All
+/// stamps are 1. Linear in n but for a search in the tree for each source.
 pub fn project(alloc: Global, n: u32) -> Result<Tree, NoMemory>
     requires size { (1 ≤ n) × (n ≤ 10000) }
     ensures tree { IfOk result (λ t. t ≡ generated.project n) }

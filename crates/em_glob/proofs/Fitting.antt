@@ -1,4 +1,5 @@
--- The test at a place of a pattern and one of a name: ends of the name behind `*`, and pieces of one byte.
+-- The test at a place of a pattern and one of a name: ends of the name behind `*`, and pieces of
+-- one byte.
 use Rattle.std.proofs.Common.{◌≡◌, ℕ, zero, suc, ◌+◌, ◌<◌, ◌&&◌, ◌||◌, Bool, true, false, cond, List, [], ◌∷◌, length, take, drop, Option, Some, None, arith, refl, sym, ap, ◌∙◌}
 use Rattle.std.specs.List.{list_all}
 use Rattle.std.proofs.lemmas.Bool.{ne_eqb}

@@ -1,4 +1,5 @@
--- Where a match stands: what has been shown of the pattern and the name at a place, behind the last star.
+-- Where a match stands: what has been shown of the pattern and the name at a place, behind the last
+-- star.
 use Rattle.std.proofs.Common.{◌≡◌, ℕ, zero, suc, ◌+◌, ◌-◌, ◌*◌, ◌<◌, ◌≤◌, true, false, List, [], ◌∷◌, length, drop, get_or, Option, Some, None, arith, refl, sym, ap, ◌∙◌}
 use Rattle.std.proofs.lemmas.List.{drop-drop}
 use Rattle.em_base.proofs.Lemmas.{by_cases, cell, none_at}
@@ -18,8 +19,8 @@ left_of pattern p = pieces (drop p pattern)
 abbrev pub FitsAt : List Glyph → List ℕ → ℕ → ℕ → Type 0
 FitsAt pattern name p n = fits (left_of pattern p) (drop n name) ≡ true
 
--- behind the last star: some end of the name from its byte on has to fit there, and each piece since is one byte, so that
--- what fits from there on fits from here on, as many bytes later
+-- behind the last star: some end of the name from its byte on has to fit there, and each piece
+-- since is one byte, so that what fits from there on fits from here on, as many bytes later
 pub record Passed (pattern : List Glyph) (name : List ℕ) (at star : Place) : Type 0 where
   pub within : (star.glyph ≤ length pattern) × (star.byte ≤ at.byte)
   pub some : FitsAt pattern name 0 0 → (k : ℕ) × FitsAt pattern name star.glyph (star.byte + k)
@@ -35,7 +36,8 @@ pub record Way (pattern : List Glyph) (name : List ℕ) (at : Place) (star : Opt
   pub whole : FitsAt pattern name at.glyph at.byte → FitsAt pattern name 0 0
   pub since : Since pattern name at star
 
--- the bytes that the last star is still to be tried from, each with the pattern and the name, and what is left of these two
+-- the bytes that the last star is still to be tried from, each with the pattern and the name, and
+-- what is left of these two
 abbrev pub tried_from : Option Place → ℕ
 tried_from None = 0
 tried_from (Some star) = star.byte

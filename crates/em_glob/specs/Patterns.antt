@@ -1,5 +1,5 @@
--- Patterns of names, as POSIX's pattern matching notation has them, but without classes as `[:alpha:]`. A quoted byte stands for
--- itself.
+-- Patterns of names, as POSIX's pattern matching notation has them, but without classes as
+-- `[:alpha:]`. A quoted byte stands for itself.
 --     pieces gs           the pieces of a pattern, in order: `*`, `?`, `[..]`, `[!..]`, and bytes that stand for themselves
 --     Matches ps name     the name consists of one part for each piece, in order, and each piece takes its part
 --     fits ps name        the same as a test
@@ -48,7 +48,8 @@ is_negated (g ∷ gs) = is_bare 33 g
 abbrev pub list_start : List Glyph → ℕ
 list_start gs = if is_negated gs then 1 else 0
 
--- how long a list is that these glyphs begin: up to the first `]`, where one that comes first is of the list
+-- how long a list is that these glyphs begin: up to the first `]`, where one that comes first is of
+-- the list
 abbrev pub list_length : List Glyph → Option ℕ
 list_length gs = option_map suc (position is_closing (drop 1 gs))
 
@@ -56,7 +57,8 @@ abbrev pub set_of : Bool → List Glyph → Piece
 set_of true list = NoneOf list
 set_of false list = OneOf list
 
--- the piece that a `[` begins, and how many more glyphs it has; one without its `]` stands for itself
+-- the piece that a `[` begins, and how many more glyphs it has; one without its `]` stands for
+-- itself
 abbrev pub set_by : Option ℕ → List Glyph → Piece × ℕ
 set_by None gs = (Itself 91, 0)
 set_by (Some n) gs = (set_of (is_negated gs) (take n (drop (list_start gs) gs)), list_start gs + n + 1)
@@ -85,8 +87,8 @@ pieces gs = pieces_behind 0 gs
 
 -- ---- matching
 
--- a list has its bytes, and those between the ends of each range `a-z` in it, read from the left. A `-` that is quoted, comes first, or
--- is last without a range to end is a byte
+-- a list has its bytes, and those between the ends of each range `a-z` in it, read from the left. A
+-- `-` that is quoted, comes first, or is last without a range to end is a byte
 abbrev pub has : List Glyph → ℕ → Bool
 has [] b = false
 has (x ∷ []) b = x.byte == b

@@ -27,7 +27,8 @@ abbrev pub begins_any : List Piece → Bool
 begins_any (AnyBytes ∷ ps) = true
 begins_any _ = false
 
--- a set whose `[` stands at `at`, and how many glyphs it has behind the `[`; a `[` without its `]` is itself
+-- a set whose `[` stands at `at`, and how many glyphs it has behind the `[`; a `[` without its `]`
+-- is itself
 abbrev pub told : ℕ → Option (Read × ℕ) → Piece × ℕ
 told at None = (Itself 91, 0)
 told at (Some (piece, behind)) = (meant piece, behind - (at + 1))

@@ -14,8 +14,8 @@ struct Place {
     byte: usize,
 }
 
-/// Whether something in the pattern stands for other than itself: a `*`, a `?`, or a `[` with its `]`, none of them quoted.
-/// Takes no memory; steps for each glyph.
+/// Whether something in the pattern stands for other than itself: a `*`, a `?`, or a `[` with its
+/// `]`, none of them quoted. Takes no memory; steps for each glyph.
 pub fn is_pattern(pattern: &[Glyph]) -> bool
     ensures { result ≡ patterns.is_pattern pattern.now }
 {
@@ -37,11 +37,12 @@ fn only_stars(glyphs: &[Glyph]) -> bool
     glyphs.iter().all(|glyph| glyph.is_bare(b'*'))
 }
 
-/// Whether the name matches the pattern, as POSIX's pattern matching notation says, but without classes as `[:alpha:]`: `*`
-/// matches any bytes, `?` one byte, `[set]` one of a set with ranges, `[!set]` one that isn't in it, and every other or quoted
-/// byte itself. A `[` without its `]` stands for itself; a `]` that comes first in a set is of it. A dot at the name's begin is
-/// a byte as others are.
-/// Takes no memory. Steps: in the order of the pattern's glyphs times the name's bytes, each counted with one more.
+/// Whether the name matches the pattern, as POSIX's pattern matching notation says, but without
+/// classes as `[:alpha:]`: `*` matches any bytes, `?` one byte, `[set]` one of a set with ranges,
+/// `[!set]` one that isn't in it, and every other or quoted byte itself. A `[` without its `]`
+/// stands for itself; a `]` that comes first in a set is of it. A dot at the name's begin is a byte
+/// as others are. Takes no memory. Steps: in the order of the pattern's glyphs times the name's
+/// bytes, each counted with one more.
 pub fn matches(pattern: &[Glyph], name: &[u8]) -> bool
     ensures test { result ≡ fits (pieces pattern.now) name.now }
     ensures matches { IsTrue result ↔ Matches (pieces pattern.now) name.now }

@@ -102,8 +102,8 @@ fn closing_at(glyphs: &[Glyph]) -> Option<usize>
     glyphs.iter().position(|glyph| glyph.is_bare(b']'))
 }
 
-/// Where the `]` stands that ends a list which begins at `start`; one that comes first is of the list. The pattern has no bare
-/// `]` from `closed` on.
+/// Where the `]` stands that ends a list which begins at `start`; one that comes first is of the
+/// list. The pattern has no bare `]` from `closed` on.
 fn list_end(pattern: &[Glyph], closed: usize, start: usize) -> Option<usize>
     requires within { closed ≤ length pattern.now }
     requires rest { list_any is_closing (drop closed pattern.now) ≡ false }
@@ -125,8 +125,8 @@ fn is_negated(set: &[Glyph]) -> bool
     set.first().is_some_and(|glyph| glyph.is_bare(b'!'))
 }
 
-/// The set whose `[` stands at `at`, and the place behind it; `None` where it has no `]`. The pattern has no bare `]` from
-/// `closed` on.
+/// The set whose `[` stands at `at`, and the place behind it; `None` where it has no `]`. The
+/// pattern has no bare `]` from `closed` on.
 fn set_at(pattern: &[Glyph], closed: usize, at: usize) -> Option<(Piece<'_>, usize)>
     requires inside { at < length pattern.now }
     requires within { closed ≤ length pattern.now }
@@ -140,8 +140,8 @@ fn set_at(pattern: &[Glyph], closed: usize, at: usize) -> Option<(Piece<'_>, usi
     Some((Piece::set(negated, &pattern[start..end]), end + 1))
 }
 
-/// The piece that begins at `at`, and the place behind it; `None` at the end. The pattern has no bare `]` from `closed` on.
-/// Takes steps for each glyph of the piece.
+/// The piece that begins at `at`, and the place behind it; `None` at the end. The pattern has no
+/// bare `]` from `closed` on. Takes steps for each glyph of the piece.
 pub(crate) fn piece_at(pattern: &[Glyph], closed: usize, at: usize) -> Option<(Piece<'_>, usize)>
     requires within { closed ≤ length pattern.now }
     requires rest { list_any is_closing (drop closed pattern.now) ≡ false }
@@ -169,8 +169,9 @@ pub(crate) fn is_star_at(pattern: &[Glyph], at: usize) -> bool
     pattern.get(at).is_some_and(|glyph| glyph.is_bare(b'*'))
 }
 
-/// The place behind the piece at `at`, where that is one byte, and this one; `None` for another piece, for a `*` and at the
-/// end. The pattern has no bare `]` from `closed` on. Takes steps for each glyph of the piece.
+/// The place behind the piece at `at`, where that is one byte, and this one; `None` for another
+/// piece, for a `*` and at the end. The pattern has no bare `]` from `closed` on. Takes steps for
+/// each glyph of the piece.
 pub(crate) fn place_behind(pattern: &[Glyph], closed: usize, at: usize, byte: u8) -> Option<usize>
     requires within { closed ≤ length pattern.now }
     requires rest { list_any is_closing (drop closed pattern.now) ≡ false }

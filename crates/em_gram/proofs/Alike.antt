@@ -37,7 +37,8 @@ pub record Begins (p : Expr) (s : List ℕ) : Type 1 where
 pub record Fits (p : Expr) (G F : List ℕ) : Type 0 where
   pub fits : (ts r : List What) → Spells shell p ts r → Ends G r → Ends F ts
 
--- before what begins with none of F both are spelled from one place on, which has fewer than n lexemes behind it, only if C, and up to one place
+-- before what begins with none of F both are spelled from one place on, which has fewer than n
+-- lexemes behind it, only if C, and up to one place
 pub record Agree (n : ℕ) (p q : Expr) (F : List ℕ) (C : Type 0) : Type 0 where
   pub agrees : (ts r s : List What) → length ts < n → Spells shell p ts r → Spells shell q ts s → Ends F r → Ends F s → C × (r ≡ s)
 
@@ -205,7 +206,8 @@ pub behind_of : {X : Type 0} (sep : Expr) (f : X → Expr) (xs : List X) → map
 behind_of sep f [] = refl
 behind_of sep f (x ∷ xs) = ap (λ l. (sep ⨾ f x) ∷ l) (behind_of sep f xs)
 
--- rows with a separator between two and perhaps at the end: P begins a separator, S an item, and N none of these follows a separator
+-- rows with a separator between two and perhaps at the end: P begins a separator, S an item, and N
+-- none of these follows a separator
 module _ {X : Type 0} (f : X → Expr) (shape : X → Shape) (sep : Expr) (P N S E F : List ℕ) (part : Begins sep P) (begin : (x : X) → Begins (f x) S) (a : apart E P ≡ true) (b : apart N S ≡ true) (v : within P F ≡ true) (u : within S F ≡ true) (w : within E F ≡ true) (m : within N F ≡ true) (n : ℕ) (agree_sep : Agree n sep sep N (Unit {0})) (agree : (x y : X) → Agree n (f x) (f y) E (shape x ≡ shape y)) where
   abbrev Tail : List X → Expr
   Tail xs = all (map (λ x. sep ⨾ f x) xs) ⨾ (sep ∣ empty)

@@ -26,7 +26,8 @@ pub record IsScript (lexed : Lexed) (script : Script) : Type 0 where
   pub line_is : IsLine (whats lexed.items)
   pub spells : Spells shell (newlines ⨾ body_pattern script) (whats lexed.items) []
 
--- A line that is a line of the grammar but for a construct with which it ends. `name (` is a function where `)` follows.
+-- A line that is a line of the grammar but for a construct with which it ends. `name (` is a
+-- function where `)` follows.
 abbrev pub is_function : List What → Bool
 is_function [] = false
 is_function (t ∷ ts) = opens class_of ts (kinds (RightParen ∷ []))
@@ -40,7 +41,8 @@ ends_with construct c ts = (c == construct) && may_be c ts
 abbrev pub IsUpTo : ℕ → List What → Type 0
 IsUpTo construct whats = IsWith class_of (ends_with construct) list 64 line whats
 
--- a function's name is one word of three lexemes before its `(`, and `for` two words before what stands in place of `in`
+-- a function's name is one word of three lexemes before its `(`, and `for` two words before what
+-- stands in place of `in`
 abbrev pub steps_back : ℕ → ℕ
 steps_back c = cond (c == function) 3 (cond (c == positional) 6 0)
 

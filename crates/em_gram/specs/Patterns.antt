@@ -1,4 +1,5 @@
--- How each tree is spelled by lexemes: a fold, with a step for each part of the grammar. Words are spelled with the bytes and names that they hold.
+-- How each tree is spelled by lexemes: a fold, with a step for each part of the grammar. Words are
+-- spelled with the bytes and names that they hold.
 use Rattle.std.specs.Prelude.{ℕ, zero, ◌-◌, ◌==◌, nat_le, Bool, true, false, List, [], ◌∷◌, ◌++◌, map, Option, Some, None, option_map, cond}
 use Rattle.em_grammar.specs.Production.{empty, one, this, ◌⨾◌, ◌∣◌, last, refused}
 use Rattle.em_grammar.specs.Gives.{all, parted}
@@ -53,7 +54,8 @@ abbrev pub only_digit : List PieceSpelling → Option ℕ
 only_digit (p ∷ []) = p.digit
 only_digit _ = None
 
--- a word in which an `End` belongs to no `Argument`, or an argument is left open, is spelled by nothing
+-- a word in which an `End` belongs to no `Argument`, or an argument is left open, is spelled by
+-- nothing
 abbrev pub if_closed : Option ℕ → Expr → Expr
 if_closed (Some zero) spelled = spelled
 if_closed _ spelled = never
@@ -151,7 +153,8 @@ abbrev pub some_parts : List Expr → List Expr → Expr
 some_parts [] [] = never
 some_parts ws rs = mixed ws rs
 
--- at least one part; the first is no reserved word, and all words up to the next lexeme that is none belong to it
+-- at least one part; the first is no reserved word, and all words up to the next lexeme that is
+-- none belong to it
 abbrev pub simple_spelled : List Expr → List Spelling → List Expr → Expr
 simple_spelled assigned ws rs = last reserved_words ⨾ some_parts (assigned ++ words_spelled ws) rs ⨾ last words
 

@@ -1,4 +1,5 @@
--- When two trees are the same, wherever they lie in memory: a tree's shape has all that is in it but the memory of its rows.
+-- When two trees are the same, wherever they lie in memory: a tree's shape has all that is in it
+-- but the memory of its rows.
 use Rattle.std.specs.Prelude.{ℕ, Bool, List, [], ◌∷◌, Option, Some, None}
 use Rattle.em_syntax.specs.declared.tree.RedirectKind.{RedirectKind}
 use Rattle.em_syntax.specs.declared.tree.Command.TheOpen.{Command-F, Compound-F, WordWhat-F, AndOr-F, Assigned-F, Branch-F, Case-F, For-F, If-F, Item-F, Joined-F, Loop-F, Pipeline-F, Redirect-F, Script-F, Simple-F, Word-F, WordPiece-F}

@@ -32,7 +32,8 @@ pub fn law_tree_or_fault()
         → IsScript lexed s → IsFault lexed len e → e ≡ GramNo.NoMemory }
 {}
 
-/// The pieces of a word that is spelled nest: each end of an argument belongs to a begin before it, and none is left open.
+/// The pieces of a word that is spelled nest: each end of an argument belongs to a begin before it,
+/// and none is left open.
 pub fn law_words_nest()
     ensures { (word : Word) (whats rest : List What)
         → Spells shell (word_spelling word).pattern whats rest

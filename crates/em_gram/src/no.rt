@@ -8,7 +8,8 @@ use thiserror::Error;
 /// Why a line is no script. Places are offsets of bytes in the line; the leftmost fault counts.
 #[derive(Debug, Drop, PartialEq, Eq, Error)]
 pub enum GramNo {
-    /// No line of the grammar goes on with what stands there, or, at the line's length, none ends there.
+    /// No line of the grammar goes on with what stands there, or, at the line's length, none ends
+    /// there.
     #[error("syntax error at byte {0}")]
     Unexpected(usize),
     /// The quote, `${`, `$(` or backquote that opens there isn't closed.

@@ -39,7 +39,8 @@ fn is_parens(rest: &[Lexeme]) -> bool
     !rest.is_empty() && opens(&rest[1..], &[Kind::RightParen])
 }
 
-/// What a fault is, and where it is told. A function is refused at its name, and a `for` without `in` at the `for`.
+/// What a fault is, and where it is told. A function is refused at its name, and a `for` without
+/// `in` at the `for`.
 fn fault_at(why: Why, tokens: &[Lexeme], rest: &[Lexeme], length: usize) -> GramNo
     ensures { (stop : Option LexNo) → (whats rest.now ≡ [] → stop ≡ None)
         → run shell ((64, line_grammar) ∷ []) (whats tokens.now)
@@ -80,7 +81,8 @@ fn stopped(stop: LexNo) -> GramNo
     }
 }
 
-/// The fault of what was lexed, where the grammar stops at `rest`: at the end the lexer's fault counts, if there is one.
+/// The fault of what was lexed, where the grammar stops at `rest`: at the end the lexer's fault
+/// counts, if there is one.
 fn fault_or_stop(
     why: Why,
     tokens: &[Lexeme],
@@ -101,7 +103,8 @@ fn fault_or_stop(
     }
 }
 
-/// What was lexed is a line up to `rest`: it is the whole line, or what follows doesn't belong to it.
+/// What was lexed is a line up to `rest`: it is the whole line, or what follows doesn't belong to
+/// it.
 fn whole(
     script: Script,
     tokens: &[Lexeme],
@@ -137,8 +140,9 @@ fn tree_of(alloc: Global, lexed: Lexed, length: usize) -> Result<Script, GramNo>
     }
 }
 
-/// The tree of a line: what its lexemes are by the grammar. Else the leftmost fault: up to its place some line of the grammar goes on, and
-/// with what stands there, or at the end, none does. Reading takes time linear in the line's length.
+/// The tree of a line: what its lexemes are by the grammar. Else the leftmost fault: up to its
+/// place some line of the grammar goes on, and with what stands there, or at the end, none does.
+/// Reading takes time linear in the line's length.
 pub fn parse(alloc: Global, line: &[u8]) -> Result<Script, GramNo>
     ensures tree { IfOk result (λ s. IsScript (lexed line.now) s) }
     ensures fault { IfErr result (λ e. IsFault (lexed line.now) (length line.now) e) }

@@ -188,7 +188,8 @@ fn is_bounded(alloc: Global, open: &str, close: &str, offset: usize) -> Result<b
     Ok(fits && is_fault(alloc, more.bytes(), "depth", place))
 }
 
-/// 64 compound commands and substitutions may be open, of one kind or mixed; arguments of values don't count.
+/// 64 compound commands and substitutions may be open, of one kind or mixed; arguments of values
+/// don't count.
 #[test]
 fn depth_is_bounded(rt: HostRuntime) -> Result<(), Fail> {
     let alloc = rt.alloc();

@@ -85,7 +85,8 @@ wider_middle n xs ys zs m = split (one_of (is_among n xs) (is_among n zs) (sym (
     split (inl k) = in_first n xs (ys ++ zs) k
     split (inr k) = in_second n xs (ys ++ zs) (in_second n ys zs k)
 
--- what a front is, wherever it stands: what is left behind it, and that it is one in front of any other language too; or the line has ended with a construct
+-- what a front is, wherever it stands: what is left behind it, and that it is one in front of any
+-- other language too; or the line has ended with a construct
 pub data Behind {T : Type 0} (f : Lang T → Lang T) (K : Lang T) (ts : List T) : Type 1 where
   left_over : (rest : List T) → K rest → ((L : Lang T) → L rest → f L ts) → Behind f K ts
   ended : ((L : Lang T) → f L ts) → Behind f K ts

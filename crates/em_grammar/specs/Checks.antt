@@ -1,4 +1,5 @@
--- What is asked of a grammar, each a test that computes: that it is LL(1), and that what it has begun can be completed.
+-- What is asked of a grammar, each a test that computes: that it is LL(1), and that what it has
+-- begun can be completed.
 use Rattle.std.specs.Prelude.{ℕ, zero, suc, Bool, true, false, ◌||◌, ◌&&◌, not, cond, List, [], ◌∷◌, ◌++◌}
 use Rattle.em_grammar.specs.Production.{Production, empty, one, this, ◌⨾◌, ◌∣◌, many, more, nested, inner, last, balanced, refused, is_among}
 use Rattle.em_grammar.specs.Machine.{Grammar, first_set, nullable}
@@ -46,8 +47,8 @@ decided G (last s) F = true
 decided G (balanced k o e c) F = decided G e (o ++ (first_set G.list_first e ++ (c ++ F))) && (not (nullable e) && (apart o (first_set G.list_first e ++ (c ++ F)) && apart (first_set G.list_first e) (c ++ F)))
 decided G (refused s c) F = true
 
--- How a stack is completed. `deep`: a level is left; there are tokens of these classes; `clear`: what follows begins with none of `words`.
--- what completes an e begins with none of the words
+-- How a stack is completed. `deep`: a level is left; there are tokens of these classes; `clear`:
+-- what follows begins with none of `words`. what completes an e begins with none of the words
 abbrev mutual
   pub clears : {T : Type 0} → Bool → List ℕ → List ℕ → Production T → Bool → Bool
   clears deep classes words empty b = b

@@ -2,7 +2,8 @@
 use Rattle.std.specs.Prelude.{◌≡◌, List, [], ◌∷◌, ◌++◌}
 use Rattle.em_grammar.specs.Production.{Lang}
 
--- nothing goes on from here: the tokens before aren't enough, or with the next one there is no way on
+-- nothing goes on from here: the tokens before aren't enough, or with the next one there is no way
+-- on
 abbrev pub Stops : {T : Type 0} → Lang T → List T → List T → Type 0
 Stops L before [] = L before → ⊥
 Stops L before (t ∷ ts) = (more : List _) → L (before ++ t ∷ more) → ⊥

@@ -1,8 +1,10 @@
--- The machine that reads by a grammar, with one token of lookahead: a stack of what is still to come.
+-- The machine that reads by a grammar, with one token of lookahead: a stack of what is still to
+-- come.
 use Rattle.std.specs.Prelude.{ℕ, zero, suc, Bool, true, false, ◌||◌, ◌&&◌, cond, List, [], ◌∷◌, ◌++◌}
 use Rattle.em_grammar.specs.Production.{Production, empty, one, this, ◌⨾◌, ◌∣◌, many, more, nested, inner, last, balanced, refused, is_among, depth}
 
--- a grammar: its list, with the classes that begin one (its first set) and those that may follow one (its follow set)
+-- a grammar: its list, with the classes that begin one (its first set) and those that may follow
+-- one (its follow set)
 pub record Grammar (T : Type 0) : Type 0 where
   pub class : T → ℕ
   pub list : Production T

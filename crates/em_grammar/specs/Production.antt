@@ -15,15 +15,18 @@ pub data Production (T : Type 0) : Type 0 where
   ◌⨾◌ : Production T → Production T → Production T
   ◌∣◌ : Production T → Production T → Production T
   many : Production T → Production T
-  -- what follows the first a in a row of a's with an s between two and perhaps at the end: { s a } [ s ]
+  -- what follows the first a in a row of a's with an s between two and perhaps at the end: { s a }
+  -- [ s ]
   more : Production T → Production T → Production T
-  -- a token of these classes, which takes one of the levels that are left, and what goes on on this level
+  -- a token of these classes, which takes one of the levels that are left, and what goes on on this
+  -- level
   nested : List ℕ → Production T → Production T
   -- on a level: the whole grammar's list, one level deeper
   inner : Production T
   -- nothing, where no token of these classes follows
   last : List ℕ → Production T
-  -- any number of e's and of brackets in balance, where so many brackets are open already: a token of the first classes opens one, one of the second closes one
+  -- any number of e's and of brackets in balance, where so many brackets are open already: a token
+  -- of the first classes opens one, one of the second closes one
   balanced : ℕ → List ℕ → Production T → List ℕ → Production T
   -- a token of these classes here is refused, as this construct
   refused : List ℕ → ℕ → Production T
@@ -59,7 +62,8 @@ Balance class zero zero o f c K = K
 Balance class zero (suc k) o f c K = λ ts. ⊥
 Balance class (suc n) k o f c K = λ ts. f (Balance class n k o f c K) ts ⊎ (Reads (λ t. IsTrue (is_among (class t) o)) (Balance class n (suc k) o f c K) ts ⊎ Closes class k c (λ j. Balance class n j o f c K) ts)
 
--- Which constructs, by their number, may end a line, and with which tokens. In the language itself none does.
+-- Which constructs, by their number, may end a line, and with which tokens. In the language itself
+-- none does.
 abbrev pub Ending : Type 0 → Type 0
 Ending T = ℕ → List T → Bool
 
@@ -104,7 +108,8 @@ abbrev pub Ends : {T : Type 0} → Lang T
 Ends [] = Unit {0}
 Ends (t ∷ ts) = ⊥
 
--- the tokens are an e, with `left` levels left; or they are one up to a construct that may end the line
+-- the tokens are an e, with `left` levels left; or they are one up to a construct that may end the
+-- line
 abbrev pub IsWith : {T : Type 0} → (T → ℕ) → Ending T → Production T → ℕ → Production T → List T → Type 0
 IsWith class ending list left e ts = Front class ending left (Below class ending list left) e Ends ts
 

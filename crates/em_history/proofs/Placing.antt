@@ -1,4 +1,5 @@
--- Pairs at their places: what `placed`, `united` and `collected` give rises and has the pairs of both, and one list does.
+-- Pairs at their places: what `placed`, `united` and `collected` give rises and has the pairs of
+-- both, and one list does.
 --     Rises, Among        the lines rise strictly; the pair is one of these
 --     same                lists that rise and have the same pairs are equal
 --     all_.., rises_..    what holds of each pair of them, and that they rise

@@ -164,7 +164,8 @@ passed_more body ps previous line rest p h fit is less =
       last = inr (p, among_last ps p, is);
     }
 
--- the line is that of a pair of a history of which this is the text, and rises above those before it
+-- the line is that of a pair of a history of which this is the text, and rises above those before
+-- it
 record Stands (ps qs : List Pair) (line : List ℕ) : Type 0 where
   one : (q : Pair) × Among q qs × (line_of q ≡ line)
   above : (p : Pair) → Among p ps → order (line_of p) line ≡ Less

@@ -1,5 +1,5 @@
--- A history: pairs of names, of what was made and of what it needed. Its text has a line for each pair; the pairs stand in byte order of these
--- lines, newline and all, each once.
+-- A history: pairs of names, of what was made and of what it needed. Its text has a line for each
+-- pair; the pairs stand in byte order of these lines, newline and all, each once.
 --     fits p               both names can stand in a line
 --     line_of p, text_of ps
 --     by_line, by_names   the order of lines; that of names, which is the same for pairs that fit

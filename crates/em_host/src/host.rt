@@ -8,8 +8,8 @@ use std::alloc::Global;
 
 /// Files under names, and one output.
 ///
-/// A host over memory tells what it holds and its calls, any other host tells nothing. `faults` counts
-/// the calls that answered `Failed`, up to 2^64 - 1, and no other call changes it.
+/// A host over memory tells what it holds and its calls, any other host tells nothing. `faults`
+/// counts the calls that answered `Failed`, up to 2^64 - 1, and no other call changes it.
 pub trait Host: Drop + Send {
     /// What the host holds, has printed and was called, where it tells that.
     ghost told: { Self → Option Outside };

@@ -21,10 +21,3 @@ pub use mem::MemHost;
 pub use no::HostNo;
 pub use real::RealHost;
 pub use stop::{Fault, Reason};
-
-#[cfg(test)]
-mod real_tests;
-#[cfg(test)]
-mod tests;
-#[cfg(test)]
-mod watched;

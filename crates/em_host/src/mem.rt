@@ -14,8 +14,8 @@ use em_base::{NoMemory, Table, Text};
 use std::alloc::Global;
 use std::marker::Model;
 
-/// Files and one output in memory. Chosen calls on it fail, and it notes its calls. Tests run on it,
-/// and a program that wants only the number of printed bytes makes its calls on one.
+/// Files and one output in memory. Chosen calls on it fail, and it notes its calls. Tests run on
+/// it, and a program that wants only the number of printed bytes makes its calls on one.
 ///
 /// A call's number is how many calls on the host were made before it. `put` and `fail_at` set the
 /// host up and are no calls. A call is noted before it acts: where there is no memory for that, it

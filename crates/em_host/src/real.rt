@@ -28,8 +28,8 @@ use std::rt::{Clock, Files};
 /// permissions of the old one, or those that the system gives to new files.
 ///
 /// A file isn't replaced that was first taken or replaced under another name, nor one that changed
-/// since it was last taken or replaced. That is looked at while the folder is locked, so of several hosts
-/// at once none undoes what another did.
+/// since it was last taken or replaced. That is looked at while the folder is locked, so of several
+/// hosts at once none undoes what another did.
 ///
 /// A call takes time linear in its bytes, besides what the system takes, and for files a search
 /// through what was taken and left before; to replace one may wait for ten seconds.

@@ -104,7 +104,8 @@ where
         let _ = fs::remove_file(rt, new.as_path());
     }
     let replaced = moved?;
-    // The file is replaced, and stays so whether or not the system brings its folder to the disk now.
+    // The file is replaced, and stays so whether or not the system brings its folder to the disk
+    // now.
     let _ = folder.sync_all();
     match replaced {
         // The old file stands on under another name.

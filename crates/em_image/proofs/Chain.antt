@@ -1,5 +1,5 @@
--- Nodes one after the other: reading them takes the text of the entries that were read, each behind the one before and in
--- a directory read before; and the text of such entries is read again.
+-- Nodes one after the other: reading them takes the text of the entries that were read, each behind
+-- the one before and in a directory read before; and the text of such entries is read again.
 use Rattle.std.proofs.Common.{◌≡◌, ℕ, zero, suc, ◌+◌, ◌≤◌, Bool, true, false, cond, not, ◌⊎◌, inl, inr, List, [], ◌∷◌, ◌++◌, length, Option, Result, Ok, Err, refl, sym, ap, subst, ◌∙◌, append_assoc, arith}
 use Rattle.std.specs.List.{flat_map}
 use Rattle.std.specs.FinMap.{insert}

@@ -1,4 +1,5 @@
--- Numbers and paths: what a part takes from the input is the text that was written, and what was written is read again.
+-- Numbers and paths: what a part takes from the input is the text that was written, and what was
+-- written is read again.
 use Rattle.std.proofs.Common.{◌≡◌, ◌≢◌, ℕ, suc, ◌+◌, ◌^◌, ◌<◌, ◌≤◌, Bool, true, false, cond, not, eqb, nat_lt, List, [], ◌∷◌, ◌++◌, length, get_or, take, drop, Result, Ok, Err, refl, sym, ap, subst, ◌∙◌, arith, rules, drop-cons, decimal}
 use Rattle.std.specs.Char.{is_ascii_digit}
 use Rattle.std.specs.List.{list_all, prefix_len, position_or_len, flat_map, AllByRecursion}

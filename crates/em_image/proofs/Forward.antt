@@ -1,5 +1,5 @@
--- Reading goes forward: what a part leaves stands behind where it began, and the place of its fault is a byte of the input,
--- or the input's end where it is short.
+-- Reading goes forward: what a part leaves stands behind where it began, and the place of its fault
+-- is a byte of the input, or the input's end where it is short.
 use Rattle.std.proofs.Common.{◌≡◌, ℕ, zero, suc, ◌+◌, ◌-◌, ◌<◌, ◌≤◌, Bool, true, false, cond, not, ◌||◌, eqb, nat_lt, List, [], ◌∷◌, length, take, drop, codes, Option, Some, None, Result, Ok, Err, refl, sym, ap, subst, ◌∙◌, arith}
 use Rattle.std.specs.Str.{bytes_eq}
 use Rattle.std.specs.Char.{is_ascii_digit}

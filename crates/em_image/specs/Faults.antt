@@ -6,8 +6,8 @@ use Rattle.em_image.specs.declared.no.Which.TheVariants as which
 use Rattle.em_image.specs.declared.no.ImageNo.{ImageNo}
 use Rattle.em_image.specs.declared.no.ImageNo.TheVariants as no
 
--- Short is told at the end of the input, any other fault at one of its bytes. That the input is too long, or that memory
--- ran out, isn't found by reading it.
+-- Short is told at the end of the input, any other fault at one of its bytes. That the input is too
+-- long, or that memory ran out, isn't found by reading it.
 abbrev pub FaultFits : ℕ → ImageNo → Type 0
 FaultFits end (no.Form at) = at < end
 FaultFits end (no.Number at) = at < end

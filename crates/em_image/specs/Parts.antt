@@ -1,5 +1,6 @@
--- The parts of an image, each read from the left: what it gives and where it ends, or its first fault with its place.
--- A part in which the input ends is Short at the end of the input, before any other fault of that part.
+-- The parts of an image, each read from the left: what it gives and where it ends, or its first
+-- fault with its place. A part in which the input ends is Short at the end of the input, before any
+-- other fault of that part.
 --     Here                     where reading stands; IsAt says that it stands so in the input
 --     fixed_at b, text_at bs   one byte, several bytes that have to stand there
 --     until_at p               the bytes up to the first that passes p

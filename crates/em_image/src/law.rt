@@ -13,7 +13,8 @@ pub fn one_tree_of_a_text()
     ensures { (bytes : List ℕ) → HasOneTree bytes }
 {}
 
-/// Short is told at the text's end, an image that is too long at the limit, and any other fault at a byte of the text.
+/// Short is told at the text's end, an image that is too long at the limit, and any other fault at
+/// a byte of the text.
 pub fn faults_have_places()
     ensures within { (bytes : List ℕ) (e : ImageNo) → length bytes ≤ limits.image
         → reading limits bytes ≡ Err e
@@ -22,8 +23,8 @@ pub fn faults_have_places()
         → reading limits bytes ≡ Err (no.Limit which.Image limits.image) }
 {}
 
-/// When bytes are added behind a text, its fault stays, unless it is Short, and a text that was whole has the fault Rest
-/// at its former end.
+/// When bytes are added behind a text, its fault stays, unless it is Short, and a text that was
+/// whole has the fault Rest at its former end.
 pub fn faults_stay()
     ensures fault { (bytes more : List ℕ) (e : ImageNo) → length (bytes ++ more) ≤ limits.image
         → reading limits bytes ≡ Err e → stays e ≡ true → reading limits (bytes ++ more) ≡ Err e }

@@ -23,7 +23,8 @@ pub enum Which {
     Stamp,
 }
 
-/// The first fault of an image, with its place: an offset in bytes. A refusal to write has the place 0.
+/// The first fault of an image, with its place: an offset in bytes. A refusal to write has the
+/// place 0.
 #[derive(Clone, Copy, Debug, PartialEq, Eq, Error)]
 pub enum ImageNo {
     /// A fixed byte isn't there. The place is that byte.
@@ -38,8 +39,8 @@ pub enum ImageNo {
     /// A path isn't greater than the path before. The place is its first byte.
     #[error("Order at byte {at}")]
     Order { at: u32 },
-    /// A path's parent is no directory that was read before, or the first node isn't the directory `/`. The place is
-    /// the path's first byte.
+    /// A path's parent is no directory that was read before, or the first node isn't the directory
+    /// `/`. The place is the path's first byte.
     #[error("Parent at byte {at}")]
     Parent { at: u32 },
     /// The input ends inside a part. The place is the input's length.
@@ -48,8 +49,8 @@ pub enum ImageNo {
     /// Bytes stand behind the end line. The place is the first of them.
     #[error("Rest at byte {at}")]
     Rest { at: u32 },
-    /// Something is above its limit. The place is 67,108,864 for the image, the letter of the first node too many, or
-    /// the number.
+    /// Something is above its limit. The place is 67,108,864 for the image, the letter of the first
+    /// node too many, or the number.
     #[error("Limit({which}) at byte {at}")]
     Limit { which: Which, at: u32 },
     /// Memory ran out.

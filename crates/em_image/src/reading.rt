@@ -46,7 +46,8 @@ fn root<'a>(input: &Bytes, cursor: Cursor<'a>) -> Result<(u64, Cursor<'a>), Imag
     Ok((header.stamp, after))
 }
 
-/// Takes of a file its bytes and a newline, and of a directory nothing. The body shares the input's bytes.
+/// Takes of a file its bytes and a newline, and of a directory nothing. The body shares the input's
+/// bytes.
 #[tactic(auto, unfolding(crate::specs::Reading::body_at))]
 fn body<'a>(
     input: &Bytes,
@@ -70,7 +71,8 @@ fn body<'a>(
     Ok((Node::File { body, stamp }, after))
 }
 
-/// The parent of a path, where it is a directory of the tree. No search where it is `home`, which is one.
+/// The parent of a path, where it is a directory of the tree. No search where it is `home`, which
+/// is one.
 fn parent_in(alloc: Global, tree: &Tree, home: &Path, path: &Path) -> Result<Option<Path>, NoMemory>
     requires { has_dir tree.now (Some home.now) ≡ true }
     ensures { IfOk result
@@ -187,8 +189,9 @@ fn whole(alloc: Global, input: &Bytes) -> Result<Tree, ImageNo>
     Ok(tree)
 }
 
-/// The tree whose text this is. The first fault from the left is the error; what each is and its place is said at `ImageNo`.
-/// The bytes are copied once, and the tree's paths and bodies share them. `read_text` copies none.
+/// The tree whose text this is. The first fault from the left is the error; what each is and its
+/// place is said at `ImageNo`. The bytes are copied once, and the tree's paths and bodies share
+/// them. `read_text` copies none.
 pub fn read_image(alloc: Global, bytes: &[u8]) -> Result<Tree, ImageNo>
     // The bytes are the tree's text, and the tree breaks no limit.
     ensures found { IfOk result (λ t. IsImage bytes.now t × (broken limits t ≡ None)) }
@@ -207,8 +210,8 @@ pub fn read_image(alloc: Global, bytes: &[u8]) -> Result<Tree, ImageNo>
     whole(alloc, &Bytes::copy_from_slice(alloc, bytes)?)
 }
 
-/// The tree whose text this is, as `read_image`. No byte is copied: the tree's paths and bodies share the text's, which
-/// stay as long as one of them does.
+/// The tree whose text this is, as `read_image`. No byte is copied: the tree's paths and bodies
+/// share the text's, which stay as long as one of them does.
 pub fn read_text(alloc: Global, text: Text) -> Result<Tree, ImageNo>
     ensures found { IfOk result (λ t. IsImage text t × (broken limits t ≡ None)) }
     ensures only { (t : Table) → IsImage text t → broken limits t ≡ None

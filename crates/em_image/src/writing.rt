@@ -73,8 +73,8 @@ fn left_behind(room: usize, path: &Path, node: &Node) -> Option<usize>
     }
 }
 
-/// What is asked of all nodes: how many bytes the text may still have, whether a file is too big, and whether a stamp is too
-/// late.
+/// What is asked of all nodes: how many bytes the text may still have, whether a file is too big,
+/// and whether a stamp is too late.
 struct Measure {
     room: usize,
     has_big_file: bool,
@@ -163,9 +163,9 @@ fn text_of(alloc: Global, tree: &Tree, length: usize) -> Result<Text, NoMemory>
     Ok(out)
 }
 
-/// The text of the tree. `Limit` comes exactly where the tree breaks a limit, of several the first of image, nodes, file and
-/// stamp, with the place 0, and before memory is asked for. Each file's bytes are appended once, to memory that is asked
-/// for once.
+/// The text of the tree. `Limit` comes exactly where the tree breaks a limit, of several the first
+/// of image, nodes, file and stamp, with the place 0, and before memory is asked for. Each file's
+/// bytes are appended once, to memory that is asked for once.
 pub fn write_image(alloc: Global, tree: &Tree) -> Result<Text, ImageNo>
     // What is written is the tree's text, and the tree breaks no limit. So it is read again.
     ensures written { IfOk result

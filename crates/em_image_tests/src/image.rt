@@ -152,7 +152,8 @@ fn a_byte_of_zeros_is_refused_or_kept(rt: HostRuntime) {
     }
 }
 
-/// The text of an image with the root and a directory below it for each number from `first` up to `past`.
+/// The text of an image with the root and a directory below it for each number from `first` up to
+/// `past`.
 fn directories(alloc: Global, first: u32, past: u32) -> Result<String, AllocError> {
     let mut text = String::from_str(alloc, "EMTREE 1\nd 0 /\n")?;
     for i in first..past {

@@ -7,7 +7,8 @@ use em_tree::{
 use std::alloc::{AllocError, Global};
 use std::test::Fail;
 
-/// Lays a delta that puts a node at an absent path of a directory that is there, and else does nothing.
+/// Lays a delta that puts a node at an absent path of a directory that is there, and else does
+/// nothing.
 fn lay_new(tree: &mut Tree, alloc: Global, p: Path, n: Node) -> Result<(), NoMemory> {
     let Ok(Some(above)) = p.parent(alloc) else {
         return Ok(());
@@ -38,7 +39,8 @@ fn take_out(tree: &mut Tree, alloc: Global, p: Path) -> Result<(), NoMemory> {
     }
 }
 
-/// A tree of a directory `/d` with files whose names sort around the slash, and one below a directory.
+/// A tree of a directory `/d` with files whose names sort around the slash, and one below a
+/// directory.
 fn sample(alloc: Global) -> Result<Tree, Fail> {
     let mut tree = Tree::new(alloc, 1)?;
     for (text, stamp) in [(b"/d".as_slice(), 2), (b"/d/a".as_slice(), 3)] {

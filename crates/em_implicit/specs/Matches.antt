@@ -18,7 +18,8 @@ is_slash b = b == 47
 abbrev pub behind : List ℕ → ℕ
 behind name = suffix_len (λ b. not (is_slash b)) name
 
--- where the part begins that is matched: behind the last slash, where the pattern has no slash itself
+-- where the part begins that is matched: behind the last slash, where the pattern has no slash
+-- itself
 abbrev pub match_start : List ℕ → List ℕ → ℕ
 match_start pattern target = if list_any is_slash pattern then 0 else length target - behind target
 

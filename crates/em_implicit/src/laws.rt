@@ -5,8 +5,9 @@ ghost use Rattle.em_tree.specs.Trees.{Table};
 ghost use Rattle.em_implicit.specs.declared.seek.Found.{Found};
 ghost use Rattle.em_implicit.specs.Implicit.{found, offered};
 
-/// The rule that is chosen matches and applies with its stem; of all that do its stem is the shortest, and of those with a stem as
-/// short it is the first. None is chosen only where none matches and applies.
+/// The rule that is chosen matches and applies with its stem; of all that do its stem is the
+/// shortest, and of those with a stem as short it is the first. None is chosen only where none
+/// matches and applies.
 pub fn law_found()
     ensures chosen { (rules patterns : List Rule) (tree : Table) (cwd target : List ℕ) (f : Found)
         → found rules patterns tree cwd target ≡ Some f

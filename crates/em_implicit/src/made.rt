@@ -15,7 +15,8 @@ pub struct Prerequisites {
     pub order: Seq<Text>,
 }
 
-/// The name that a prerequisite pattern is for a match, as it is known. The directory is put before it where it has a `%`.
+/// The name that a prerequisite pattern is for a match, as it is known. The directory is put before
+/// it where it has a `%`.
 pub(crate) fn made(alloc: Global, found: Match<'_>, pattern: &[u8]) -> Result<Text, NoMemory>
     ensures { IfOk result (λ t. t ≡ made found.entry.dir.now found.entry.stem.now pattern.now) }
 {
@@ -39,8 +40,8 @@ fn made_all(alloc: Global, found: Match<'_>, patterns: &[Text]) -> Result<Seq<Te
     Ok(names)
 }
 
-/// The prerequisites that a pattern rule makes for a target, in the rule's order and as they are known; none where the target
-/// doesn't match. Three copies of each name.
+/// The prerequisites that a pattern rule makes for a target, in the rule's order and as they are
+/// known; none where the target doesn't match. Three copies of each name.
 pub fn prerequisites_of(
     alloc: Global,
     rule: &Rule,

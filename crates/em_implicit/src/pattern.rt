@@ -35,8 +35,9 @@ fn filled_stem<'a>(pattern: &[u8], word: &'a [u8]) -> Option<&'a [u8]>
     if found.is_empty() { None } else { Some(found) }
 }
 
-/// How a target matches a target pattern; `None` exactly where it doesn't. A pattern without a slash is matched against what
-/// stands behind the target's last slash, and its `%` stands for at least one byte.
+/// How a target matches a target pattern; `None` exactly where it doesn't. A pattern without a
+/// slash is matched against what stands behind the target's last slash, and its `%` stands for at
+/// least one byte.
 fn matched<'a>(pattern: &[u8], target: &'a [u8]) -> Option<Match<'a>>
     ensures parts { option_map (λ m. (m.dir.now, m.stem.now)) result
         ≡ match_of pattern.now target.now }
@@ -53,7 +54,8 @@ fn matched<'a>(pattern: &[u8], target: &'a [u8]) -> Option<Match<'a>>
     Some(Match { dir, stem })
 }
 
-/// How a target matches the first target pattern of a rule that it matches; `None` exactly where it matches none.
+/// How a target matches the first target pattern of a rule that it matches; `None` exactly where it
+/// matches none.
 pub fn rule_match<'a>(rule: &Rule, target: &'a [u8]) -> Option<Match<'a>>
     ensures first { option_map (λ m. (m.dir.now, m.stem.now)) result
         ≡ rule_match rule.now target.now }

@@ -17,7 +17,8 @@ use std::alloc::Global;
 pub struct Found {
     /// Its place among the pattern rules, counted from 0.
     pub rule: usize,
-    /// What the `%` of its target pattern stands for, with the target's directory before it where the pattern has no slash.
+    /// What the `%` of its target pattern stands for, with the target's directory before it where
+    /// the pattern has no slash.
     pub stem: Text,
 }
 
@@ -68,12 +69,13 @@ impl Known<'_> {
     }
 }
 
-/// The pattern rule by which a target is remade: of those that match and whose prerequisites for it all exist in the tree, read
-/// against the working directory, or are mentioned as a target or an explicit prerequisite, the one with the shortest stem, and
-/// of these the first. `None` comes exactly where there is none, and then also where memory is short if no rule matches.
+/// The pattern rule by which a target is remade: of those that match and whose prerequisites for it
+/// all exist in the tree, read against the working directory, or are mentioned as a target or an
+/// explicit prerequisite, the one with the shortest stem, and of these the first. `None` comes
+/// exactly where there is none, and then also where memory is short if no rule matches.
 ///
-/// A comparison with each pattern rule, and for each one that matches with a shorter stem than the best so far one search for each
-/// prerequisite.
+/// A comparison with each pattern rule, and for each one that matches with a shorter stem than the
+/// best so far one search for each prerequisite.
 pub fn find(
     alloc: Global,
     book: &Book,

@@ -18,7 +18,8 @@ pub(crate) struct Known<'a> {
     pub cwd: &'a Path,
 }
 
-/// Whether something stands at the name in the tree: the one place where this is asked. A name that is no path is absent.
+/// Whether something stands at the name in the tree: the one place where this is asked. A name that
+/// is no path is absent.
 fn exists(alloc: Global, tree: &Tree, cwd: &Path, name: &[u8]) -> Result<bool, NoMemory>
     ensures { IfOk result (λ b. b ≡ exists tree.now cwd.now name.now) }
 {

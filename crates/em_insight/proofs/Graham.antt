@@ -1,4 +1,5 @@
--- Graham's bound on list scheduling. The time that agents have been idle up to a moment grows only while some chain of waits runs.
+-- Graham's bound on list scheduling. The time that agents have been idle up to a moment grows only
+-- while some chain of waits runs.
 use Rattle.std.proofs.Common.{◌≡◌, ◌≢◌, ℕ, zero, suc, ◌+◌, ◌-◌, ◌*◌, ◌<◌, ◌≤◌, ◌==◌, true, false, cond, ◌⊎◌, inl, inr, List, [], ◌∷◌, ◌++◌, length, get_or, refl, sym, ap, subst, ◌∙◌, arith, append_assoc, append-nil}
 use Rattle.std.specs.Prelude.{max}
 use Rattle.std.proofs.Math.Nat.{mul-le-mul_left}

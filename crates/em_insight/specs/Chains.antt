@@ -9,7 +9,8 @@ use Rattle.em_insight.specs.declared.data.Chain.{Chain}
 use Rattle.em_insight.specs.Each.{Each, Any}
 use Rattle.em_insight.specs.Jobs.{fuel_at, waits_at}
 
--- one list of numbers comes before the other: at the first place where they differ, or where one ends, it is less or has ended
+-- one list of numbers comes before the other: at the first place where they differ, or where one
+-- ends, it is less or has ended
 abbrev pub is_before : List ℕ → List ℕ → Bool
 is_before xs [] = false
 is_before [] (y ∷ ys) = true
@@ -30,7 +31,8 @@ module _ (ls : List ReportLine) where
     pub chain : IsChain c.jobs
     pub fuel : weight c.jobs ≡ c.fuel
     pub count : length c.ends ≡ length ls
-    -- a chain that ends with a job weighs no more than this, by those that end with what it waited for
+    -- a chain that ends with a job weighs no more than this, by those that end with what it waited
+    -- for
     pub ends : (j : ℕ) → j < length ls → (fuel_at ls j ≤ get_or c.ends j 0) × Each (λ w. fuel_at ls j + get_or c.ends w 0 ≤ get_or c.ends j 0) (waits_at ls j)
     pub top : (j : ℕ) → get_or c.ends j 0 ≤ c.fuel
 

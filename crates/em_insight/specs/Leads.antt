@@ -1,4 +1,5 @@
--- The leader of some jobs: the greatest of their weights, and the least job that has it, unless that weight is 0.
+-- The leader of some jobs: the greatest of their weights, and the least job that has it, unless
+-- that weight is 0.
 use Rattle.std.specs.Prelude.{ℕ, ◌==◌, nat_lt, ◌&&◌, Option, Some, None, if◌then◌else◌}
 use Rattle.em_insight.specs.declared.lead.Lead.{Lead}
 

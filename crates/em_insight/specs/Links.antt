@@ -1,4 +1,5 @@
--- How a critical path is found: for each job the heaviest chain that ends with it, by the leader of what it waited for.
+-- How a critical path is found: for each job the heaviest chain that ends with it, by the leader of
+-- what it waited for.
 --     IsLead es M l              l is the leader of the jobs that M holds of, whose weights are es
 --     Linked ls n es before      of each of the first n jobs the weight, and the job before it in such a chain
 --     IsWalk before last js      js are the jobs from the last on, each behind the next

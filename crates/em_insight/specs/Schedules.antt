@@ -41,7 +41,8 @@ module _ (ls : List ReportLine) where
     pub waits : Each (λ s. Each (HasEnded ss s.start) (waits_at ls s.job)) ss
     pub apart : AllApart ss
 
-  -- behind the slots `past` the slot s may start: its job hasn't, all that it waits for has ended, and the agent is free
+  -- behind the slots `past` the slot s may start: its job hasn't, all that it waits for has ended,
+  -- and the agent is free
   pub record CanStart (n : ℕ) (past : List Slot) (s : Slot) : Type 0 where
     pub known : (s.job < length ls) × (s.agent < n)
     pub fresh : Each (λ p. p.job ≢ s.job) past

@@ -1,4 +1,5 @@
--- A schedule on its way: what its slots, the agents and the places of the jobs have to do with one another.
+-- A schedule on its way: what its slots, the agents and the places of the jobs have to do with one
+-- another.
 use Rattle.std.specs.Prelude.{◌≡◌, ℕ, ◌<◌, ◌≤◌, ◌⊎◌, List, [], length, get_or, slice_get, Some}
 use Rattle.em_report.specs.declared.report.ReportLine.{ReportLine}
 use Rattle.em_insight.specs.declared.data.Slot.{Slot}

@@ -102,7 +102,8 @@ hand_over j autos p env name v = do
   t ← handed_text j autos p v
   done (put env name (simple v t))
 
--- whether a shell gets a variable of makefiles: an automatic one of its name hides it, and isn't handed over itself
+-- whether a shell gets a variable of makefiles: an automatic one of its name hides it, and isn't
+-- handed over itself
 abbrev pub is_given : Autos → List ℕ → Var → Bool
 is_given autos name v = is_handed v && not (is_some (own_text autos name))
 

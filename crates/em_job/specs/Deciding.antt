@@ -1,4 +1,5 @@
--- Whether a job remakes its target: what it asks of its prerequisites' jobs and of stamps, and what follows from that.
+-- Whether a job remakes its target: what it asks of its prerequisites' jobs and of stamps, and what
+-- follows from that.
 --     prerequisites j         the outcomes of the prerequisites' jobs, normal ones and then order-only ones, all of them
 --     stamp_of cwd name       the stamp of what the name says; a name that is no path is absent and isn't asked
 --     newer_among ..          the normal prerequisites that make remaking due
@@ -31,7 +32,8 @@ goes_on (Some outcome.Counted) = true
 goes_on (Some outcome.Made) = true
 goes_on _ = false
 
--- those that make remaking due by themselves: one that counts as updated, and under `-n` one whose recipe would have run
+-- those that make remaking due by themselves: one that counts as updated, and under `-n` one whose
+-- recipe would have run
 abbrev pub is_renewed : Bool → Option Outcome → Bool
 is_renewed dry (Some outcome.Counted) = true
 is_renewed dry (Some outcome.Made) = dry

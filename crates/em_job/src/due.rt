@@ -103,7 +103,8 @@ fn both(a: bool, b: bool) -> bool
     a && b
 }
 
-/// The normal prerequisites, once their jobs have ended, and whether the job goes on with all of them.
+/// The normal prerequisites, once their jobs have ended, and whether the job goes on with all of
+/// them.
 fn await_normal<V: View>(
     alloc: Global,
     desk: &mut Desk<V>,

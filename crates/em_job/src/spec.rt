@@ -15,8 +15,8 @@ use std::alloc::Global;
 use std::marker::Model;
 use std::sync::Arc;
 
-/// A job whose `base` is at most 2^62 and whose fuel is at most 1,000,000 units. Copies share it, in any threads. Contracts see the
-/// job.
+/// A job whose `base` is at most 2^62 and whose fuel is at most 1,000,000 units. Copies share it,
+/// in any threads. Contracts see the job.
 #[derive(Drop)]
 pub struct JobSpec {
     held: Arc<Job, Global>,

@@ -1,4 +1,5 @@
-//! Jobs that one worker has run ahead, each behind those that it waits for and those that it reads from.
+//! Jobs that one worker has run ahead, each behind those that it waits for and those that it reads
+//! from.
 use super::makefiles::{HIDDEN, Jobs, read_jobs, state_of};
 use em_base::Seq;
 use em_engine::Note;

@@ -1,4 +1,5 @@
-//! The tests of the jobs of a makefile: over a view whose answers change, run ahead by one worker, and built by several.
+//! The tests of the jobs of a makefile: over a view whose answers change, run ahead by one worker,
+//! and built by several.
 #![tactic(auto)]
 
 #[cfg(test)]

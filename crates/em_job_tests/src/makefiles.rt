@@ -22,7 +22,8 @@ pub(super) struct Jobs {
     pub(super) waits: Seq<Seq<u32>>,
 }
 
-/// Two jobs, of which the second reads what the first makes and doesn't say so, and one that waits for both.
+/// Two jobs, of which the second reads what the first makes and doesn't say so, and one that waits
+/// for both.
 pub(super) const HIDDEN: &str =
     "EMTREE 1\nd 5 /\nf 5 42 /Makefile\nall: gen use\ngen:\n\techo 1 > g\nuse:\n\tcat g\n\n.\n";
 

@@ -31,7 +31,8 @@ const MAKEFILES: [&str; 9] = [
 /// What may stand below the root, in the order of an image.
 const NAMES: [&str; 8] = ["a.c", "b", "b.c", "c", "d", "d/x", "g", "t"];
 
-/// What stands at the name of this place in the state of this number: 0 nothing, 1 a file that holds the number, 2 a directory.
+/// What stands at the name of this place in the state of this number: 0 nothing, 1 a file that
+/// holds the number, 2 a directory.
 fn kind_at(number: usize, at: usize) -> usize {
     let turned = number.saturating_mul(at);
     (number / at.saturating_add(1)).saturating_add(turned) % 3
@@ -96,8 +97,8 @@ fn agrees(alloc: Global, state: &State, usage: &[Entry]) -> Result<bool, Fail> {
     Ok(true)
 }
 
-/// Whether a front of the makefile's job on this state finds that the run is what it would be, and whether the state agrees
-/// with all of the run's usage.
+/// Whether a front of the makefile's job on this state finds that the run is what it would be, and
+/// whether the state agrees with all of the run's usage.
 fn found(
     alloc: Global,
     makefile: &str,
@@ -116,7 +117,8 @@ fn found(
     }
 }
 
-/// Whether the run is found right on some of the fifty states: it is on exactly those that agree with its usage.
+/// Whether the run is found right on some of the fifty states: it is on exactly those that agree
+/// with its usage.
 fn same_on<R: Abort>(
     rt: &R,
     alloc: Global,
@@ -149,7 +151,8 @@ fn try_pace<R: Abort>(rt: &R, alloc: Global, image: &str, pace: usize) -> Result
     Ok(())
 }
 
-/// Runs the makefile's job over a view that doesn't change, one that goes through the states in order, and one in another order.
+/// Runs the makefile's job over a view that doesn't change, one that goes through the states in
+/// order, and one in another order.
 fn try_paces<R: Abort>(rt: &R, alloc: Global, makefile: &str) -> Result<(), Fail> {
     let image = project(alloc, makefile)?;
     for pace in [0, 1, 7] {

@@ -116,7 +116,8 @@ fn a_job_tells_what_it_was_told(rt: HostRuntime) -> Result<(), Fail> {
     Ok(())
 }
 
-/// What a front that stands on this state finds of the run, where the board has answered its first `count` asks.
+/// What a front that stands on this state finds of the run, where the board has answered its first
+/// `count` asks.
 fn found(
     alloc: Global,
     image: &str,

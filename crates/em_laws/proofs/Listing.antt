@@ -1,4 +1,5 @@
--- The names of a directory under a job's own changes: all that stands right below it has its name among them, and each is a component.
+-- The names of a directory under a job's own changes: all that stands right below it has its name
+-- among them, and each is a component.
 use Rattle.std.proofs.Common.{◌≡◌, ◌≢◌, ℕ, Bool, true, false, cond, ◌||◌, List, [], ◌∷◌, Option, Some, None, ◌⊎◌, inl, inr, refl, sym, ap, ◌∙◌}
 use Rattle.std.proofs.lemmas.Bool.{and_from}
 use Rattle.std.proofs.lemmas.Slice.Eq.{bytes_eq-Decides}

@@ -15,7 +15,8 @@ use Rattle.em_glob.specs.Patterns.{Matches, pieces, is_pattern, bytes_of}
 use Rattle.em_pathname.specs.Walking.{name_below}
 use Rattle.em_laws.specs.Joined.{BeginsOtherwise}
 
--- the names in a directory: a directory that the job made has those that are told of its path, or none, and then its own
+-- the names in a directory: a directory that the job made has those that are told of its path, or
+-- none, and then its own
 abbrev pub names_by : Option (Option Node) → State → Changes → List ℕ → Option (List (List ℕ))
 names_by (Some n) s d p = if is_dir n then Some (with_own d p (unwrap_or (names_of s.tree p) [])) else None
 names_by None s d p = option_map (with_own d p) (names_of s.tree p)
@@ -33,13 +34,14 @@ IsThere s d p = kind_of (get (laid_over d s.tree) p) ≢ kind.Absent
 abbrev pub IsShown : List Glyph → List ℕ → Type 0
 IsShown c n = BeginsOtherwise 46 n ⊎ ((g : Glyph) × (gs : List Glyph) × (c ≡ g ∷ gs) × (g.byte ≡ 46))
 
--- what a component stands for in the directory at a path: where it is a pattern, a name in it that matches, else its own bytes, where
--- something is there
+-- what a component stands for in the directory at a path: where it is a pattern, a name in it that
+-- matches, else its own bytes, where something is there
 abbrev pub Suits : Bool → State → Changes → List ℕ → List Glyph → List ℕ → List ℕ → Type 0
 Suits true s d dir c n path = IsNamed s d dir n × IsShown c n × Matches (pieces c) n
 Suits false s d dir c n path = (n ≡ bytes_of c) × IsThere s d path
 
--- from a name and its path the components lead to another name, each by a name below the one before, which is a path
+-- from a name and its path the components lead to another name, each by a name below the one
+-- before, which is a path
 abbrev pub Leads : State → Changes → List ℕ → List ℕ → List ℕ → List (List Glyph) → List ℕ → Type 0
 Leads s d cwd name path [] end = end ≡ name
 Leads s d cwd name path (c ∷ cs) end =

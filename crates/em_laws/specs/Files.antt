@@ -1,4 +1,5 @@
--- Words of the laws on file utilities: what they come to, from a workspace on a state. An operand is its name with its path.
+-- Words of the laws on file utilities: what they come to, from a workspace on a state. An operand
+-- is its name with its path.
 use Rattle.std.specs.Prelude.{◌≡◌, ◌≢◌, ◌≤◌, ◌++◌, All, ℕ, Bool, true, List, Result, Option, Some, None, if◌then◌else◌}
 use Rattle.std.specs.FinMap.{get}
 use Rattle.em_tree.specs.declared.state.State.{State}
@@ -72,7 +73,8 @@ abbrev pub target : State → Workspace → List ℕ → List ℕ → List ℕ �
 target s w cwd from to =
     target_of (kind_of (get (tree_seen s w) (resolved_text cwd to))) (name_kept from (last_of (resolved_text cwd from))) (resolved_text cwd to)
 
--- what stood at p and below it stands at q and below it, beside what stood only there; the rest is as it was
+-- what stood at p and below it stands at q and below it, beside what stood only there; the rest is
+-- as it was
 pub record IsCopied (before after : Table) (p q : List ℕ) : Type 0 where
   pub copied : (rel : List (List ℕ)) → All IsComponent rel → kind_of (get before (under p rel)) ≢ kind.Absent →
       AreAlike (get before (under p rel)) (get after (under q rel))

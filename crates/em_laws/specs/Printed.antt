@@ -1,10 +1,12 @@
--- Words of the laws on `printf`: a format, its words and what is written, put together from the same pieces.
+-- Words of the laws on `printf`: a format, its words and what is written, put together from the
+-- same pieces.
 use Rattle.std.specs.Prelude.{◌≡◌, ◌≢◌, ℕ, ℤ, List, [], ◌∷◌, count_by, codes, Option, Some, Result, Ok, Err}
 use Rattle.std.specs.Fmt.{signed_decimal}
 use Rattle.em_lineutil.specs.declared.format.Part.{Part}
 use Rattle.em_lineutil.specs.Formats.{number_of, takes, format_of, printed, faults}
 
--- a byte as it is, `%%`, `\n`, `\t` and `\\`, a word at `%s`, and at `%d` a word with the number that it writes
+-- a byte as it is, `%%`, `\n`, `\t` and `\\`, a word at `%s`, and at `%d` a word with the number
+-- that it writes
 pub data Piece : Type 0 where
   Plain : ℕ → Piece
   Percent : Piece
@@ -42,7 +44,8 @@ in_output Backslash = 92 ∷ []
 in_output (Word w) = w
 in_output (Number w z) = signed_decimal z
 
--- what a format writes of words, and which of them should be numbers and aren't; a directive that is refused
+-- what a format writes of words, and which of them should be numbers and aren't; a directive that
+-- is refused
 abbrev pub output_by : Result (List Part) (Option ℕ) → List (List ℕ) → Result (List ℕ × List (List ℕ)) (Option ℕ)
 output_by (Ok ps) ws = Ok (printed ps ws, faults ps ws)
 output_by (Err byte) ws = Err byte

@@ -4,7 +4,8 @@ ghost use Rattle.em_lines.specs.Comments.{bare};
 ghost use Rattle.em_laws.specs.References.{HasNo, NeverCloses, PairsOff};
 ghost use Rattle.em_laws.specs.Expansions.{EndsOtherwise};
 
-/// A comment begins at the first `#` that stands outside references and has no backslash right before it; `\#` is a `#`. All else stays.
+/// A comment begins at the first `#` that stands outside references and has no backslash right
+/// before it; `\#` is a `#`. All else stays.
 pub fn law_comment()
     ensures none { (text : List ℕ) → HasNo 35 text → bare text ≡ text }
     ensures begins { (front rest : List ℕ) → HasNo 35 front → HasNo 36 front

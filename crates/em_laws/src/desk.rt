@@ -1,4 +1,5 @@
-//! What the changes of a desk do to the tree that a job sees, on a state: each function's contract is the law, and its body is empty.
+//! What the changes of a desk do to the tree that a job sees, on a state: each function's contract
+//! is the law, and its body is empty.
 ghost use Rattle.std.specs.Prelude.{◌≡◌, ◌≢◌, ℕ, List, Ok, Some, None};
 ghost use Rattle.std.specs.FinMap.{get};
 ghost use Rattle.em_tree.specs.declared.node.Kind.TheVariants as kinds;
@@ -8,8 +9,8 @@ ghost use Rattle.em_view.specs.Actions.{Workspace, snapshot};
 ghost use Rattle.em_view.specs.Rows.{put, place, make_dir, remove, touch};
 ghost use Rattle.em_laws.specs.Nodes.{tree_seen, AreAlike, OthersStay};
 
-/// A file that is put has these bytes, and where it is placed this stamp; it takes the place of a file or of nothing. Nothing else
-/// changes but the stamp of its directory.
+/// A file that is put has these bytes, and where it is placed this stamp; it takes the place of a
+/// file or of nothing. Nothing else changes but the stamp of its directory.
 pub fn law_put()
     ensures bytes { (s : State) (w : Workspace) (p bytes : List ℕ)
         → (put p bytes (snapshot s) w).0 ≡ Ok tt
@@ -27,7 +28,8 @@ pub fn law_put()
         → OthersStay p (tree_seen s w) (tree_seen s (place p bytes stamp (snapshot s) w).1) }
 {}
 
-/// A directory that is made wasn't there, and is; nothing else changes but the stamp of the one above.
+/// A directory that is made wasn't there, and is; nothing else changes but the stamp of the one
+/// above.
 pub fn law_make()
     ensures made { (s : State) (w : Workspace) (p : List ℕ)
         → (make_dir p (snapshot s) w).0 ≡ Ok tt

@@ -1,4 +1,5 @@
-//! What the shell's expansions make of texts: each function's contract is the law, and its body is empty but where it cites another law.
+//! What the shell's expansions make of texts: each function's contract is the law, and its body is
+//! empty but where it cites another law.
 ghost use Rattle.std.specs.Prelude.{
   ◌≡◌,
   ◌<◌,
@@ -41,8 +42,9 @@ ghost use Rattle.em_laws.specs.Expansions.{
   longer,
 };
 
-/// A space, a tab or a newline that isn't quoted parts fields; what has none of them is one field, with its quoting, and where nothing
-/// stands there is none. A quoted text that is empty is a field.
+/// A space, a tab or a newline that isn't quoted parts fields; what has none of them is one field,
+/// with its quoting, and where nothing stands there is none. A quoted text that is empty is a
+/// field.
 pub fn law_split()
     ensures parted { (ps qs : List Part) (b : ℕ) → IsSpace b
         → fields (ps ++ open_byte b ∷ qs) ≡ fields ps ++ fields qs }
@@ -60,8 +62,8 @@ pub fn law_newlines()
         → without_newlines (text ++ replicate n 10) ≡ text }
 {}
 
-/// `%` and `%%` take the shortest and the longest part at the end that matches off a text, `#` and `##` at the begin; where
-/// no part matches the text stays.
+/// `%` and `%%` take the shortest and the longest part at the end that matches off a text, `#` and
+/// `##` at the begin; where no part matches the text stays.
 pub fn law_cut()
     ensures short_end { (pattern : List Glyph) (text : List ℕ)
         → IsWithoutEnd shorter pattern text (cut_off ShortSuffix pattern text) }
@@ -103,8 +105,8 @@ pub fn law_forms()
         → form_of name (codes "##") true ≡ Some (forms.Cut LongPrefix) }
 {}
 
-/// The value of a form at a variable that has a text, that is empty, and that is unset: its text, nothing, or (`None`) what is
-/// made of the word.
+/// The value of a form at a variable that has a text, that is empty, and that is unset: its text,
+/// nothing, or (`None`) what is made of the word.
 pub fn law_values()
     ensures default_colon { (b status : ℕ) (bs : List ℕ)
         → (early_value (forms.Default true) (Some (b ∷ bs)) status ≡ Some (b ∷ bs))

@@ -40,8 +40,9 @@ ghost use Rattle.em_laws.specs.Printed.{
   how_many_taken,
 };
 
-/// Bytes stand for themselves, `%%` for `%`, `\n`, `\t` and `\\` for a newline, a tab and a `\`; each `%s` is the next word, each `%d`
-/// the number that the next word writes. Another letter behind a `%` is refused, and so is a `%` at the end.
+/// Bytes stand for themselves, `%%` for `%`, `\n`, `\t` and `\\` for a newline, a tab and a `\`;
+/// each `%s` is the next word, each `%d` the number that the next word writes. Another letter
+/// behind a `%` is refused, and so is a `%` at the end.
 pub fn law_format()
     ensures written { (pieces : List Piece) → All IsPiece pieces
         → output (flat_map in_format pieces) (flat_map as_words pieces)
@@ -53,8 +54,8 @@ pub fn law_format()
         → output (flat_map in_format pieces ++ 37 ∷ []) ws ≡ Err None }
 {}
 
-/// The format is used again as long as words are left; one that takes none is used once, whatever words there are. Where a
-/// word is missing, `%s` is as of an empty one, and `%d` as of `0`.
+/// The format is used again as long as words are left; one that takes none is used once, whatever
+/// words there are. Where a word is missing, `%s` is as of an empty one, and `%d` as of `0`.
 pub fn law_again()
     ensures again { (ps : List Part) (now more : List (List ℕ))
         → length now ≡ how_many_taken ps → now ≢ [] → more ≢ []
@@ -71,7 +72,8 @@ pub fn law_again()
         ≡ printed (ps ++ parts.Number ∷ qs) (ws ++ (codes "0") ∷ []) }
 {}
 
-/// A number is a sign or none and digits, 18 at most; zeros may stand before it. A word that is one has nothing else.
+/// A number is a sign or none and digits, 18 at most; zeros may stand before it. A word that is one
+/// has nothing else.
 pub fn law_number()
     ensures plain { (n zeros : ℕ) → n < 10 ^ 18 → zeros + length (decimal n) ≤ 18
         → number_of (replicate zeros 48 ++ decimal n) ≡ Some (pos n) }

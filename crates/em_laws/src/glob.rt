@@ -13,8 +13,8 @@ ghost use Rattle.em_laws.specs.Patterns.{
   IsClosed,
 };
 
-/// The empty pattern matches the empty name alone, `*` each name, `?` each of one byte, a glyph that is quoted its byte alone,
-/// and so does one that isn't `*`, `?` or `[`.
+/// The empty pattern matches the empty name alone, `*` each name, `?` each of one byte, a glyph
+/// that is quoted its byte alone, and so does one that isn't `*`, `?` or `[`.
 pub fn law_one()
     ensures empty { (name : List ℕ) → Matches (pieces []) name ↔ (name ≡ []) }
     ensures star { (name : List ℕ) → Matches (pieces (bare 42 ∷ [])) name }
@@ -26,7 +26,8 @@ pub fn law_one()
         → Matches (pieces (g ∷ [])) name ↔ (name ≡ g.byte ∷ []) }
 {}
 
-/// `[..]` matches one byte that is listed, or within a range, its two ends among it; `[!..]` one byte that isn't.
+/// `[..]` matches one byte that is listed, or within a range, its two ends among it; `[!..]` one
+/// byte that isn't.
 pub fn law_set()
     ensures listed { (list : List Glyph) (name : List ℕ) → IsPlainList list
         → Matches (pieces (in_brackets list)) name ↔ ((b : ℕ) × (name ≡ b ∷ []) × Lists list b) }
@@ -42,7 +43,8 @@ pub fn law_unended()
         ↔ ((rest : List ℕ) × (name ≡ 91 ∷ rest) × Matches (pieces gs) rest) }
 {}
 
-/// A pattern in which each `[` has its `]`, and another behind it, match the names that are put together from one of each.
+/// A pattern in which each `[` has its `]`, and another behind it, match the names that are put
+/// together from one of each.
 pub fn law_put_together()
     ensures { (xs ys : List Glyph) (name : List ℕ) → IsClosed xs
         → Matches (pieces (xs ++ ys)) name ↔ ((front : List ℕ) × (rest : List ℕ)

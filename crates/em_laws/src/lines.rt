@@ -15,8 +15,9 @@ ghost use Rattle.em_laws.specs.Joined.{
   IsShort,
 };
 
-/// A line that doesn't end with a backslash is a logical line, and those behind it are one further down. What stands behind the last
-/// newline is a line where it isn't empty. One that begins with a tab is of a recipe, and loses it. One that is too long ends all.
+/// A line that doesn't end with a backslash is a logical line, and those behind it are one further
+/// down. What stands behind the last newline is a line where it isn't empty. One that begins with a
+/// tab is of a recipe, and loses it. One that is too long ends all.
 pub fn law_line()
     ensures none { (file : List ℕ) → joined file [] ≡ nothing }
     ensures line { (file row rest : List ℕ) → HasNo 10 row → EndsOtherwise 92 row
@@ -36,7 +37,8 @@ pub fn law_line()
         ≡ record { lines = []; too_long = Some (first_place file) } }
 {}
 
-/// A backslash at a line's end joins it with the next one: outside recipes the two and the blanks round them are one space.
+/// A backslash at a line's end joins it with the next one: outside recipes the two and the blanks
+/// round them are one space.
 pub fn law_continued()
     ensures joined { (file row rest : List ℕ) (l : Line) (ls : List Line) → HasNo 10 row
         → BeginsOtherwise 9 row → (joined file rest).lines ≡ l ∷ ls → l.tab ≡ false

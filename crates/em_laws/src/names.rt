@@ -5,7 +5,8 @@ ghost use Rattle.em_namefn.specs.Names.{file_of, dir_of, suffix_of, base_of, pai
 ghost use Rattle.em_namefn.specs.Functions.{name_function};
 ghost use Rattle.em_laws.specs.References.{HasNo};
 
-/// `notdir` is what stands behind the last slash, and `dir` what stands up to it; a name without one is in `./`.
+/// `notdir` is what stands behind the last slash, and `dir` what stands up to it; a name without
+/// one is in `./`.
 pub fn law_slash()
     ensures file { (front file : List ℕ) → HasNo 47 file → file_of (front ++ 47 ∷ file) ≡ file }
     ensures dir { (front file : List ℕ) → HasNo 47 file
@@ -14,8 +15,8 @@ pub fn law_slash()
     ensures here { (file : List ℕ) → HasNo 47 file → dir_of file ≡ codes "./" }
 {}
 
-/// `suffix` is what stands from the last dot on, where no slash stands behind it, and `basename` what stands in front of that; else
-/// there is no suffix, and `basename` is the name.
+/// `suffix` is what stands from the last dot on, where no slash stands behind it, and `basename`
+/// what stands in front of that; else there is no suffix, and `basename` is the name.
 pub fn law_dot()
     ensures suffix { (front end : List ℕ) → HasNo 46 end → HasNo 47 end
         → suffix_of (front ++ 46 ∷ end) ≡ 46 ∷ end }

@@ -1,4 +1,5 @@
-//! Pathname expansion: each function's contract is the law, and its body is empty but where it cites another law.
+//! Pathname expansion: each function's contract is the law, and its body is empty but where it
+//! cites another law.
 ghost use Rattle.std.specs.Prelude.{◌≡◌, ◌≢◌, ◌↔◌, ◌++◌, ◌∷◌, [], All, Contains, ℕ, List, Ok};
 ghost use Rattle.std.specs.List.Sorted.{IsStrictlySortedBy};
 ghost use Rattle.std.specs.Ordering.{nat_cmp};
@@ -9,8 +10,8 @@ ghost use Rattle.em_glob.specs.declared.glyph.Glyph.{Glyph};
 ghost use Rattle.em_pathname.specs.Walking.{components, name_below, matching_names};
 ghost use Rattle.em_laws.specs.Expanded.{Begins, Leads};
 
-/// On a state the names that a pattern gives stand in byte order, once each; each matches component by component what is there, and
-/// each such name is given.
+/// On a state the names that a pattern gives stand in byte order, once each; each matches component
+/// by component what is there, and each such name is given.
 pub fn law_names()
     ensures order { (s : State) (w : Workspace) (cwd : List ℕ) (gs : List Glyph)
         (out : List (List ℕ)) → (matching_names cwd gs (snapshot s) w).0 ≡ Ok out
@@ -32,7 +33,8 @@ pub fn law_components()
     ensures none { components [] ≡ [] }
 {}
 
-/// A name below another stands behind it and a slash; below the root behind a slash, and below the working directory alone.
+/// A name below another stands behind it and a slash; below the root behind a slash, and below the
+/// working directory alone.
 pub fn law_below()
     ensures here { (n : List ℕ) → name_below [] n ≡ n }
     ensures root { (n : List ℕ) → name_below (47 ∷ []) n ≡ 47 ∷ n }

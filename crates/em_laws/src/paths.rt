@@ -1,11 +1,12 @@
-//! The utilities `basename` and `dirname`: each function's contract is the law, and its body is empty.
+//! The utilities `basename` and `dirname`: each function's contract is the law, and its body is
+//! empty.
 ghost use Rattle.std.specs.Prelude.{◌≡◌, ◌≢◌, ◌++◌, ◌∷◌, [], ℕ, List, replicate};
 ghost use Rattle.em_lineutil.specs.Names.{base_name, without_suffix, dir_name};
 ghost use Rattle.em_laws.specs.References.{HasNo};
 ghost use Rattle.em_laws.specs.Expansions.{EndsOtherwise};
 
-/// `basename` gives the last part of a name, without the slashes at its end; of slashes alone one, of the empty name nothing. A suffix
-/// is taken off where something is left.
+/// `basename` gives the last part of a name, without the slashes at its end; of slashes alone one,
+/// of the empty name nothing. A suffix is taken off where something is left.
 pub fn law_basename()
     ensures below { (front name : List ℕ) (n : ℕ) → name ≢ [] → HasNo 47 name
         → base_name ((front ++ 47 ∷ name) ++ replicate n 47) ≡ name }
@@ -20,7 +21,8 @@ pub fn law_basename()
         → without_suffix suffix name ≡ name }
 {}
 
-/// `dirname` gives what stands before the last part, without the slashes at its end: `.` where no slash does, and `/` where nothing else does.
+/// `dirname` gives what stands before the last part, without the slashes at its end: `.` where no
+/// slash does, and `/` where nothing else does.
 pub fn law_dirname()
     ensures below { (front name : List ℕ) (m n : ℕ) → front ≢ [] → EndsOtherwise 47 front
         → name ≢ [] → HasNo 47 name

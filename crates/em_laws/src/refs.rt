@@ -13,16 +13,17 @@ ghost use Rattle.em_laws.specs.References.{
   PairsOff,
 };
 
-/// The longest text without a `$` that comes first is one part, and the empty text has none: so a literal part is never empty, holds
-/// no `$`, and has no other one beside it.
+/// The longest text without a `$` that comes first is one part, and the empty text has none: so a
+/// literal part is never empty, holds no `$`, and has no other one beside it.
 pub fn law_plain()
     ensures some { (b : ℕ) (bs rest : List ℕ) → HasNo 36 (b ∷ bs) → Ends rest
         → reading ((b ∷ bs) ++ rest) ≡ behind (Plain (b ∷ bs)) (reading rest) }
     ensures empty { reading [] ≡ ([], []) }
 {}
 
-/// `$$` is a `$`; a `$` and another byte that is no bracket refer to the name of this byte; in brackets the name goes up to the
-/// bracket that pairs off, and brackets of the other kind are ordinary.
+/// `$$` is a `$`; a `$` and another byte that is no bracket refer to the name of this byte; in
+/// brackets the name goes up to the bracket that pairs off, and brackets of the other kind are
+/// ordinary.
 pub fn law_reference()
     ensures sign { (rest : List ℕ) → reading (36 ∷ 36 ∷ rest) ≡ behind Sign (reading rest) }
     ensures letter { (b : ℕ) (rest : List ℕ) → b ≢ 36 → b ≢ 40 → b ≢ 123

@@ -36,8 +36,8 @@ ghost use Rattle.em_laws.specs.Tested.{
   IsNoComparison,
 };
 
-/// A word is true where it isn't empty, and so is `-n`; `-z` where it is. `=` is true of one text twice, `!=` of two different ones,
-/// also where one of them looks like an operator.
+/// A word is true where it isn't empty, and so is `-n`; `-z` where it is. `=` is true of one text
+/// twice, `!=` of two different ones, also where one of them looks like an operator.
 pub fn law_texts()
     ensures empty { Leaves ([] ∷ []) no × Leaves (codes "-n" ∷ [] ∷ []) no
         × Leaves (codes "-z" ∷ [] ∷ []) yes }
@@ -59,8 +59,9 @@ pub fn law_numbers()
         → y <ℤ x → Compare a b no yes no no yes yes }
 {}
 
-/// On a state `-e` is true of what is there, `-f` of a file, `-d` of a directory, `-s` of a file that isn't empty; `-nt` where both are
-/// there and the first has the greater stamp, `-ot` the second.
+/// On a state `-e` is true of what is there, `-f` of a file, `-d` of a directory, `-s` of a file
+/// that isn't empty; `-nt` where both are there and the first has the greater stamp, `-ot` the
+/// second.
 pub fn law_files()
     ensures exists { (s : State) (w : Workspace) (cwd name : List ℕ) → read_fault cwd name ≡ None
         → Finds s w cwd (codes "-e" ∷ name ∷ [])

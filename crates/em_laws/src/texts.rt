@@ -1,4 +1,5 @@
-//! What utilities make of texts: each function's contract is the law, and its body is empty but where it cites another law.
+//! What utilities make of texts: each function's contract is the law, and its body is empty but
+//! where it cites another law.
 ghost use Rattle.std.specs.Prelude.{
   ◌≡◌,
   ◌≢◌,
@@ -53,7 +54,8 @@ ghost use Rattle.em_laws.specs.Rows.{
   on_output,
 };
 
-/// `head -n N` gives the first N lines, and all where there are no more; a last line without a newline is one too.
+/// `head -n N` gives the first N lines, and all where there are no more; a last line without a
+/// newline is one too.
 pub fn law_head()
     ensures first { (rows : List (List ℕ)) (rest : List ℕ) → AreRows rows
         → head (length rows) (text_of rows ++ rest) ≡ text_of rows }
@@ -74,7 +76,8 @@ pub fn law_tail()
         → length rows < n → tail n (text_of rows ++ last) ≡ text_of rows ++ last }
 {}
 
-/// `wc` counts newlines, words, which stand between spaces, tabs and newlines, and bytes, and writes them in this order.
+/// `wc` counts newlines, words, which stand between spaces, tabs and newlines, and bytes, and
+/// writes them in this order.
 pub fn law_count()
     ensures lines { (rows : List (List ℕ)) (last : List ℕ) → AreRows rows → HasNo 10 last
         → line_count (text_of rows ++ last) ≡ length rows }
@@ -92,8 +95,8 @@ pub fn law_count()
         ≡ decimal (word_count text) ++ 10 ∷ [] }
 {}
 
-/// `sort` gives the lines of all texts in byte order, each as often as it stands there, with `-u` once each, with `-r` from the
-/// last on; a last line without a newline is as with one.
+/// `sort` gives the lines of all texts in byte order, each as often as it stands there, with `-u`
+/// once each, with `-r` from the last on; a last line without a newline is as with one.
 pub fn law_sort()
     ensures sorted { (texts : List (List (List ℕ))) → All AreRows texts
         → (out : List (List ℕ)) × IsPermutation (flat_map (λ rows. rows) texts) out
@@ -123,7 +126,8 @@ pub fn law_uniq()
         ≡ flat_map (λ r. in_seven (decimal r.1) ++ (32 ∷ ended r.0)) runs }
 {}
 
-/// `grep -F` gives the lines that hold the text, with `-x` those that are it, with `-v` the others; a newline isn't of its line.
+/// `grep -F` gives the lines that hold the text, with `-x` those that are it, with `-v` the others;
+/// a newline isn't of its line.
 pub fn law_grep()
     ensures none { (s : Search) (p : List ℕ) → selected s p [] ≡ [] }
     ensures taken { (s : Search) (p row rest : List ℕ) → HasNo 10 row → IsWanted s p row
@@ -136,8 +140,9 @@ pub fn law_grep()
         → ¬ IsWanted s p (b ∷ bs) → selected s p (b ∷ bs) ≡ [] }
 {}
 
-/// `grep` has the status 0 where a line of some file was selected, 1 where none was, and 2 where a file couldn't be read. With `-q` it
-/// writes nothing, with `-c` how many lines of a file are selected, behind its name where there are several files.
+/// `grep` has the status 0 where a line of some file was selected, 1 where none was, and 2 where a
+/// file couldn't be read. With `-q` it writes nothing, with `-c` how many lines of a file are
+/// selected, behind its name where there are several files.
 pub fn law_grep_end()
     ensures some { (g : Grep) (before after : List (List ℕ × List ℕ)) (name text : List ℕ)
         → selected g.search g.pattern text ≢ []
@@ -158,7 +163,8 @@ pub fn law_grep_end()
         ++ 58 ∷ decimal (length (selected g.search g.pattern f.1)) ++ 10 ∷ [])) files }
 {}
 
-/// `cmp` tells the first byte that differs and its line, both counted from 1, or the text that is a front of the other.
+/// `cmp` tells the first byte that differs and its line, both counted from 1, or the text that is a
+/// front of the other.
 pub fn law_cmp()
     ensures same { (a : List ℕ) → comparison a a ≡ Same }
     ensures differ { (front a b : List ℕ) (x y : ℕ) → x ≢ y

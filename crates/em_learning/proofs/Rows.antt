@@ -1,4 +1,5 @@
--- The waits of a job: what the plan and the history say, sorted, are those below it that are needed.
+-- The waits of a job: what the plan and the history say, sorted, are those below it that are
+-- needed.
 --     waits_are, waits_none       with a history, and without
 use Rattle.std.proofs.Common.{◌≡◌, ℕ, zero, suc, ◌+◌, ◌<◌, ◌&&◌, ◌||◌, Bool, true, false, nat_eq, nat_lt, List, [], ◌∷◌, ◌++◌, length, map, slice_get, Option, Some, None, All, arith, refl, sym, ap, subst, ◌∙◌, eqb-true}
 use Rattle.std.specs.Prelude.{IfSome}

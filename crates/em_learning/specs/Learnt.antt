@@ -1,4 +1,5 @@
--- What a build has shown: a job that was run again since an earlier job changed what it had asked needs that job's target.
+-- What a build has shown: a job that was run again since an earlier job changed what it had asked
+-- needs that job's target.
 --     learnt jobs notes      the pairs that the notes show and that can stand in a history
 use Rattle.std.specs.Prelude.{ℕ, List, Option, Some, None, slice_get, filter_map}
 use Rattle.std.specs.Option.{option_and_then}

@@ -1,4 +1,5 @@
-//! What builds learn and tell: the waits that a history adds to a plan, the pairs that a build has shown, and its report.
+//! What builds learn and tell: the waits that a history adds to a plan, the pairs that a build has
+//! shown, and its report.
 #![tactic(auto)]
 
 pub mod laws;

@@ -46,8 +46,9 @@ fn add(
     Ok(())
 }
 
-/// A pair for each note that says which job had changed what the note's job asked: the targets of both, where they can stand in a history.
-/// Linear in the notes and in the names that are copied, and the pairs are sorted.
+/// A pair for each note that says which job had changed what the note's job asked: the targets of
+/// both, where they can stand in a history. Linear in the notes and in the names that are copied,
+/// and the pairs are sorted.
 pub fn learnt(alloc: Global, jobs: &[PlanJob], notes: &[Note]) -> Result<History, NoMemory>
     ensures { IfOk result (λ h. h ≡ shown.learnt jobs.now notes.now) }
 {

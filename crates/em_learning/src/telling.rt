@@ -41,8 +41,9 @@ fn line_of(
     })
 }
 
-/// The report of a build: a line for each note, in order, with the target of its job, the jobs that this waited for, and the fuel that its
-/// committed run took. Linear in the waits and in the targets, which are copied.
+/// The report of a build: a line for each note, in order, with the target of its job, the jobs that
+/// this waited for, and the fuel that its committed run took. Linear in the waits and in the
+/// targets, which are copied.
 pub fn report_of(
     alloc: Global,
     jobs: &[PlanJob],

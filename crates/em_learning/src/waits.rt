@@ -97,8 +97,9 @@ fn all_rising(alloc: Global, waits: Vec<Seq<u32>>) -> Result<Seq<Seq<u32>>, NoMe
     Ok(risen)
 }
 
-/// Of each job, in rising order, the jobs below it that it waits for by the plan, or whose target the history pairs with its own. A search by
-/// name for each name of the history, and n log n for the n waits of each job; linear where the history is empty.
+/// Of each job, in rising order, the jobs below it that it waits for by the plan, or whose target
+/// the history pairs with its own. A search by name for each name of the history, and n log n for
+/// the n waits of each job; linear where the history is empty.
 pub fn waits_with(
     alloc: Global,
     history: &History,

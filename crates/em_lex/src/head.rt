@@ -93,7 +93,8 @@ impl Lexer {
         self.emit(to, to, What::WordEnd)
     }
 
-    /// Puts what stands behind a `>&` at `at`, which is a compound command's or not: a descriptor, or `-`, or a word.
+    /// Puts what stands behind a `>&` at `at`, which is a compound command's or not: a descriptor,
+    /// or `-`, or a word.
     #[tactic(auto, unfolding(crate::specs::Heads::duplicated))]
     fn put_duplicate(
         &mut self,

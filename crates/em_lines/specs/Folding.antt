@@ -1,4 +1,5 @@
--- Lines of recipes that go on: a backslash and a newline stay, but within a reference, where they are a blank as outside of recipes.
+-- Lines of recipes that go on: a backslash and a newline stay, but within a reference, where they
+-- are a blank as outside of recipes.
 --     folded bytes              each backslash-newline, with the blanks round it, as one space
 --     folded_references text    a line with its references so; what isn't closed is no reference
 use Rattle.std.specs.Prelude.{ℕ, List, [], ◌∷◌, ◌++◌, Option, Some, None, if◌then◌else◌}

@@ -1,4 +1,5 @@
--- How the lines of a file become logical lines: a backslash at a line's end joins it with the next one.
+-- How the lines of a file become logical lines: a backslash at a line's end joins it with the next
+-- one.
 --     rows bytes           the lines of the file, without their newlines
 --     grouped rows         those that are joined, together
 --     joined_text group    the text of a logical line
@@ -30,7 +31,8 @@ abbrev pub is_recipe : List (List ℕ) → Bool
 is_recipe ((b ∷ bs) ∷ rows) = b == 9
 is_recipe _ = false
 
--- a recipe keeps its backslashes and newlines; of the lines that are joined to it one tab at the begin is dropped
+-- a recipe keeps its backslashes and newlines; of the lines that are joined to it one tab at the
+-- begin is dropped
 abbrev pub untabbed : List ℕ → List ℕ
 untabbed [] = []
 untabbed (b ∷ bs) = if b == 9 then bs else b ∷ bs

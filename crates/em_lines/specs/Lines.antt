@@ -1,4 +1,5 @@
--- The logical lines of a makefile, each with the place of its first line, up to the first one that is too long.
+-- The logical lines of a makefile, each with the place of its first line, up to the first one that
+-- is too long.
 --     joined file bytes      with their comments
 --     logical file bytes     without
 --     all_lines file bytes   the latter, or the place of the first one that is too long

@@ -11,7 +11,8 @@ use em_base::{NoMemory, Span, Text};
 use em_refs::{Bracket, Part, Parted, parts_before};
 use std::alloc::Global;
 
-/// How many bytes of plain text stand before its comment: all of them where there is none. Steps for each of them.
+/// How many bytes of plain text stand before its comment: all of them where there is none. Steps
+/// for each of them.
 pub fn comment_start(plain: &[u8]) -> usize
     ensures start { result ≡ comments.comment_start plain.now }
     ensures within { result ≤ length plain.now }
@@ -38,8 +39,8 @@ fn add_unescaped(text: &mut Text, plain: &[u8]) -> Result<(), NoMemory>
     Ok(())
 }
 
-/// Appends a reference of the bytes as it was written: `$` and its byte, or its name in its brackets. `span` is that of the byte or the
-/// name. Steps for each byte.
+/// Appends a reference of the bytes as it was written: `$` and its byte, or its name in its
+/// brackets. `span` is that of the byte or the name. Steps for each byte.
 pub fn add_reference(text: &mut Text, bytes: &[u8], span: Span) -> Result<(), NoMemory>
     ensures { OnOk result (text.new ≡ text.old ++ source bytes.now (Ref span)) }
 {
@@ -72,9 +73,9 @@ fn add_part(text: &mut Text, bytes: &[u8], part: Part) -> Result<bool, NoMemory>
     Ok(false)
 }
 
-/// The line without its comment: the first `#` outside references that has no backslash right before it begins one; `\#` is
-/// `#`. A reference stands as it is, also one that isn't closed, with all behind it. Steps for each byte; a line without `#` is
-/// handed back without a copy.
+/// The line without its comment: the first `#` outside references that has no backslash right
+/// before it begins one; `\#` is `#`. A reference stands as it is, also one that isn't closed, with
+/// all behind it. Steps for each byte; a line without `#` is handed back without a copy.
 pub fn bare(alloc: Global, line: Text) -> Result<Text, NoMemory>
     ensures text { IfOk result (λ t. t ≡ comments.bare line) }
     ensures plain { list_any (λ b. b == 35) line ≡ false → result ≡ Ok line }

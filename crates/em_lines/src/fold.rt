@@ -8,8 +8,8 @@ use em_base::{NoMemory, Span, Text};
 use em_refs::{Bracket, Part, Parted, parts_before};
 use std::alloc::Global;
 
-/// A row behind the rows that were joined so far: it is joined with them where they go on; else they
-/// are put to the text.
+/// A row behind the rows that were joined so far: it is joined with them where they go on; else
+/// they are put to the text.
 fn with_row(
     alloc: Global,
     text: &mut Text,
@@ -64,10 +64,10 @@ fn add_part(alloc: Global, text: &mut Text, line: &[u8], part: Part) -> Result<(
     }
 }
 
-/// A line of a recipe as it is kept: within a reference, from its bracket to the one that closes it,
-/// each backslash-newline is one space, with the blanks round it, as in GNU make; elsewhere it stays,
-/// also behind the `$` of a reference that isn't closed. Steps for each byte, which is copied three
-/// times at most.
+/// A line of a recipe as it is kept: within a reference, from its bracket to the one that closes
+/// it, each backslash-newline is one space, with the blanks round it, as in GNU make; elsewhere it
+/// stays, also behind the `$` of a reference that isn't closed. Steps for each byte, which is
+/// copied three times at most.
 pub fn folded_references(alloc: Global, line: &[u8]) -> Result<Text, NoMemory>
     ensures { IfOk result (λ t. t ≡ folding.folded_references line.now) }
 {

@@ -54,7 +54,8 @@ fn untabbed(row: &[u8]) -> &[u8]
     }
 }
 
-/// Joins a line with a text that ends with a backslash, outside recipes: the backslash and the blanks round it become a space.
+/// Joins a line with a text that ends with a backslash, outside recipes: the backslash and the
+/// blanks round it become a space.
 pub(crate) fn splice(text: &mut Vec<u8>, row: &[u8]) -> Result<(), NoMemory>
     ensures { OnOk result (text.new.items
         ≡ trimmed_end (without_last text.old.items) ++ 32 ∷ trimmed_start row.now) }
@@ -75,8 +76,8 @@ fn append(text: &mut Vec<u8>, row: &[u8]) -> Result<(), NoMemory>
     Ok(())
 }
 
-/// The first logical line of the file, with its comment. Steps for each of its bytes; where nothing is joined, its text is
-/// copied once.
+/// The first logical line of the file, with its comment. Steps for each of its bytes; where nothing
+/// is joined, its text is copied once.
 pub(crate) fn first_line<'a>(alloc: Global, bytes: &'a [u8]) -> Result<First<'a>, NoMemory>
     ensures tab { IfOk result (λ l. l.tab ≡ is_recipe (first_group (rows bytes.now))) }
     ensures text { IfOk result (λ l. l.text ≡ joined_text (first_group (rows bytes.now))) }

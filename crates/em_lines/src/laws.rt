@@ -6,7 +6,8 @@ ghost use Rattle.em_lines.specs.Comments.{bare};
 ghost use Rattle.em_lines.specs.Lines.{joined, logical};
 ghost use Rattle.em_lines.specs.Kept.{is_kept, IsComment, bared};
 
-/// Joining loses nothing but blanks, newlines and backslashes: all other bytes of the file stand in the lines, in order.
+/// Joining loses nothing but blanks, newlines and backslashes: all other bytes of the file stand in
+/// the lines, in order.
 pub fn law_joined()
     ensures { (file bytes : List ℕ) → (joined file bytes).too_long ≡ None
         → filter is_kept (flat_map (λ l. l.text) (joined file bytes).lines) ≡ filter is_kept bytes }

@@ -14,11 +14,12 @@ use std::alloc::Global;
 /// How many bytes a logical line can have.
 const LINE_LIMIT: usize = 1_048_576;
 
-/// The logical lines of the file, with their comments, up to the first one whose text is longer than 1,048,576 bytes. A line that
-/// begins with a tab is one of a recipe: its text has no tab at the begin, its backslashes and newlines stay, and one tab behind
-/// each of them is dropped. Elsewhere a backslash at a line's end and the newline, with the blanks round them, are one space. A
-/// last line needs no newline, and a backslash there stays. Steps for each byte; the text of a line is copied once, and so is the
-/// file's name for each line.
+/// The logical lines of the file, with their comments, up to the first one whose text is longer
+/// than 1,048,576 bytes. A line that begins with a tab is one of a recipe: its text has no tab at
+/// the begin, its backslashes and newlines stay, and one tab behind each of them is dropped.
+/// Elsewhere a backslash at a line's end and the newline, with the blanks round them, are one
+/// space. A last line needs no newline, and a backslash there stays. Steps for each byte; the text
+/// of a line is copied once, and so is the file's name for each line.
 pub fn joined(alloc: Global, file: &Text, bytes: &[u8]) -> Result<Lines, NoMemory>
     ensures { IfOk result (λ ls. ls ≡ lines.joined file.now bytes.now) }
 {
@@ -60,9 +61,11 @@ fn without_comment(alloc: Global, line: Line) -> Result<Line, NoMemory>
     Ok(Line { place, tab, text })
 }
 
-/// The logical lines of the file, without the comments of those that aren't of a recipe, up to the first one that is too long with
-/// its comment. Each line is taken by itself: whoever knows that a `#` begins no comment in it (in a rule behind `;`, in the body of a
-/// `define`) goes by `joined` and `bare`. Steps for each byte; the text of a line that has no `#` is copied once, other texts twice.
+/// The logical lines of the file, without the comments of those that aren't of a recipe, up to the
+/// first one that is too long with its comment. Each line is taken by itself: whoever knows that a
+/// `#` begins no comment in it (in a rule behind `;`, in the body of a `define`) goes by `joined`
+/// and `bare`. Steps for each byte; the text of a line that has no `#` is copied once, other texts
+/// twice.
 pub fn logical_before(alloc: Global, file: &Text, bytes: &[u8]) -> Result<Lines, NoMemory>
     ensures { IfOk result (λ ls. ls ≡ lines.logical file.now bytes.now) }
 {
@@ -75,8 +78,8 @@ pub fn logical_before(alloc: Global, file: &Text, bytes: &[u8]) -> Result<Lines,
     Ok(Lines { lines, too_long })
 }
 
-/// The logical lines of the file, as `logical_before` gives them. `TooLong` comes exactly where a joined line is longer than
-/// 1,048,576 bytes, with the place of the first such line.
+/// The logical lines of the file, as `logical_before` gives them. `TooLong` comes exactly where a
+/// joined line is longer than 1,048,576 bytes, with the place of the first such line.
 pub fn logical(alloc: Global, file: &Text, bytes: &[u8]) -> Result<Vec<Line>, LinesNo>
     ensures ok { IfOk result (λ v. all_lines file.now bytes.now ≡ Ok v.items) }
     ensures err { IfErr result

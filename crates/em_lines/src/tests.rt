@@ -87,8 +87,8 @@ fn a_comment_is_cut(rt: HostRuntime) -> Result<(), Fail> {
     Ok(())
 }
 
-/// Each line of a recipe with what is kept of it; those in which all references are closed, and that
-/// have no `$$`, as GNU make 4.3 keeps them.
+/// Each line of a recipe with what is kept of it; those in which all references are closed, and
+/// that have no `$$`, as GNU make 4.3 keeps them.
 #[test]
 fn a_reference_is_one_line(rt: HostRuntime) -> Result<(), Fail> {
     for (line, wanted) in [

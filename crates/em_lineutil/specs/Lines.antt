@@ -1,4 +1,5 @@
--- The lines of a text, `lines_of`: each with its newline; what stands behind the last newline, where anything does, is a line too.
+-- The lines of a text, `lines_of`: each with its newline; what stands behind the last newline,
+-- where anything does, is a line too.
 --     bare l            a line without its newline
 --     head n text       the first n lines
 --     tail n text       the last n lines

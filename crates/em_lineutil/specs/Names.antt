@@ -1,4 +1,5 @@
--- `basename` and `dirname`: the last part of a name, and what stands before it. Slashes at the end aren't looked at.
+-- `basename` and `dirname`: the last part of a name, and what stands before it. Slashes at the end
+-- aren't looked at.
 use Rattle.std.specs.Prelude.{ℕ, ◌-◌, ◌==◌, ◌&&◌, nat_eq, Bool, not, List, [], ◌∷◌, length, take, drop, if◌then◌else◌}
 use Rattle.std.specs.List.{suffix_len, ends_with}
 use Rattle.std.specs.Cmp.Lexicographic.{pointwise}

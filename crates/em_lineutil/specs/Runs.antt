@@ -1,4 +1,5 @@
--- `uniq`: of adjacent lines that are equal but for the newline of the last one, the first, and how many they are.
+-- `uniq`: of adjacent lines that are equal but for the newline of the last one, the first, and how
+-- many they are.
 use Rattle.std.specs.Prelude.{ℕ, ◌+◌, ◌-◌, nat_eq, Bool, List, [], ◌∷◌, ◌++◌, length, decimal, replicate, if◌then◌else◌}
 use Rattle.std.specs.List.{flat_map}
 use Rattle.std.specs.Cmp.Lexicographic.{pointwise}

@@ -1,5 +1,5 @@
-//! Expansions over a small tree, with a few variables. What is expected is a text: the result, or a refusal between `!` and its
-//! name. Values are GNU make's.
+//! Expansions over a small tree, with a few variables. What is expected is a text: the result, or a
+//! refusal between `!` and its name. Values are GNU make's.
 use em_base::{Fuel, NoMemory, Place, Text};
 use em_expand::{ExpandNo, Layers, Spoken, expand};
 use em_path::Path;

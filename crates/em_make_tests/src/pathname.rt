@@ -7,7 +7,8 @@ use em_view::{Desk, PlainView, View};
 use std::alloc::Global;
 use std::test::Fail;
 
-/// A pattern, from which glyph on its glyphs are quoted, the one name that it gives, and how many questions are asked.
+/// A pattern, from which glyph on its glyphs are quoted, the one name that it gives, and how many
+/// questions are asked.
 type Row = (&'static [u8], usize, Option<&'static [u8]>, usize);
 
 static ROWS: [Row; 9] = [

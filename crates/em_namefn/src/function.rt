@@ -61,9 +61,10 @@ fn value(alloc: Global, function: Function, args: &[Text]) -> Result<Text, NoMem
     }
 }
 
-/// What the function of this name gives for these arguments, which are expanded: `dir`, `notdir`, `suffix`, `basename`,
-/// `addsuffix`, `addprefix` and `join`, as GNU make's manual tells them. `None` exactly where none of these has the name. An argument
-/// that isn't there is empty, and one too many is ignored. Steps for each byte of arguments and result.
+/// What the function of this name gives for these arguments, which are expanded: `dir`, `notdir`,
+/// `suffix`, `basename`, `addsuffix`, `addprefix` and `join`, as GNU make's manual tells them.
+/// `None` exactly where none of these has the name. An argument that isn't there is empty, and one
+/// too many is ignored. Steps for each byte of arguments and result.
 pub fn name_function(alloc: Global, name: &[u8], args: &[Text]) -> Result<Option<Text>, NoMemory>
     ensures value { IfOk result (λ t. t ≡ functions.name_function name.now args.now) }
     ensures other { functions.function_of name.now ≡ None → result ≡ Ok None }

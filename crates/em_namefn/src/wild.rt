@@ -54,9 +54,10 @@ fn each_pattern<V: View>(
     Ok(all)
 }
 
-/// `wildcard patterns`: the names in the tree that match, for each word of the patterns in order those that match it in byte order,
-/// joined by single blanks; nothing where none matches. What a word matches and what is asked for it is told at
-/// `em_pathname::matching_names`; nothing in a word is quoted. `File` never comes.
+/// `wildcard patterns`: the names in the tree that match, for each word of the patterns in order
+/// those that match it in byte order, joined by single blanks; nothing where none matches. What a
+/// word matches and what is asked for it is told at `em_pathname::matching_names`; nothing in a
+/// word is quoted. `File` never comes.
 pub fn wildcard<V: View>(
     alloc: Global,
     patterns: &[u8],

@@ -20,7 +20,8 @@ fn step(nest: &mut Nest, line: Line) -> Result<(), CondNo> {
     }
 }
 
-/// The lines one after another on a new nest: the place of the first that doesn't fit, and whether lines are read behind them.
+/// The lines one after another on a new nest: the place of the first that doesn't fit, and whether
+/// lines are read behind them.
 fn read(alloc: Global, lines: &[Line]) -> (Option<usize>, bool) {
     let mut nest = Nest::new(alloc);
     for (at, line) in lines.iter().enumerate() {

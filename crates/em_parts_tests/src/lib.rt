@@ -1,4 +1,4 @@
-//! Tests of small parts: conditionals, generated projects, histories, reports, what is learnt, and what a report says of a build's speed.
+//! Tests of small parts: conditionals, generated projects, histories, reports, what is learnt.
 #![tactic(auto)]
 
 #[cfg(test)]
@@ -7,8 +7,6 @@ mod cond;
 mod generated;
 #[cfg(test)]
 mod history;
-#[cfg(test)]
-mod insight;
 #[cfg(test)]
 mod learning;
 #[cfg(test)]

@@ -1,4 +1,5 @@
-//! The order of texts, by words of eight or four bytes, the last of which may overlap the one before.
+//! The order of texts, by words of eight or four bytes, the last of which may overlap the one
+//! before.
 ghost use Rattle.std.specs.Prelude.{◌≡◌, ◌+◌, ◌≤◌, min, length, take, drop};
 ghost use Rattle.std.specs.Ordering.{nat_cmp};
 ghost use Rattle.std.specs.Cmp.Lexicographic.{slice_cmp};
@@ -38,8 +39,8 @@ fn order_bytes(one: &[u8], other: &[u8]) -> Ordering
     one.cmp(other)
 }
 
-/// How two texts stand of which both have at least four bytes and one at most eight: the first four bytes, then the last
-/// four of the shorter one's length, which may overlap them, then the lengths.
+/// How two texts stand of which both have at least four bytes and one at most eight: the first four
+/// bytes, then the last four of the shorter one's length, which may overlap them, then the lengths.
 fn order_halves(one: &[u8], other: &[u8], both: usize) -> Ordering
     requires four { 4 ≤ both }
     requires eight { both ≤ 8 }
@@ -57,7 +58,8 @@ fn order_halves(one: &[u8], other: &[u8], both: usize) -> Ordering
     one.len().cmp(&other.len())
 }
 
-/// How two texts stand of which both have at least eight bytes: word by word, the last one ending where the shorter text does.
+/// How two texts stand of which both have at least eight bytes: word by word, the last one ending
+/// where the shorter text does.
 fn order_words(one: &[u8], other: &[u8], both: usize) -> Ordering
     requires eight { 8 ≤ both }
     requires both { both ≡ min (length one.now) (length other.now) }

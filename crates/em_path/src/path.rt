@@ -90,8 +90,8 @@ impl Path {
         }
     }
 
-    /// The path that this text spells. `None` comes exactly where it spells none, and then also where memory is short. Steps for
-    /// each byte.
+    /// The path that this text spells. `None` comes exactly where it spells none, and then also
+    /// where memory is short. Steps for each byte.
     pub fn from_text(alloc: Global, text: &[u8]) -> Result<Option<Path>, NoMemory>
         ensures some { IfOk result (λ r. IfSome r (λ p. p ≡ text.now)) }
         ensures none { IfOk result (λ r. IsNone r ↔ (IsPath text.now → ⊥)) }
@@ -136,8 +136,9 @@ impl Path {
         Some(&text[last_slash(text) + 1..])
     }
 
-    /// The path without its last component, over the same bytes; `None` for the root alone. The only error is `NoMemory`, which comes neither for the
-    /// root nor for what stands right under it.
+    /// The path without its last component, over the same bytes; `None` for the root alone. The
+    /// only error is `NoMemory`, which comes neither for the root nor for what stands right under
+    /// it.
     pub fn parent(&self, _alloc: Global) -> Result<Option<Path>, PathNo>
         ensures ok { IfOk result (λ r. r ≡ parent_text self.now) }
         ensures only { IfErr result (λ e. e ≡ PathNo.NoMemory) }
@@ -157,9 +158,9 @@ impl Path {
         Ok(Some(Path { spelled }))
     }
 
-    /// The path that a name says, read against a working directory: repeated and trailing slashes are dropped, `.` and
-    /// `..` are resolved in the text, and `..` at the root is the root. The errors are the first of `PathNo` that applies;
-    /// `TooLong` and `TooDeep` speak of the result.
+    /// The path that a name says, read against a working directory: repeated and trailing slashes
+    /// are dropped, `.` and `..` are resolved in the text, and `..` at the root is the root. The
+    /// errors are the first of `PathNo` that applies; `TooLong` and `TooDeep` speak of the result.
     pub fn read(alloc: Global, cwd: &Path, name: &[u8]) -> Result<Path, PathNo>
         ensures ok { IfOk result (λ p. (read_fault cwd.now name.now ≡ None)
             × (p ≡ resolved_text cwd.now name.now)) }
@@ -192,7 +193,8 @@ impl Path {
         })
     }
 
-    /// The path of one component more. Errors: `TooLong` and `TooDeep`, exactly as the limits say, and `NoMemory`.
+    /// The path of one component more. Errors: `TooLong` and `TooDeep`, exactly as the limits say,
+    /// and `NoMemory`.
     #[tactic(auto, using(crate::proofs::Spelling::child_spelled, crate::proofs::Spelling::child_depth, crate::proofs::Spelling::child_is_path))]
     pub fn child(&self, alloc: Global, name: &[u8]) -> Result<Path, PathNo>
         requires component { IsComponent name.now }

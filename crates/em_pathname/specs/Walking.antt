@@ -1,5 +1,6 @@
--- Pathname expansion: the names in a tree that match a pattern. It goes from component to component, and keeps the names so far.
--- Slashes that are repeated or trailing leave no trace in them, and `.` and `..` are given only where the pattern has them.
+-- Pathname expansion: the names in a tree that match a pattern. It goes from component to
+-- component, and keeps the names so far. Slashes that are repeated or trailing leave no trace in
+-- them, and `.` and `..` are given only where the pattern has them.
 --     components gs              what stands between the slashes of the pattern, without what is empty
 --     start cwd gs               where it begins: at the root, or in the working directory, whose name is empty
 --     search ..                  a component that is a pattern: the directory's names are asked, and those that match are given

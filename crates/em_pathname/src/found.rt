@@ -41,8 +41,8 @@ fn first(alloc: Global, cwd: &Path, slash: bool) -> Result<Found, NoMemory>
     })
 }
 
-/// Where the walk begins: at the root for a pattern that begins with a slash, else in the working directory; nowhere for the empty
-/// pattern.
+/// Where the walk begins: at the root for a pattern that begins with a slash, else in the working
+/// directory; nowhere for the empty pattern.
 pub(crate) fn start(alloc: Global, cwd: &Path, pattern: &[Glyph]) -> Result<Seq<Found>, NoMemory>
     ensures { IfOk result (λ fs. fs ≡ start cwd.now pattern.now) }
 {

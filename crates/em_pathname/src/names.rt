@@ -41,7 +41,8 @@ fn is_hidden(name: &[u8]) -> bool
     name.first().is_some_and(|b| *b == b'.')
 }
 
-/// Whether a name of a directory matches the component: one that begins with a dot only where that begins with one too.
+/// Whether a name of a directory matches the component: one that begins with a dot only where that
+/// begins with one too.
 fn shows(component: &[Glyph], name: &[u8]) -> bool
     ensures { result ≡ shows component.now name.now }
 {

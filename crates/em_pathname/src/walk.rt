@@ -129,12 +129,15 @@ fn walk<V: View>(
     Ok(dirs)
 }
 
-/// The names that match the pattern, in byte order, as the pattern writes them but for repeated and trailing slashes, which are
-/// dropped: below the working directory, or from the root where it begins with `/`; none for the empty pattern. It goes from
-/// component to component. A component with a wildcard (a set with a slash in it is none) asks the names of each directory so far, in order, and goes on with those that match; a name that begins with
-/// a dot matches only a component that begins with one; `.` and `..` are in no directory's names. Another component asks the kind of each name that it gives, and goes on
-/// with those where something is. A name that is no path is dropped and isn't asked. Each question costs what the desk takes for
-/// it. `File` never comes. Steps: for each name that is asked its length, for each that is listed its match.
+/// The names that match the pattern, in byte order, as the pattern writes them but for repeated and
+/// trailing slashes, which are dropped: below the working directory, or from the root where it
+/// begins with `/`; none for the empty pattern. It goes from component to component. A component
+/// with a wildcard (a set with a slash in it is none) asks the names of each directory so far, in
+/// order, and goes on with those that match; a name that begins with a dot matches only a component
+/// that begins with one; `.` and `..` are in no directory's names. Another component asks the kind
+/// of each name that it gives, and goes on with those where something is. A name that is no path is
+/// dropped and isn't asked. Each question costs what the desk takes for it. `File` never comes.
+/// Steps: for each name that is asked its length, for each that is listed its match.
 pub fn matching_names<V: View>(
     alloc: Global,
     pattern: &[Glyph],

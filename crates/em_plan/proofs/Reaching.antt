@@ -165,7 +165,8 @@ module _ (says : List ℕ → Making) where
 abbrev pub targets : List PlanJob → List (List ℕ)
 targets jobs = map (λ (j : PlanJob). j.target) jobs
 
--- names that are told once each are more than the limit, and a set has them that has the stack, the names with a number and this one
+-- names that are told once each are more than the limit, and a set has them that has the stack, the
+-- names with a number and this one
 pub record Overfull (says : List ℕ → Making) (stack : List (List ℕ)) (w : Walked) (Start : (List ℕ → Bool) → Type 0) : Type 0 where
   pub names : List (List ℕ)
   pub once : AreOnce names

@@ -102,7 +102,8 @@ module _ (says : List ℕ → Making) where
       }
       by_case false isnt g = let r = h w v n isnt g in record { kept = r.0; there = λ _. r.1 }
 
-  -- the target's number comes behind what its prerequisites left, of which each has a number or is open; what the walk keeps there holds
+  -- the target's number comes behind what its prerequisites left, of which each has a number or is
+  -- open; what the walk keeps there holds
   pub record Finished (P : Walked → Type 0) (t : List ℕ) (stack : List (List ℕ)) (ns : List Need) (w v : Walked) : Type 0 where
     pub last : Walked
     pub is : v ≡ with_job t stack (says t) last

@@ -1,8 +1,9 @@
--- The serial order: each name that the goals reach, once, behind all its prerequisites that aren't on the walk's stack; goals and
--- prerequisites from left to right.
+-- The serial order: each name that the goals reach, once, behind all its prerequisites that aren't
+-- on the walk's stack; goals and prerequisites from left to right.
 --     visit says left stack w name     what was walked so far, with a name that the walk comes to, and before it all that it needs
 --     visit_all says goals w           the same for each goal
--- `says` tells how a name is made; the stack has the names that are open, the innermost first; `left` is how many more may be open.
+-- `says` tells how a name is made; the stack has the names that are open, the innermost first;
+-- `left` is how many more may be open.
 use Rattle.std.specs.Prelude.{ℕ, zero, suc, ◌+◌, nat_lt, Bool, List, [], ◌∷◌, ◌++◌, length, codes, slice_get, Result, Ok, Err, if◌then◌else◌}
 use Rattle.std.specs.List.{list_any}
 use Rattle.em_plan.specs.declared.making.Need.{Need}

@@ -42,7 +42,8 @@ fn add_once(
     Ok(())
 }
 
-/// The goals' names without the `./` that they begin with, each where it first stands. One search for each.
+/// The goals' names without the `./` that they begin with, each where it first stands. One search
+/// for each.
 pub(crate) fn each_once(alloc: Global, goals: &[Text]) -> Result<Seq<Text>, NoMemory>
     ensures { IfOk result (λ ns. ns ≡ each_once [] goals.now) }
 {

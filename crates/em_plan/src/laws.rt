@@ -16,7 +16,8 @@ ghost use Rattle.em_plan.specs.Serial.{StandsBefore};
 
 use crate::no::PlanNo;
 
-/// In a plan the job of each prerequisite that wasn't dropped stands before the job that needs it, and has the prerequisite's number.
+/// In a plan the job of each prerequisite that wasn't dropped stands before the job that needs it,
+/// and has the prerequisite's number.
 pub fn law_prerequisites_stand_before()
     ensures normal { (says : List ℕ → Making) (goals : List (List ℕ)) (p : Plan)
         → plan_for says goals ≡ Ok p
@@ -48,14 +49,16 @@ pub fn law_once()
         → i < k → a.target ≡ b.target → ⊥ }
 {}
 
-/// Without circles nothing is said: where names can be ranked so that each prerequisite has a lower rank than its target.
+/// Without circles nothing is said: where names can be ranked so that each prerequisite has a lower
+/// rank than its target.
 pub fn law_without_circles()
     ensures { (says : List ℕ → Making) (rank : List ℕ → ℕ)
         → ((n : List ℕ) → All (λ m. rank m.name < rank n) (says n).needs)
         → (goals : List (List ℕ)) (p : Plan) → plan_for says goals ≡ Ok p → p.notes ≡ [] }
 {}
 
-/// What was dropped was on the walk's stack: when a name gets its number, each of its prerequisites has one, or is open.
+/// What was dropped was on the walk's stack: when a name gets its number, each of its prerequisites
+/// has one, or is open.
 pub fn law_dropped()
     ensures { (says : List ℕ → Making) (left : ℕ) (stack : List (List ℕ)) (t : List ℕ)
         (w v : Walked)
@@ -65,15 +68,16 @@ pub fn law_dropped()
         (says t).needs }
 {}
 
-/// A plan has a job for exactly the names that the goals reach: those that are in every set of names that has the goals and, with
-/// a name, what it needs.
+/// A plan has a job for exactly the names that the goals reach: those that are in every set of
+/// names that has the goals and, with a name, what it needs.
 pub fn law_reached()
     ensures { (says : List ℕ → Making) (goals : List (List ℕ)) (p : Plan)
         → plan_for says goals ≡ Ok p
         → (n : List ℕ) → (is_numbered p.jobs n ≡ true) ↔ Reached says (each_once [] goals) n }
 {}
 
-/// A plan has at most 65,536 jobs, and where there are too many, more names than that are reached: here they are, each once.
+/// A plan has at most 65,536 jobs, and where there are too many, more names than that are reached:
+/// here they are, each once.
 pub fn law_limit()
     ensures few { (says : List ℕ → Making) (goals : List (List ℕ)) (p : Plan)
         → plan_for says goals ≡ Ok p

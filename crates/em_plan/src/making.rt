@@ -25,7 +25,8 @@ pub struct Need {
 pub struct Making {
     /// Its prerequisites in the order in which they are visited.
     pub needs: Seq<Need>,
-    /// What `%` stands for, where the recipe is that of a pattern rule or of a static pattern rule; else empty.
+    /// What `%` stands for, where the recipe is that of a pattern rule or of a static pattern rule;
+    /// else empty.
     pub stem: Text,
     pub recipe: Option<Seq<RecipeLine>>,
     /// Whether it has a rule, or a pattern rule applies to it.
@@ -170,7 +171,8 @@ fn with_rule(
     })
 }
 
-/// What makefiles say, and the tree and the working directory by which it is judged whether a name exists.
+/// What makefiles say, and the tree and the working directory by which it is judged whether a name
+/// exists.
 #[derive(Clone, Copy)]
 pub struct Makefile<'a> {
     pub book: &'a Book,
@@ -227,8 +229,9 @@ impl Makefile<'_> {
         self.with_pattern(alloc, found, name, own)
     }
 
-    /// How a name is made. A few searches by name; where the name isn't phony and has no recipe, also a search for a pattern rule.
-    /// Each prerequisite's name and the recipe are copied once (what a pattern rule makes four times).
+    /// How a name is made. A few searches by name; where the name isn't phony and has no recipe,
+    /// also a search for a pattern rule. Each prerequisite's name and the recipe are copied once
+    /// (what a pattern rule makes four times).
     pub(crate) fn making(&self, alloc: Global, name: &[u8]) -> Result<Making, NoMemory>
         ensures exact { IfOk result (λ m. m ≡ says self.now name.now) }
         ensures few { IfOk result (λ m. length m.needs < 2 ^ 64) }

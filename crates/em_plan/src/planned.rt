@@ -34,11 +34,13 @@ impl TryClone for Pre {
 #[derive(Debug, Drop, PartialEq, Eq)]
 pub struct PlanJob {
     pub target: Text,
-    /// The normal prerequisites in order, without those that were dropped; a name that is written twice stands twice.
+    /// The normal prerequisites in order, without those that were dropped; a name that is written
+    /// twice stands twice.
     pub normal: Seq<Pre>,
     /// The order-only ones, likewise.
     pub order: Seq<Pre>,
-    /// What `%` stands for, where the recipe is that of a pattern rule or of a static pattern rule; else empty.
+    /// What `%` stands for, where the recipe is that of a pattern rule or of a static pattern rule;
+    /// else empty.
     pub stem: Text,
     pub recipe: Option<Seq<RecipeLine>>,
     /// Whether the name has a rule, or a pattern rule applies to it.
@@ -82,8 +84,8 @@ impl PlanJob {
     }
 }
 
-/// The jobs in serial order, each with the place at which it stands as its number, the jobs of the goals, and what is said of
-/// prerequisites that were dropped.
+/// The jobs in serial order, each with the place at which it stands as its number, the jobs of the
+/// goals, and what is said of prerequisites that were dropped.
 #[derive(Debug, Drop, PartialEq, Eq)]
 pub struct Plan {
     pub jobs: Seq<PlanJob>,

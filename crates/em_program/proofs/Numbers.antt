@@ -1,4 +1,5 @@
--- How many jobs a plan has, what they wait for, and its specs: as many as it has jobs, each with its number and the order's flags.
+-- How many jobs a plan has, what they wait for, and its specs: as many as it has jobs, each with
+-- its number and the order's flags.
 use Rattle.std.proofs.Common.{◌≡◌, ◌+◌, ◌≤◌, ◌<◌, ℕ, zero, suc, List, [], ◌∷◌, length, Option, Some, None, Ok, refl, ap, subst, arith}
 use Rattle.std.specs.Prelude.{IfSome, All, slice_get, slice_index_or}
 use Rattle.std.specs.List.Sorted.{IsStrictlySortedBy}

@@ -37,7 +37,8 @@ use Rattle.em_program.specs.Messages.{image_line, summary}
 use Rattle.em_program.specs.Projects.{site, project}
 use Rattle.em_program.specs.Serial.{ends}
 
--- the closing text, the new image and the status; an image that breaks a limit isn't written, and its refusal is the last line
+-- the closing text, the new image and the status; an image that breaks a limit isn't written, and
+-- its refusal is the last line
 abbrev pub closed : List ℕ → List ℕ → State → Result (List ℕ) ImageNo → Course Verdict
 closed image text s (Ok bytes) = do
   u ← say text
@@ -85,7 +86,8 @@ module _ (t : Terms) (notes : List Note) where
       if t.order.question then done (status_of true false s.outcomes)
       else replaced t.order.image fuel (closing t.order.silent t.plan s.outcomes early) s
 
--- where the run broke off nothing more is called, and nothing is counted. The verdict isn't looked at: the status is then 3 or 7
+-- where the run broke off nothing more is called, and nothing is counted. The verdict isn't looked
+-- at: the status is then 3 or 7
 abbrev pub broken_off : Course Verdict
 broken_off = done Faulty
 
@@ -127,7 +129,8 @@ pub record IsWhole (p : Project) (made : List Made) (notes : List Note) (f : Fin
   pub jobs : f.jobs ≡ length p.terms.plan.jobs
   pub nodes : f.nodes ≡ len (state_after p.start made).tree
 
--- the jobs that were run have run so in the serial run; unless the run broke off, they are all of it
+-- the jobs that were run have run so in the serial run; unless the run broke off, they are all of
+-- it
 pub record IsBuild (p : Project) (result : Result Finished Stop) (before after : Option Outside) : Type 0 where
   pub made : List Made
   pub notes : List Note
@@ -170,7 +173,8 @@ HasRun made p = Ran Makes ends p.start p.specs made
 abbrev pub HasRunWhole : List Made → Project → Type 0
 HasRunWhole made p = IsSerial Makes ends p.start p.specs made
 
--- each job was run once, or twice and for a cause that is so on the state that the jobs before it left
+-- each job was run once, or twice and for a cause that is so on the state that the jobs before it
+-- left
 abbrev pub HasNotes : List Made → List Note → Project → Type 0
 HasNotes made notes p = AreNotes p.start [] made notes
 
@@ -178,7 +182,8 @@ HasNotes made notes p = AreNotes p.start [] made notes
 abbrev pub IsAlone : List Note → Project → Type 0
 IsAlone notes p = p.terms.order.workers ≡ 1 → All IsOnce notes
 
--- what is so of the jobs that were run and of their notes, where the parts before the build gave a project from these files
+-- what is so of the jobs that were run and of their notes, where the parts before the build gave a
+-- project from these files
 pub record AreSo (s : Site) (files : Files) (made : List Made) (notes : List Note) (result : Result Finished Stop) : Type 0 where
   pub ran : Given s files (HasRun made)
   pub noted : Given s files (HasNotes made notes)
@@ -201,8 +206,8 @@ summed calls t = do
   u ← say (summary t.jobs (length (printed_by calls)) t.nodes (code_of t.verdict))
   done t.verdict
 
--- only the summary is said, with the number of bytes that would be said in a build; or all of them, where they end in a refusal;
--- nothing of a run that broke off
+-- only the summary is said, with the number of bytes that would be said in a build; or all of them,
+-- where they end in a refusal; nothing of a run that broke off
 abbrev pub counted_as : List Call → Result Tally Verdict → Course Verdict
 counted_as calls (Ok t) = if t.whole then summed calls t else done t.verdict
 counted_as calls (Err verdict) = stop (printed_by calls) verdict

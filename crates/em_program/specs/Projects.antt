@@ -1,5 +1,6 @@
--- What there is to build: from the words and the image to the jobs, with what is said on the way. Each part gives what the next one needs, or ends the
--- run with its refusal: nothing is replaced then.
+-- What there is to build: from the words and the image to the jobs, with what is said on the way.
+-- Each part gives what the next one needs, or ends the run with its refusal: nothing is replaced
+-- then.
 --     site words         the order, the tree from which the build starts, and the history
 --     project s          what is built there, in order
 --     project_in words files      both

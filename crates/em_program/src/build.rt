@@ -62,7 +62,8 @@ fn ended<H: Host>(alloc: Global, terms: &Terms, done: &Built, host: &mut H) -> R
     )
 }
 
-/// Builds the project: runs its jobs with the workers of its order, says the closing text and replaces the files.
+/// Builds the project: runs its jobs with the workers of its order, says the closing text and
+/// replaces the files.
 pub fn built<R: Threads + Wait + Sync, W: Work<JobSpec> + Sync, G: Gate + Sync, H: Host>(
     rt: &R,
     alloc: Global,

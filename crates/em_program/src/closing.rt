@@ -113,7 +113,8 @@ fn between(outcomes: &[Outcome], from: usize, to: usize) -> &[Outcome]
     back
 }
 
-/// Appends what is said of the goal with this number, where the jobs from `from` on are first reached through it.
+/// Appends what is said of the goal with this number, where the jobs from `from` on are first
+/// reached through it.
 fn put_goal(
     out: &mut Text,
     silent: bool,
@@ -160,8 +161,8 @@ pub fn closing_text(
 
 // ---- the status
 
-/// The build's status, by its outcomes; `asked` tells that it was only asked whether something is to be made,
-/// and `broken` that the new image breaks a limit.
+/// The build's status, by its outcomes; `asked` tells that it was only asked whether something is
+/// to be made, and `broken` that the new image breaks a limit.
 pub fn status_of(asked: bool, broken: bool, outcomes: &[Outcome]) -> Verdict
     ensures { result ≡ closing.status_of asked broken outcomes.now }
 {

@@ -21,8 +21,8 @@ use std::alloc::Global;
 use std::sync::Wait;
 use std::thread::Threads;
 
-/// What a generated project's build comes to: how many jobs its plan has, how many bytes it would print, how many nodes the
-/// new tree has, and the status.
+/// What a generated project's build comes to: how many jobs its plan has, how many bytes it would
+/// print, how many nodes the new tree has, and the status.
 fn summary(alloc: Global, finished: &Finished, printed: usize) -> Result<Text, NoMemory>
     ensures { IfOk result (λ t. t ≡
         messages.summary finished.now.jobs printed finished.now.nodes
@@ -57,7 +57,8 @@ pub fn work<R: Threads + Wait + Sync, H: Host>(
     built(rt, alloc, project, &work, &OpenGate, host)
 }
 
-/// Builds beside the host, and says only how much there was; where the build is refused, what it said.
+/// Builds beside the host, and says only how much there was; where the build is refused, what it
+/// said.
 pub fn count<R: Threads + Wait + Sync, H: Host>(
     rt: &R,
     alloc: Global,

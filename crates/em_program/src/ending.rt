@@ -148,8 +148,8 @@ fn keep_report<H: Host>(
     }
 }
 
-/// Says the closing text, and replaces the image, the history and the report. Of a generated project, which has no image, nothing is
-/// replaced.
+/// Says the closing text, and replaces the image, the history and the report. Of a generated
+/// project, which has no image, nothing is replaced.
 fn replace_all<H: Host>(
     alloc: Global,
     terms: &Terms,
@@ -178,7 +178,8 @@ fn replace_all<H: Host>(
     }
 }
 
-/// The end of a build: the closing text, and the files that are replaced. Under `-q` there is neither.
+/// The end of a build: the closing text, and the files that are replaced. Under `-q` there is
+/// neither.
 pub fn finish<H: Host>(
     alloc: Global,
     terms: &Terms,

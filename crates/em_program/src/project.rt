@@ -157,8 +157,8 @@ fn assembled(alloc: Global, site: Site, book: &Book, plan: Plan) -> Result<Proje
     })
 }
 
-/// What there is to build at the site. Linear in what is read of makefiles, but for what `read_makefiles`, `plan`, `specs` and
-/// `waits_with` take.
+/// What there is to build at the site. Linear in what is read of makefiles, but for what
+/// `read_makefiles`, `plan`, `specs` and `waits_with` take.
 pub fn project_of<H: Host>(alloc: Global, site: Site, host: &mut H) -> Result<Project, Stop>
     requires { IsSite site }
     ensures told { Follows (projects.project site) result (H.told host.old) (H.told host.new) }

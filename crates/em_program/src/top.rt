@@ -41,11 +41,11 @@ use std::thread::Threads;
 /// How a run ended.
 #[derive(Debug, Drop, PartialEq, Eq)]
 pub struct Ended {
-    /// 0: nothing went wrong. 1: `-q` was given, and something is to be made. 2: a fault. 3: the host failed.
-    /// 4: a construct was refused. 5: fuel was spent. 7: memory ran out.
+    /// 0: nothing went wrong. 1: `-q` was given, and something is to be made. 2: a fault. 3: the
+    /// host failed. 4: a construct was refused. 5: fuel was spent. 7: memory ran out.
     pub status: u8,
-    /// One for each job of the serial run, in order: in how many runs it came to be committed, and why in two.
-    /// None where there is no build, and at 3 and 7.
+    /// One for each job of the serial run, in order: in how many runs it came to be committed, and
+    /// why in two. None where there is no build, and at 3 and 7.
     pub notes: Seq<Note>,
 }
 
@@ -87,23 +87,25 @@ fn notes_in(alloc: Global, answer: Result<Finished, Stop>) -> Seq<Note>
     }
 }
 
-/// Does all that the program does, in this order: reads the words, the image, the history and the makefiles, plans, runs the
-/// jobs, says the closing text and replaces the image, the history and the report. A generated project is built
-/// beside the host: only a summary is said, and nothing is replaced.
+/// Does all that the program does, in this order: reads the words, the image, the history and the
+/// makefiles, plans, runs the jobs, says the closing text and replaces the image, the history and
+/// the report. A generated project is built beside the host: only a summary is said, and nothing is
+/// replaced.
 ///
-/// Over a host that tells its files and what was printed, and with a status other than 3 and 7, the printed
-/// bytes grew by exactly what the serial run says, the image is the serial run's, and so is the status, for every
-/// number of workers that the words order, and whatever the history tells (`law_history`). The history and the report tell the
-/// notes. At 3 and 7 a front of this was done. No other file is touched. Status 3 comes only where a call on the host
-/// failed, and where one failed the status is 3 or 7 and nothing more is called.
+/// Over a host that tells its files and what was printed, and with a status other than 3 and 7, the
+/// printed bytes grew by exactly what the serial run says, the image is the serial run's, and so is
+/// the status, for every number of workers that the words order, and whatever the history tells
+/// (`law_history`). The history and the report tell the notes. At 3 and 7 a front of this was done.
+/// No other file is touched. Status 3 comes only where a call on the host failed, and where one
+/// failed the status is 3 or 7 and nothing more is called.
 ///
-/// Over such a host a job's note has one run, or two and why: its first run was answered otherwise than the serial
-/// run is, isn't what the board was asked, is another job's, or was given up for want of memory. With one worker each
-/// note has one run. With more the call may wait.
+/// Over such a host a job's note has one run, or two and why: its first run was answered otherwise
+/// than the serial run is, isn't what the board was asked, is another job's, or was given up for
+/// want of memory. With one worker each note has one run. With more the call may wait.
 ///
-/// Besides the jobs themselves it takes time linear in the image, in the history, in what is read of makefiles and in the
-/// plan, with searches by name or path for each name and each change, and a sort of the pairs that were learnt; with
-/// more than one worker also what a board takes of them.
+/// Besides the jobs themselves it takes time linear in the image, in the history, in what is read
+/// of makefiles and in the plan, with searches by name or path for each name and each change, and a
+/// sort of the pairs that were learnt; with more than one worker also what a board takes of them.
 pub fn emake<R: Threads + Wait + Sync, H: Host>(
     rt: &R,
     alloc: Global,
@@ -134,7 +136,8 @@ pub fn law_one_build()
     law_one_run::<JobSpec>();
 }
 
-/// Where each job was run once, as with one worker, nothing is learnt, and a history that is merged with what was learnt is as it was.
+/// Where each job was run once, as with one worker, nothing is learnt, and a history that is merged
+/// with what was learnt is as it was.
 pub fn law_alone()
     ensures none { (jobs : List PlanJob) (s : State) (made : List Made) (notes : List Note)
         → AreNotes s [] made notes → All IsOnce notes → shown.learnt jobs notes ≡ [] }
@@ -144,8 +147,8 @@ pub fn law_alone()
     law_one_history();
 }
 
-/// A history changes nothing of what there is to build but what jobs wait for: not what is said on the way, the order, the plan, the jobs
-/// or the tree from which they start.
+/// A history changes nothing of what there is to build but what jobs wait for: not what is said on
+/// the way, the order, the plan, the jobs or the tree from which they start.
 pub fn law_history()
     ensures { (s : Site) (old : List Pair) (files : Files) → IsUntouched s old files }
 {}

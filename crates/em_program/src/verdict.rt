@@ -9,7 +9,8 @@ pub enum Verdict {
     Done,
     /// It was only asked (`-q`), and something is to be made.
     Outdated,
-    /// Something was refused before the build, a line failed, a rule is missing, or the new image breaks a limit.
+    /// Something was refused before the build, a line failed, a rule is missing, or the new image
+    /// breaks a limit.
     Faulty,
     /// A job met a construct that is refused.
     Refused,

@@ -38,8 +38,8 @@ fn unread(alloc: Global) -> Result<Seq<Text>, NoMemory>
     Ok(words)
 }
 
-/// The program's name and the words, as the system gives them. Where they can't be read as a whole, as where one isn't
-/// UTF-8, a word that is no text stands for them.
+/// The program's name and the words, as the system gives them. Where they can't be read as a whole,
+/// as where one isn't UTF-8, a word that is no text stands for them.
 pub fn given_words(alloc: Global, args: io::Result<Args>) -> Result<Seq<Text>, NoMemory>
     ensures words { IfOk result (λ words. drop 1 words ≡ words_of args) }
     ensures memory { IfErr args (λ e. error_kind e ≡ ErrorKind.OutOfMemory → IsErr result) }

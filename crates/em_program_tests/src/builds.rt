@@ -1,7 +1,7 @@
 //! Worked builds: words, the image before, what is printed, the status, and the image after it.
 
-/// Words that blanks part; the image before, or none where it is the one that the build before left; what is
-/// printed; the status; and what becomes of the image.
+/// Words that blanks part; the image before, or none where it is the one that the build before
+/// left; what is printed; the status; and what becomes of the image.
 pub struct Build {
     pub words: &'static str,
     pub before: Option<&'static [u8]>,

@@ -112,8 +112,9 @@ fn no_history_changes_what_is_built(rt: HostRuntime) -> Result<(), Fail> {
 const NEW: &[u8] =
     b"EMTREE 1\nd 1048582 /\nf 5 28 /Makefile\na: b\n\tcp b a\nb:\n\techo x > b\n\nf 1048582 2 /a\nx\n\nf 7 2 /b\nx\n\n.\n";
 
-/// Which call fails, what was printed then, and whether the image and the history were replaced. The calls are: image and
-/// history are taken, two jobs print, image, history and report are replaced.
+/// Which call fails, what was printed then, and whether the image and the history were replaced.
+/// The calls are: image and history are taken, two jobs print, image, history and report are
+/// replaced.
 const FAILING: [(u64, &str, bool, bool); 7] = [
     (0, "", false, false),
     (1, "", false, false),

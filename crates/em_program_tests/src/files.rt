@@ -11,7 +11,8 @@ use std::thread::Threads;
 /// `b` is made, and `a` is a copy of it.
 const COPY: &[u8] = b"EMTREE 1\nd 5 /\nf 5 28 /Makefile\na: b\n\tcp b a\nb:\n\techo x > b\n\n.\n";
 
-/// Words, the image and the history before, which may be absent; what is printed, the status, the history and the report after.
+/// Words, the image and the history before, which may be absent; what is printed, the status, the
+/// history and the report after.
 struct Kept {
     words: &'static str,
     image: &'static [u8],

@@ -98,7 +98,8 @@ fn builds_come_out_as_told(rt: HostRuntime) -> Result<(), Fail> {
     Ok(())
 }
 
-/// Words and an image whose build prints twice, and replaces the image then: takes it, prints, prints, replaces.
+/// Words and an image whose build prints twice, and replaces the image then: takes it, prints,
+/// prints, replaces.
 pub const TWO: (&str, &[u8]) = (
     "-I i a",
     b"EMTREE 1\nd 5 /\nf 5 28 /Makefile\na: b\n\tcp b a\nb:\n\techo x > b\n\n.\n",

@@ -52,8 +52,8 @@ fn is_twice(notes: &[Note]) -> bool {
     notes.iter().any(|note| note.runs == 2)
 }
 
-/// Builds over a host whose prints take long, with 8 workers and a history that pairs `use` with `gen`. Whether a job was run
-/// twice.
+/// Builds over a host whose prints take long, with 8 workers and a history that pairs `use` with
+/// `gen`. Whether a job was run twice.
 fn build_slowly<R: Abort + Threads + Wait + Sync>(
     rt: &R,
     alloc: Global,

@@ -125,12 +125,13 @@ ended text = if goes_on text then text ++ 120 ∷ [] else text
 abbrev pub has_colon : List ℕ → Bool
 has_colon text = list_any (λ b. b == 58) text
 
--- where no colon stands in front of the function, those that are written stand behind it, so what is known are targets
+-- where no colon stands in front of the function, those that are written stand behind it, so what
+-- is known are targets
 abbrev pub known : List ℕ → List ℕ → List ℕ
 known written text = if has_colon text then ended text else ended text ++ colons_in written
 
--- what is refused in the head, from the left; what stands behind a function that is refused isn't known but for its colons, so an
--- assignment counts only where its colon is known
+-- what is refused in the head, from the left; what stands behind a function that is refused isn't
+-- known but for its colons, so an assignment counts only where its colon is known
 abbrev pub refusal_by : Option (List ℕ) → RuleLine → List ℕ → Option (List ℕ)
 refusal_by None l text = refusal_of l.assigns text
 refusal_by (Some name) l text = refusal_of (l.assigns && has_colon text) (known l.head text)

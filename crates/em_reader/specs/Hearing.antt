@@ -2,7 +2,8 @@
 --     heard p text         the expansion of a text, up to a function that is refused
 --     heard_head p text    that of a rule's head: what stands before the function that is refused is known
 --     hear p s             the texts of a statement: one, or a name and a value, or the two sides of a condition
--- A refusal is kept, since another construct to its left may be refused before it. Every other fault of an expansion ends the reading.
+-- A refusal is kept, since another construct to its left may be refused before it. Every other
+-- fault of an expansion ends the reading.
 use Rattle.std.specs.Prelude.{ℕ, Bool, List, [], ◌∷◌, ◌++◌, map, Option, Some, None, Result, Ok, Err, if◌then◌else◌}
 use Rattle.em_base.specs.declared.place.Place.{Place}
 use Rattle.em_refs.specs.Parts.{parted, source, left}

@@ -1,7 +1,8 @@
 -- Reading: a list of lines, taken from the left.
 --     read_text left p lines    the lines of a text, `left` levels deep at most; p is where it was put in
 --     reading order defaults    the makefile that an order asks for: the book that its lines make, or the first fault
--- A line may put a text in: by `include`, or by `eval` in an expansion. It is read where it stands, one level deeper.
+-- A line may put a text in: by `include`, or by `eval` in an expansion. It is read where it stands,
+-- one level deeper.
 use Rattle.std.specs.Prelude.{ℕ, zero, suc, ◌==◌, not, Bool, true, false, List, [], ◌∷◌, ◌++◌, length, map, fold, Option, Some, None, is_some, option_map, Result, Ok, Err, codes, if◌then◌else◌}
 use Rattle.em_base.specs.declared.place.Place.{Place}
 use Rattle.em_base.specs.Blanks.{trimmed}

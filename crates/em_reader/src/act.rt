@@ -47,7 +47,8 @@ fn wildcard_word<V: View>(
     }
 }
 
-/// The names that a word with a wildcard stands for: its matches, or the word itself where there are none.
+/// The names that a word with a wildcard stands for: its matches, or the word itself where there
+/// are none.
 fn matches_of<V: View>(
     alloc: Global,
     desk: &mut Desk<V>,
@@ -100,7 +101,8 @@ fn appended(so_far: Seq<Text>, more: Seq<Text>) -> Result<Seq<Text>, NoMemory>
     Ok(Seq::from_vec(all))
 }
 
-/// The names that words stand for: each with a wildcard is replaced by its matches in the tree, if it has some.
+/// The names that words stand for: each with a wildcard is replaced by its matches in the tree, if
+/// it has some.
 pub(crate) fn matched<V: View>(
     alloc: Global,
     desk: &mut Desk<V>,

@@ -14,7 +14,8 @@ pub fn law_empty_text()
         → read_text (suc left) p (record { lines = []; too_long = None }) r o w ≡ (Ok (tt, r), w) }
 {}
 
-/// In a branch that isn't read, lines that are none of a conditional change nothing, ask nothing and cost nothing.
+/// In a branch that isn't read, lines that are none of a conditional change nothing, ask nothing
+/// and cost nothing.
 pub fn law_unread_branch()
     ensures { (deeper : Deeper) (lines : List Line) (r : Reading) (o : Oracle) (w : Workspace)
         → r.define ≡ None → is_read r ≡ false → All (λ l. is_passed l ≡ true) lines

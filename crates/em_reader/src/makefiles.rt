@@ -192,15 +192,17 @@ fn read_from<V: View>(
     }
 }
 
-/// Reads the makefile that the order asks for, over any desk: its `-f`, else the first of `GNUmakefile`,
-/// `makefile` and `Makefile` that is a file in the working directory, as GNU make does. The exported
-/// variables of `defaults` are there at the start, as defaults. What is said on the way is appended to
-/// `said`, also before a fault; the first fault in reading order comes with its place.
+/// Reads the makefile that the order asks for, over any desk: its `-f`, else the first of
+/// `GNUmakefile`, `makefile` and `Makefile` that is a file in the working directory, as GNU make
+/// does. The exported variables of `defaults` are there at the start, as defaults. What is said on
+/// the way is appended to `said`, also before a fault; the first fault in reading order comes with
+/// its place.
 ///
-/// The time is linear in what is read and expanded, with a few searches by name for each name in a rule. A
-/// byte of a rule's line is copied at most eight times: when lines are joined, when the line is parted, as a
-/// piece of the head, when that is expanded and put together again, as a word, as a name, and as a key of
-/// the book's index. A byte of any other line is copied at most five times, besides its expansion.
+/// The time is linear in what is read and expanded, with a few searches by name for each name in a
+/// rule. A byte of a rule's line is copied at most eight times: when lines are joined, when the
+/// line is parted, as a piece of the head, when that is expanded and put together again, as a word,
+/// as a name, and as a key of the book's index. A byte of any other line is copied at most five
+/// times, besides its expansion.
 pub fn read_through<V: View>(
     alloc: Global,
     desk: &mut Desk<V>,
@@ -226,8 +228,9 @@ pub fn read_through<V: View>(
     read_from(alloc, desk, order, cwd, vars, said)
 }
 
-/// Reads the makefile that the order asks for in a state, with 10,000,000 units of fuel: `Spent` comes exactly
-/// where they don't suffice. Errors, what is said and cost are those of `read_through`.
+/// Reads the makefile that the order asks for in a state, with 10,000,000 units of fuel: `Spent`
+/// comes exactly where they don't suffice. Errors, what is said and cost are those of
+/// `read_through`.
 pub fn read_makefiles(
     alloc: Global,
     state: &State,

@@ -266,7 +266,8 @@ fn read_evals<V: View>(
     Ok(())
 }
 
-/// `include`, when its names are expanded. All of them are known before the first file is asked for.
+/// `include`, when its names are expanded. All of them are known before the first file is asked
+/// for.
 #[cycle(reader)]
 fn include_heard<V: View>(
     alloc: Global,

@@ -1,6 +1,8 @@
-//! Makefiles over a small tree, read whole. What is read is shown as a text: what was said; each rule as `targets: normal|order`, with
-//! its recipe lines in braces; `=` and the default goal; `V=` and the text of `V`, if it is defined, with a `+` before where it is
-//! exported. A fault stands behind `*** ` with its place. What is expected is what GNU make reads, or what docs/FORMATS.md refuses.
+//! Makefiles over a small tree, read whole. What is read is shown as a text: what was said; each
+//! rule as `targets: normal|order`, with its recipe lines in braces; `=` and the default goal; `V=`
+//! and the text of `V`, if it is defined, with a `+` before where it is exported. A fault stands
+//! behind `*** ` with its place. What is expected is what GNU make reads, or what docs/FORMATS.md
+//! refuses.
 ghost use Rattle.std.specs.Prelude.{◌≡◌, None, IfOk, Some};
 ghost use Rattle.std.specs.FinMap as map;
 ghost use Rattle.em_path.specs.Paths.{IsPath, parent_text, root_text};

@@ -35,8 +35,8 @@ fn heard(alloc: Global, first: &Text, second: &Text) -> Result<Heard, NoMemory> 
     Ok(Heard { first, second })
 }
 
-/// A simple variable `X` of this origin that is there before; the operator, and whether `override` stands before it; the origin and the
-/// text of `X` after `X OPERATOR b`, and whether it is simple.
+/// A simple variable `X` of this origin that is there before; the operator, and whether `override`
+/// stands before it; the origin and the text of `X` after `X OPERATOR b`, and whether it is simple.
 type Row = (
     Option<(Origin, &'static [u8])>,
     Operator,
@@ -342,8 +342,8 @@ fn read_all(alloc: Global, reading: &mut Reading, text: &[u8]) -> Result<(), Rea
     reading.set_goal(alloc, b"")
 }
 
-/// A makefile without references, in which each condition asks for `X`; how many rules it makes; the text of `X`; what is said; the default
-/// goal; and the line of the fault, or 0.
+/// A makefile without references, in which each condition asks for `X`; how many rules it makes;
+/// the text of `X`; what is said; the default goal; and the line of the fault, or 0.
 type Made = (
     &'static [u8],
     usize,

@@ -1,4 +1,5 @@
--- What a statement does when its texts are expanded: conditionals, and those that change the variables alone.
+-- What a statement does when its texts are expanded: conditionals, and those that change the
+-- variables alone.
 --     refused_in h                 the first function in its texts that was refused
 --     holds vars c h               whether a condition holds; none where it isn't of the form
 --     if_heard, else_if_heard      the branch that a condition begins

@@ -91,9 +91,10 @@ fn set_all_assigned(
     Ok(())
 }
 
-/// The variables at the start: those of `defaults` that are exported, as defaults; `MAKE`, which is `emake`, `CURDIR`, the
-/// working directory, and `MAKECMDGOALS`, the goals, which are simple defaults; the assignments of the command line, which are
-/// simple. A copy of each text, and a search for each.
+/// The variables at the start: those of `defaults` that are exported, as defaults; `MAKE`, which is
+/// `emake`, `CURDIR`, the working directory, and `MAKECMDGOALS`, the goals, which are simple
+/// defaults; the assignments of the command line, which are simple. A copy of each text, and a
+/// search for each.
 pub fn start_vars(
     alloc: Global,
     goals: &[Text],

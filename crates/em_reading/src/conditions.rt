@@ -17,7 +17,8 @@ use em_vars::Vars;
 use em_wordlist::texts;
 use std::alloc::Global;
 
-/// Whether the variable of the one name in the text has a text that isn't empty; `None` where there isn't exactly one name.
+/// Whether the variable of the one name in the text has a text that isn't empty; `None` where there
+/// isn't exactly one name.
 fn one_has_text(alloc: Global, vars: &Vars, text: &[u8]) -> Result<Option<bool>, NoMemory>
     ensures { IfOk result (λ b. b ≡ one_has_text vars.now (words_of text.now)) }
 {

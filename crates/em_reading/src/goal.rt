@@ -12,8 +12,8 @@ use em_rules::{Book, Rule};
 use em_statement::is_empty;
 use std::alloc::Global;
 
-/// Whether a target can be the default goal: it holds no `%`, and where it begins with a dot it holds
-/// a slash.
+/// Whether a target can be the default goal: it holds no `%`, and where it begins with a dot it
+/// holds a slash.
 fn is_goal(target: &Text) -> bool
     ensures { result ≡ is_goal target.now }
 {

@@ -11,7 +11,8 @@ pub struct Expanded {
     pub refused: Option<Text>,
 }
 
-/// The texts of a statement, expanded: a name and a value, the two sides of a condition, or one text.
+/// The texts of a statement, expanded: a name and a value, the two sides of a condition, or one
+/// text.
 #[derive(Debug, Drop, PartialEq, Eq)]
 pub struct Heard {
     pub first: Expanded,

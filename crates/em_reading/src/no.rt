@@ -48,7 +48,8 @@ pub enum Fault {
     /// The fuel of reading doesn't suffice.
     #[error("fuel spent")]
     Spent,
-    /// A line is longer than 1,048,576 bytes, or more than 64 texts are put into one another by `include` and `eval`.
+    /// A line is longer than 1,048,576 bytes, or more than 64 texts are put into one another by
+    /// `include` and `eval`.
     #[error("a limit is passed")]
     Limit,
     #[error("a faulty rule")]

@@ -159,7 +159,8 @@ impl Reading {
         mem::replace(&mut self.define, None)
     }
 
-    /// A text ends in front of a line that is too long, or at its end, where no `define` may be open.
+    /// A text ends in front of a line that is too long, or at its end, where no `define` may be
+    /// open.
     pub fn end_text(&mut self, alloc: Global, too_long: &Option<Place>) -> Result<(), ReadNo>
         ensures { Works is_free self.old self.new result (changes.end_text too_long.now) }
     {

@@ -32,7 +32,8 @@ fn add_warning(text: &mut Text, place: &Place, target: &[u8]) -> Result<(), NoMe
     text.add(b"'\n")
 }
 
-/// Appends the warning for a target that has a recipe already, unless it was told of. The table has the targets that were.
+/// Appends the warning for a target that has a recipe already, unless it was told of. The table has
+/// the targets that were.
 fn add_warning_for(
     alloc: Global,
     text: &mut Text,
@@ -56,7 +57,8 @@ fn add_warning_for(
     Ok(())
 }
 
-/// Appends the warnings for these targets, one for each, where it first stands. Two searches for each target.
+/// Appends the warnings for these targets, one for each, where it first stands. Two searches for
+/// each target.
 fn add_warnings(
     alloc: Global,
     text: &mut Text,

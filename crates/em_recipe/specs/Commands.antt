@@ -7,7 +7,8 @@ use Rattle.em_recipe.specs.declared.command.Command.{Command}
 use Rattle.em_recipe.specs.declared.mark.Marks.{Marks}
 use Rattle.em_recipe.specs.Marks.{marks, bare, either}
 
--- the lines of what is left, where this stands of the first one, and whether a backslash is its last byte
+-- the lines of what is left, where this stands of the first one, and whether a backslash is its
+-- last byte
 abbrev pub lines_from : List ℕ → Bool → List ℕ → List (List ℕ)
 lines_from line quoted [] = line ∷ []
 lines_from line quoted (b ∷ bs) = if (b == 10) && not quoted then line ∷ lines_from [] false bs else lines_from (line ++ b ∷ []) (b == 92) bs

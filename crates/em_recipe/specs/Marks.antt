@@ -1,4 +1,5 @@
--- What stands in front of a recipe's line: blanks, and the marks `@` (the line isn't echoed), `-` (its failure is ignored) and `+` (it runs also under `-n`).
+-- What stands in front of a recipe's line: blanks, and the marks `@` (the line isn't echoed), `-`
+-- (its failure is ignored) and `+` (it runs also under `-n`).
 --     marks line     the marks that stand there
 --     bare line      the line without them
 --     either a b     the marks of both

@@ -33,7 +33,8 @@ construct_name (construct.Format (Some b)) = codes "printf %" ++ b ∷ []
 construct_name (construct.Format None) = codes "printf %"
 construct_name (construct.MakeName name) = name
 
--- why a text can't be expanded. A function that is refused, spent fuel and want of memory are told in other ways
+-- why a text can't be expanded. A function that is refused, spent fuel and want of memory are told
+-- in other ways
 abbrev pub fault_text : ExpandNo → List ℕ
 fault_text (no.SelfReference name) = codes "Recursive variable " ++ quoted name ++ codes " references itself (eventually)"
 fault_text (no.UserError text) = text

@@ -74,7 +74,8 @@ fn once<'a>(alloc: Global, names: &[&'a [u8]]) -> Result<Vec<&'a [u8]>, NoMemory
     Ok(first)
 }
 
-/// Adds an automatic variable of the first name, and its forms for the directories and for the files of its words.
+/// Adds an automatic variable of the first name, and its forms for the directories and for the
+/// files of its words.
 fn add_forms(
     alloc: Global,
     own: &mut Seq<OwnVar>,
@@ -158,8 +159,8 @@ fn add_last(alloc: Global, own: &mut Seq<OwnVar>, job: &PlanJob) -> Result<(), N
     Ok(())
 }
 
-/// The automatic variables of a job; these names are what made its remaking due. Steps for each byte of the names, and a search
-/// for each name.
+/// The automatic variables of a job; these names are what made its remaking due. Steps for each
+/// byte of the names, and a search for each name.
 pub fn automatic_vars(alloc: Global, job: &PlanJob, newer: &[Text]) -> Result<Seq<OwnVar>, NoMemory>
     ensures { IfOk result (λ own. own ≡ automatic.texts job.now newer.now) }
 {

@@ -32,9 +32,10 @@ fn add(
     })
 }
 
-/// The lines for the shell of a recipe's line that was written so and expanded to this: it is split at newlines without a
-/// backslash in front; blanks and marks in front of each are taken off, and those in front of the line as it was written hold for
-/// all; empty ones are left out. Each byte is copied once.
+/// The lines for the shell of a recipe's line that was written so and expanded to this: it is split
+/// at newlines without a backslash in front; blanks and marks in front of each are taken off, and
+/// those in front of the line as it was written hold for all; empty ones are left out. Each byte is
+/// copied once.
 pub fn commands(alloc: Global, written: &[u8], expanded: &[u8]) -> Result<Seq<Command>, NoMemory>
     ensures { IfOk result (λ cs. cs ≡ commands_of written.now expanded.now) }
 {

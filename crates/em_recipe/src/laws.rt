@@ -23,8 +23,8 @@ pub fn law_split()
     ensures whole { (text : List ℕ) → All (λ l. split l ≡ l ∷ []) (split text) }
 {}
 
-/// No line for the shell is empty, or has blanks or marks in front of it, and each has the marks in front of the line as it was
-/// written.
+/// No line for the shell is empty, or has blanks or marks in front of it, and each has the marks in
+/// front of the line as it was written.
 pub fn law_commands()
     ensures filled { (written expanded : List ℕ)
         → All (λ c. c.text ≢ []) (commands_of written expanded) }

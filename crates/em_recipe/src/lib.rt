@@ -1,5 +1,5 @@
-//! A recipe, without running it: the marks of its lines, the lines for the shell that come of them, the
-//! automatic variables, and what is said of a job.
+//! A recipe, without running it: the marks of its lines, the lines for the shell that come of them,
+//! the automatic variables, and what is said of a job.
 #![tactic(auto)]
 
 mod automatic;

@@ -114,7 +114,8 @@ fn stop_text(keep_going: bool) -> &'static [u8]
     if keep_going { b".\n" } else { b".  Stop.\n" }
 }
 
-/// Appends that no rule makes the target, which is needed by this name, or is a goal. Under `-k` the build goes on.
+/// Appends that no rule makes the target, which is needed by this name, or is a goal. Under `-k`
+/// the build goes on.
 pub fn put_no_rule(
     out: &mut Text,
     target: &[u8],
@@ -170,7 +171,8 @@ fn put_construct(out: &mut Text, construct: &Construct) -> Result<(), NoMemory>
     }
 }
 
-/// Appends that a line of the target's recipe has a construct that is refused, which ends the build.
+/// Appends that a line of the target's recipe has a construct that is refused, which ends the
+/// build.
 pub fn put_refused(
     out: &mut Text,
     place: &Place,
@@ -196,7 +198,8 @@ pub fn put_spent(out: &mut Text, place: &Place, target: &[u8]) -> Result<(), NoM
     out.add(b" Fuel spent.  Stop.\n")
 }
 
-/// Appends that the job's fuel ended before a line of the target's recipe was begun, which ends the build.
+/// Appends that the job's fuel ended before a line of the target's recipe was begun, which ends the
+/// build.
 pub fn put_spent_early(out: &mut Text, target: &[u8]) -> Result<(), NoMemory>
     ensures { OnOk result (out.new ≡ out.old ++ messages.spent_early target.now) }
 {

@@ -24,7 +24,8 @@ IsNested text (Literal s) = Unit {0}
 IsNested text Dollar = Unit {0}
 IsNested text (Ref s) = (bracket : Bracket) → bracket_before text s ≡ Some bracket → IsBalanced bracket (cut text s)
 
--- a `$` stands at `at`, and it is the last byte, or a bracket stands behind it that nothing behind it closes
+-- a `$` stands at `at`, and it is the last byte, or a bracket stands behind it that nothing behind
+-- it closes
 pub record IsUnclosed (text : List ℕ) (at : ℕ) : Type 0 where
   pub dollar : slice_get text at ≡ Some 36
   pub unfinished : (at + 1 ≡ length text) ⊎ ((bracket : Bracket) × (slice_get text (at + 1) ≡ Some (opening_of bracket)) × NeverCloses bracket (drop (at + 2) text))

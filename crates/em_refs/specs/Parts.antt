@@ -33,8 +33,9 @@ byte_before text (suc at) = slice_get text at
 abbrev pub bracket_before : List ℕ → Span → Option Bracket
 bracket_before text s = option_and_then bracket_of (byte_before text s.start)
 
--- where a byte stands: in plain text that began at `from`; right behind the `$` at `from`; or in the brackets of the reference
--- whose `$` stands at `from`, with `deep` more pairs of the same brackets open
+-- where a byte stands: in plain text that began at `from`; right behind the `$` at `from`; or in
+-- the brackets of the reference whose `$` stands at `from`, with `deep` more pairs of the same
+-- brackets open
 pub data Mode : Type 0 where
   plain : ℕ → Mode
   behind : ℕ → Mode

@@ -18,7 +18,8 @@ abbrev pub begins : List ℕ → ℕ → Option (Part × ℕ) → Parted
 begins text at (Some (part, after)) = with_front (part ∷ []) (rest_from text after)
 begins text at None = stops at
 
--- the reference whose `$` stands at `from` and whose brackets hold the first bytes behind them, and the parts behind it
+-- the reference whose `$` stands at `from` and whose brackets hold the first bytes behind them, and
+-- the parts behind it
 abbrev pub closes : ℕ → List ℕ → Option ℕ → Parted
 closes from bytes None = stops from
 closes from bytes (Some n) = with_front (Ref (span (from + 2) (from + 2 + n)) ∷ []) (parts_from (plain (from + 2 + n + 1)) (from + 2 + n + 1) (drop (n + 1) bytes))

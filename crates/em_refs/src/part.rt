@@ -66,8 +66,8 @@ impl Bracket {
         }
     }
 
-    /// The kind that the byte in front of a span opens. For the span of a reference: the kind of its brackets, and `None`
-    /// exactly where it is one byte without brackets.
+    /// The kind that the byte in front of a span opens. For the span of a reference: the kind of
+    /// its brackets, and `None` exactly where it is one byte without brackets.
     pub fn before(text: &[u8], span: Span) -> Option<Bracket>
         ensures { result ≡ bracket_before text.now span }
     {

@@ -9,7 +9,8 @@ use crate::part::{Bracket, Part, Parted};
 use em_base::{NoMemory, Seq, Span};
 use std::alloc::Global;
 
-/// Where the bracket that opened before the bytes is closed in them; only brackets of its own kind count.
+/// Where the bracket that opened before the bytes is closed in them; only brackets of its own kind
+/// count.
 fn closing(bracket: Bracket, rest: &[u8]) -> Option<usize>
     ensures within { IfSome result (λ n. n < length rest.now) }
     ensures parts { (from : ℕ)
@@ -29,7 +30,8 @@ fn closing(bracket: Bracket, rest: &[u8]) -> Option<usize>
     None
 }
 
-/// The reference in brackets whose `$` stands at `at`, and the place behind it; `None` where it isn't closed.
+/// The reference in brackets whose `$` stands at `at`, and the place behind it; `None` where it
+/// isn't closed.
 fn bracketed(text: &[u8], at: usize, bracket: Bracket) -> Option<(Part, usize)>
     requires inside { at + 1 < length text.now }
     ensures within { IfSome result (λ p. (at < p.1) × (p.1 ≤ length text.now)) }
@@ -41,7 +43,8 @@ fn bracketed(text: &[u8], at: usize, bracket: Bracket) -> Option<(Part, usize)>
     Some((Part::Ref(Span { start, end }), end + 1))
 }
 
-/// What the `$` at `at` begins, and the place behind it; `None` where that is a reference that isn't closed.
+/// What the `$` at `at` begins, and the place behind it; `None` where that is a reference that
+/// isn't closed.
 fn reference(text: &[u8], at: usize) -> Option<(Part, usize)>
     requires within { at < length text.now }
     requires begun { slice_index text.now at ≡ 36 }
@@ -69,7 +72,8 @@ fn before_dollar(rest: &[u8]) -> usize
     rest.iter().take_while(|byte| **byte != b'$').count()
 }
 
-/// The part that begins at `at`, and the place behind it; `None` where that is a reference that isn't closed.
+/// The part that begins at `at`, and the place behind it; `None` where that is a reference that
+/// isn't closed.
 fn part_at(text: &[u8], at: usize) -> Option<(Part, usize)>
     requires { at < length text.now }
     ensures within { IfSome result (λ p. (at < p.1) × (p.1 ≤ length text.now)) }
@@ -82,9 +86,10 @@ fn part_at(text: &[u8], at: usize) -> Option<(Part, usize)>
     Some((Part::Literal(Span { start: at, end }), end))
 }
 
-/// The parts of a text in order, their spans in the text, up to the first reference that isn't closed or `$` that is the
-/// last byte, and where that stands. `$(..)` and `${..}` are references with the text inside, in which only brackets of the
-/// same kind count; `$` before another byte is a reference of that byte, and `$$` a `$`.
+/// The parts of a text in order, their spans in the text, up to the first reference that isn't
+/// closed or `$` that is the last byte, and where that stands. `$(..)` and `${..}` are references
+/// with the text inside, in which only brackets of the same kind count; `$` before another byte is
+/// a reference of that byte, and `$$` a `$`.
 pub fn parts_before(alloc: Global, text: &[u8]) -> Result<Parted, NoMemory>
     ensures { IfOk result (λ p. p ≡ parted text.now) }
 {
@@ -102,8 +107,8 @@ pub fn parts_before(alloc: Global, text: &[u8]) -> Result<Parted, NoMemory>
     Ok(Parted { parts, unclosed })
 }
 
-/// The parts of a text in which every reference is closed, as `parts_before` gives them. `Unclosed` is the place of the first
-/// reference that isn't closed, or of a `$` that is the last byte.
+/// The parts of a text in which every reference is closed, as `parts_before` gives them. `Unclosed`
+/// is the place of the first reference that isn't closed, or of a `$` that is the last byte.
 pub fn parts(alloc: Global, text: &[u8]) -> Result<Vec<Part>, RefNo>
     ensures ok { IfOk result (λ v. parts_of text.now ≡ Ok v.items) }
     ensures err { IfErr result (λ e. (e ≡ RefNo.NoMemory) ⊎ (parts_of text.now ≡ Err e)) }

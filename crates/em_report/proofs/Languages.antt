@@ -12,7 +12,8 @@ pub record Lang (A : Type 0) : Type 1 where
   pub text : A → List ℕ
   pub follow : ℕ → Bool
 
--- x is the only value whose text, with what may follow it, goes along what was taken and the byte behind it
+-- x is the only value whose text, with what may follow it, goes along what was taken and the byte
+-- behind it
 pub record Took {A : Type 0} (L : Lang A) (h : Here) (x : A) (k : Here) : Type 0 where
   pub valid : L.valid x
   pub taken : h.rest ≡ L.text x ++ k.rest

@@ -1,4 +1,5 @@
--- The parts of a report, each read from the left: what it gives and where it ends, or the first byte at which none goes on.
+-- The parts of a report, each read from the left: what it gives and where it ends, or the first
+-- byte at which none goes on.
 --     text_at bs           these bytes
 --     number_at limit      canonical decimal up to a limit; it ends in front of a byte that doesn't fit
 --     runs_at, cause_at, name_at      1 or 2; the word of a cause; the bytes up to one that parts names

@@ -1,4 +1,5 @@
--- A report read from the left: the report whose text it is, or the first byte at which none goes on.
+-- A report read from the left: the report whose text it is, or the first byte at which none goes
+-- on.
 use Rattle.std.specs.Prelude.{ℕ, zero, suc, ◌-◌, ◌^◌, ◌==◌, List, [], ◌∷◌, length, codes, Result, Ok, Err, if◌then◌else◌}
 use Rattle.em_report.specs.declared.report.Report.{Report}
 use Rattle.em_report.specs.declared.report.ReportLine.{ReportLine}

@@ -1,4 +1,5 @@
--- A report: of each job in how many runs it was committed and why, what fuel it took, its target and the jobs that it waited for; and the status.
+-- A report: of each job in how many runs it was committed and why, what fuel it took, its target
+-- and the jobs that it waited for; and the status.
 --     report_text r        its text
 --     IsReport r           its targets can stand in a line, each job had one run or two, and the numbers have their bounds
 --     GoesOn text          some report's text begins so

@@ -11,7 +11,8 @@ use crate::report::{Report, ReportLine};
 use em_base::{Seq, Text};
 use std::alloc::Global;
 
-/// Takes the jobs that a job waited for, each behind a blank, and the newline. Each takes a byte at least.
+/// Takes the jobs that a job waited for, each behind a blank, and the newline. Each takes a byte at
+/// least.
 fn waits(alloc: Global, cursor: Cursor) -> Result<(Seq<u32>, Cursor), ReportNo>
     ensures { Gives (λ x. (x.0, seen x.1)) result
         (waits_at (length cursor.entry.rest.now) (seen cursor.entry)) }
@@ -120,8 +121,9 @@ fn whole(alloc: Global, bytes: &[u8]) -> Result<Report, ReportNo>
     Ok(report)
 }
 
-/// The report of which this is the text, or the first byte at which no report goes on: the text's length, where it ends too early.
-/// Numbers are canonical decimal within the bounds of their fields, and runs are 1 or 2. Linear in the bytes.
+/// The report of which this is the text, or the first byte at which no report goes on: the text's
+/// length, where it ends too early. Numbers are canonical decimal within the bounds of their
+/// fields, and runs are 1 or 2. Linear in the bytes.
 pub fn read(alloc: Global, bytes: &[u8]) -> Result<Report, ReportNo>
     ensures report { IfOk result IsReport }
     ensures text { IfOk result (λ r. report_text r ≡ bytes.now) }

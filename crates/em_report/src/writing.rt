@@ -56,9 +56,11 @@ fn put_lines(out: &mut Text, lines: &[ReportLine]) -> Result<(), NoMemory>
     Ok(())
 }
 
-/// The report's text: `EMREPORT 1\n`; for each job `job`, its number, its runs, `-`, `differ`, `strange`, `foreign` or `memory`, its fuel, its target and
-/// the jobs that it waited for, with single spaces between them, and a newline; `status`, a space and the status, and `\n.\n`. A target
-/// is written as it is; one that is no name (`is_name` of em_history) can't be read again. Linear in the text.
+/// The report's text: `EMREPORT 1\n`; for each job `job`, its number, its runs, `-`, `differ`,
+/// `strange`, `foreign` or `memory`, its fuel, its target and the jobs that it waited for, with
+/// single spaces between them, and a newline; `status`, a space and the status, and `\n.\n`. A
+/// target is written as it is; one that is no name (`is_name` of em_history) can't be read again.
+/// Linear in the text.
 pub fn write(alloc: Global, report: &Report) -> Result<Text, NoMemory>
     ensures { IfOk result (λ t. t ≡ report_text report.now) }
 {

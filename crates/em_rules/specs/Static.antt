@@ -1,4 +1,5 @@
--- Static pattern rules: each target has prerequisites of its own, made from what it has for the `%` of the target pattern.
+-- Static pattern rules: each target has prerequisites of its own, made from what it has for the `%`
+-- of the target pattern.
 --     stem_text pattern word     what the word has for the `%` of the pattern; nothing where it doesn't match
 --     stem_in r target           that of a target of a static pattern rule; nothing in other rules
 --     unmatched r                the first target that the target pattern doesn't match

@@ -99,13 +99,15 @@ impl Book {
 
     /// Adds a rule, behind all others; its names are taken without the `./` that they begin with.
     ///
-    /// - A static pattern rule comes to one rule for each target, whose prerequisites are made from what the target has for the
-    ///   `%` of the target pattern, which may be empty. `Static` comes exactly where a target doesn't match, with the first
-    ///   such target, and also where memory is short.
-    /// - A pattern rule with a recipe goes to the pattern rules; one without takes out those with the same targets and
-    ///   prerequisites, and isn't kept.
+    /// - A static pattern rule comes to one rule for each target, whose prerequisites are made from
+    ///   what the target has for the `%` of the target pattern, which may be empty. `Static` comes
+    ///   exactly where a target doesn't match, with the first such target, and also where memory is
+    ///   short.
+    /// - A pattern rule with a recipe goes to the pattern rules; one without takes out those with
+    ///   the same targets and prerequisites, and isn't kept.
     ///
-    /// A search for each name in the rule; a pattern rule without a recipe is compared with each pattern rule.
+    /// A search for each name in the rule; a pattern rule without a recipe is compared with each
+    /// pattern rule.
     pub fn add(&mut self, r: Rule) -> Result<(), BookNo>
         ensures ok { IfOk result (λ _. (fault_of r ≡ None) × (self.new ≡ added self.old r)) }
         ensures only { IfErr result (λ e. (e ≡ BookNo.NoMemory) ⊎ (fault_of r ≡ Some e)) }

@@ -4,7 +4,8 @@ ghost use Rattle.em_rules.specs.Dots.{undotted};
 
 use em_base::Text;
 
-/// The name without the `./` that it begins with, however often: `./a` and `a` are one name. `./` alone is the empty name.
+/// The name without the `./` that it begins with, however often: `./a` and `a` are one name. `./`
+/// alone is the empty name.
 pub fn undotted(name: &[u8]) -> &[u8]
     ensures name { result.now ≡ undotted name.now }
     ensures within { length result.now ≤ length name.now }

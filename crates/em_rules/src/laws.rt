@@ -5,7 +5,8 @@ ghost use Rattle.em_rules.specs.declared.rule.Rule.{Rule as RuleData};
 ghost use Rattle.em_rules.specs.Dots.{undotted, dots};
 ghost use Rattle.em_rules.specs.Rules.{is_in, has_target, numbers_of, recipe_rule, prerequisites_of, is_phony};
 
-/// A name is its name as it is known behind as many `./` as were dropped, and that doesn't begin with another.
+/// A name is its name as it is known behind as many `./` as were dropped, and that doesn't begin
+/// with another.
 pub fn law_undotted()
     ensures whole { (name : List ℕ) → (k : ℕ) × (name ≡ dots k ++ undotted name) }
     ensures plain { (name : List ℕ) → starts_with nat_eq (undotted name) (codes "./") ≡ false }
@@ -26,7 +27,8 @@ pub fn law_recipe_rule()
         in recipe_rule rules name ≡ slice_get numbers (length numbers - 1) }
 {}
 
-/// The prerequisites of a name's rules are theirs, rule by rule; a name is phony where it is one of `.PHONY`'s.
+/// The prerequisites of a name's rules are theirs, rule by rule; a name is phony where it is one of
+/// `.PHONY`'s.
 pub fn law_prerequisites()
     ensures joined { (rules : List RuleData) (name : List ℕ) → prerequisites_of rules name
         ≡ flat_map (λ (r : RuleData). if has_target r name then r.normal ++ r.order else []) rules }

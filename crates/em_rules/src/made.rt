@@ -1,4 +1,5 @@
-//! What a rule comes to: its names as they are known, and a rule for each target of a static pattern rule.
+//! What a rule comes to: its names as they are known, and a rule for each target of a static
+//! pattern rule.
 ghost use Rattle.std.specs.Prelude.{◌≡◌, ◌<◌, map, length, slice_get, is_none, Some, None, option_map, MatchOption, IfOk};
 ghost use Rattle.em_wordlist.specs.Stems.{stem_of};
 ghost use Rattle.em_rules.specs.Dots.{undotted};
@@ -32,7 +33,8 @@ fn undotted_form(form: Option<Text>) -> Option<Text>
     }
 }
 
-/// The rule with its names as they are known: without the `./` that they begin with. Each name is changed where it stands.
+/// The rule with its names as they are known: without the `./` that they begin with. Each name is
+/// changed where it stands.
 pub fn undotted_rule(alloc: Global, r: Rule) -> Result<Rule, NoMemory>
     ensures { IfOk result (λ k. k ≡ static.undotted_rule r) }
 {
@@ -79,7 +81,8 @@ fn unmatched_in(form: &[u8], targets: &[Text]) -> Option<usize>
     None
 }
 
-/// The place of the first target of a static pattern rule that its target pattern doesn't match. No memory.
+/// The place of the first target of a static pattern rule that its target pattern doesn't match. No
+/// memory.
 pub fn unmatched(r: &Rule) -> Option<usize>
     ensures { MatchOption result
         (static.unmatched (static.undotted_rule r.now) ≡ None)
@@ -164,7 +167,8 @@ fn rules_for(alloc: Global, rule: &Rule) -> Result<Vec<Rule>, NoMemory>
     Ok(rules)
 }
 
-/// The explicit rules that a rule comes to: one for each target of a static pattern rule, else the rule itself.
+/// The explicit rules that a rule comes to: one for each target of a static pattern rule, else the
+/// rule itself.
 pub(crate) fn explicit(alloc: Global, rule: Rule) -> Result<Vec<Rule>, NoMemory>
     ensures { IfOk result (λ v. v.items ≡ static.explicit rule) }
 {

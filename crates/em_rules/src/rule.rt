@@ -36,7 +36,8 @@ impl TryClone for RecipeLine {
 #[derive(Debug, Drop)]
 pub struct Rule {
     pub targets: Seq<Text>,
-    /// Whether it is a pattern rule: then targets and prerequisites are patterns, whose `%` stands for a stem.
+    /// Whether it is a pattern rule: then targets and prerequisites are patterns, whose `%` stands
+    /// for a stem.
     pub pattern: bool,
     /// The target pattern of a static pattern rule; `None` for every other rule.
     pub form: Option<Text>,
@@ -71,8 +72,8 @@ impl Rule {
         is_among(name, self.normal.items()) || is_among(name, self.order.items())
     }
 
-    /// What the target has for the `%` of the target pattern of a static pattern rule; nothing in any other rule, and for a name
-    /// that doesn't match.
+    /// What the target has for the `%` of the target pattern of a static pattern rule; nothing in
+    /// any other rule, and for a name that doesn't match.
     pub fn stem<'a>(&self, target: &'a [u8]) -> &'a [u8]
         ensures { result.now ≡ stem_in self.now target.now }
     {

@@ -9,9 +9,12 @@ use em_base::{NoMemory, Seq, Table, Text};
 use std::alloc::Global;
 use std::marker::Model;
 
-/// The explicit rules of a makefile, in order. Contracts see the list of them. A rule's number is its place, counted from 0.
+/// The explicit rules of a makefile, in order. Contracts see the list of them. A rule's number is
+/// its place, counted from 0.
 ///
-/// An index by name answers each question about a name in one search by its hash. Where memory ran out in `add` there is no index from then on, and an answer takes steps for each name in the rules.
+/// An index by name answers each question about a name in one search by its hash. Where memory ran
+/// out in `add` there is no index from then on, and an answer takes steps for each name in the
+/// rules.
 #[derive(Drop)]
 pub struct Rules {
     alloc: Global,
@@ -96,7 +99,8 @@ impl Rules {
         Ok(())
     }
 
-    /// The numbers of the rules for a name, those whose targets hold it, in order. One search, and a copy of the numbers.
+    /// The numbers of the rules for a name, those whose targets hold it, in order. One search, and
+    /// a copy of the numbers.
     pub fn rules_of(&self, alloc: Global, name: &[u8]) -> Result<Seq<usize>, NoMemory>
         ensures { IfOk result (λ s. s ≡ numbers_of self.now name.now) }
     {
@@ -106,7 +110,8 @@ impl Rules {
         }
     }
 
-    /// The number of the last rule for a name that has a recipe: its recipe is the name's. One search.
+    /// The number of the last rule for a name that has a recipe: its recipe is the name's. One
+    /// search.
     pub fn recipe_rule(&self, name: &[u8]) -> Option<usize>
         ensures { result ≡ recipe_rule self.now name.now }
     {
@@ -146,8 +151,8 @@ impl Rules {
         }
     }
 
-    /// The prerequisites of the rules for a name, rule by rule, each rule's normal ones before its order-only ones. One search,
-    /// and a copy of each.
+    /// The prerequisites of the rules for a name, rule by rule, each rule's normal ones before its
+    /// order-only ones. One search, and a copy of each.
     pub fn prerequisites_of(&self, alloc: Global, name: &[u8]) -> Result<Seq<Text>, NoMemory>
         ensures { IfOk result (λ s. s ≡ prerequisites_of self.now name.now) }
     {

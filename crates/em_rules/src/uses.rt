@@ -165,7 +165,8 @@ pub(crate) fn note_rules(
     Ok(())
 }
 
-/// The index with the rules noted, the first of which gets this number; no index where there is none.
+/// The index with the rules noted, the first of which gets this number; no index where there is
+/// none.
 pub(crate) fn with_rules(
     alloc: Global,
     index: Option<Table<Uses>>,

@@ -16,7 +16,8 @@ use std::alloc::Global;
 use std::process::Abort;
 use std::test::Fail;
 
-/// Targets, normal and order-only prerequisites of a rule; it is a pattern rule where a target has a `%`.
+/// Targets, normal and order-only prerequisites of a rule; it is a pattern rule where a target has
+/// a `%`.
 type Row = [&'static [u8]; 3];
 
 /// A rule with an empty recipe.

@@ -8,7 +8,8 @@ use std::alloc::Global;
 use std::process::Abort;
 use std::test::Fail;
 
-/// The lists of a rule that is written as `targets|normal|order-only`, and whether there is a further `|`.
+/// The lists of a rule that is written as `targets|normal|order-only`, and whether there is a
+/// further `|`.
 fn fields(written: &[u8]) -> ([&[u8]; 3], bool) {
     let mut fields = written.split(|b| *b == b'|');
     let targets = fields.next().unwrap_or(b"");

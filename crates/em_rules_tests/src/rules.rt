@@ -4,7 +4,8 @@ use em_rules::{Book, BookNo, Names, Rule, Special, undotted};
 use std::alloc::Global;
 use std::test::Fail;
 
-/// Targets, target pattern, normal and order-only prerequisites and the recipe of a rule; `-` where there is no target pattern or recipe.
+/// Targets, target pattern, normal and order-only prerequisites and the recipe of a rule; `-` where
+/// there is no target pattern or recipe.
 type Row = [&'static [u8]; 5];
 
 /// Makes a rule a static pattern rule.

@@ -55,7 +55,8 @@ fn rule_of(alloc: Global, targets: &[u8]) -> Result<Rule, NoMemory> {
     })
 }
 
-/// The rule of these targets, normal and order-only prerequisites, without a recipe; a pattern rule where a target has a `%`.
+/// The rule of these targets, normal and order-only prerequisites, without a recipe; a pattern rule
+/// where a target has a `%`.
 pub fn rule(alloc: Global, lists: [&[u8]; 3]) -> Result<Rule, NoMemory> {
     let [targets, normal, order] = lists;
     let mut rule = rule_of(alloc, targets)?;

@@ -1,4 +1,5 @@
--- From the desk of a job to its run. The job began at a desk that had asked nothing before, which is the clause of `Desk::new`.
+-- From the desk of a job to its run. The job began at a desk that had asked nothing before, which
+-- is the clause of `Desk::new`.
 --     told              each answer of the usage is the one that the view told
 --     on_agreeing       an action that was performed, on a state that agrees with the whole usage: it gives the same result there
 --     valid             for steps over an output: what the desk holds at the end is a valid run, where the steps tell the meanings of the
@@ -42,8 +43,8 @@ left-with end (Err e) output w = refl
 
 module _ {V S E : Type 0} {makes : S → State → Effect → ℕ → Type 0} {free : E → Bool} {tells : V → Told} {old new : DeskState V} {view : V} {w : Workspace}
     {before output : List ℕ} {r : Result Outcome E} (end : E → Outcome) {steps : Steps (List ℕ) E Outcome} {p : Parts S} where
-  -- the clauses of `new` and of the steps; that the steps tell the spec's meanings, and that memory didn't run out; the four clauses
-  -- of `close`; the output and the outcome
+  -- the clauses of `new` and of the steps; that the steps tell the spec's meanings, and that memory
+  -- didn't run out; the four clauses of `close`; the output and the outcome
   pub valid : old ≡ record { view = view; usage = []; work = w } → before ≡ [] → Does free tells old new before output r steps
       → ((s : State) → IsTree s.tree → Agrees s new.usage → IsToldBy makes p.spec end steps w s) → is_free free r ≡ false
       → p.usage ≡ new.usage → p.delta ≡ new.work.changes → p.fuel + new.work.fuel ≡ new.work.given → Fits new.usage new.work.changes

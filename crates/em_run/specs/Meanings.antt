@@ -1,4 +1,5 @@
--- The meanings of a spec whose job is told as steps over a desk of its own, with what it says as their state.
+-- The meanings of a spec whose job is told as steps over a desk of its own, with what it says as
+-- their state.
 --     fresh base job units       the workspace of a job that has done nothing yet
 --     end_in end r               how the job ended: by its outcome, or by the one that its error comes to
 --     effect_by, used_by         what the steps make of a state, and the fuel that they take there
@@ -18,7 +19,8 @@ abbrev pub end_in : {E : Type 0} → (E → Outcome) → Result Outcome E → Ou
 end_in end (Ok o) = o
 end_in end (Err e) = end e
 
--- what is left of the job when its steps have ended: also what was made and said before an error stands
+-- what is left of the job when its steps have ended: also what was made and said before an error
+-- stands
 abbrev pub left_by : {E : Type 0} → (E → Outcome) → Result (Outcome × List ℕ) (E × List ℕ) → Workspace → Effect
 left_by end (Ok p) w = record { changes = w.changes; output = p.1; outcome = p.0 }
 left_by end (Err p) w = record { changes = w.changes; output = p.1; outcome = end p.0 }

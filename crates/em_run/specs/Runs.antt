@@ -1,5 +1,6 @@
--- Runs: what was recorded of a job, and what its spec makes of states. What a spec makes of a state is a relation: `makes a s e n` says that job a may have
--- the effect e on the state s and take n units of fuel there.
+-- Runs: what was recorded of a job, and what its spec makes of states. What a spec makes of a state
+-- is a relation: `makes a s e n` says that job a may have the effect e on the state s and take n
+-- units of fuel there.
 --     MeansSame .. a b     two specs with the same number and ends, which make the same
 --     effect_in r          what a run holds, as an effect
 --     Gives .. r s         the spec of a run makes of a state what the run holds

@@ -1,4 +1,5 @@
--- The serial run: each job whole, in order, on the state that the one before left. It ends with the first job whose outcome ends it.
+-- The serial run: each job whole, in order, on the state that the one before left. It ends with the
+-- first job whose outcome ends it.
 --     Made                  what a job made of the state on which it ran: its effect, and the fuel that it took
 --     state_after s made    the state that these jobs leave: each one's changes laid over the tree, its outcome appended
 --     Ran .. jobs made      the first of the jobs, as many as `made` has, have run so

@@ -24,8 +24,9 @@ pub struct Parts<S> {
     pub fuel: u64,
 }
 
-/// A valid run. On each state that agrees with every entry of its usage, its spec may have this delta, output and outcome as its
-/// effect and use this fuel, and the delta laid over the state's tree gives a tree. Contracts see the parts.
+/// A valid run. On each state that agrees with every entry of its usage, its spec may have this
+/// delta, output and outcome as its effect and use this fuel, and the delta laid over the state's
+/// tree gives a tree. Contracts see the parts.
 #[derive(Drop)]
 pub struct Run<S: Spec> {
     parts: Parts<S>,

@@ -9,7 +9,8 @@ use em_base::NoMemory;
 use em_tree::Outcome;
 use std::alloc::Global;
 
-/// What a job is asked to do: its number, and what it makes of the state on which it runs. Specs that are `==` mean the same.
+/// What a job is asked to do: its number, and what it makes of the state on which it runs. Specs
+/// that are `==` mean the same.
 pub trait Spec: Eq + Drop {
     /// Its number.
     ghost job_of: { Self → ℕ };

@@ -1,4 +1,5 @@
-//! A small job, and who runs it. The tests of it stand apart, so that a wrong body here can be tried without them.
+//! A small job, and who runs it. The tests of it stand apart, so that a wrong body here can be
+//! tried without them.
 ghost use Rattle.std.specs.Prelude.{◌≡◌, [], false, refl, IfOk, OnOk};
 ghost use Rattle.std.proofs.Common.{ap, ◌∙◌};
 ghost use Rattle.em_view.specs.Performs.{is_free};

@@ -1,4 +1,5 @@
--- Plans whose questions are named anew. The pieces of a word do so with the plans that they are made of.
+-- Plans whose questions are named anew. The pieces of a word do so with the plans that they are
+-- made of.
 use Rattle.std.proofs.Common.{◌≡◌, ◌∙◌, ℕ, Bool, List, [], Option, Some, None, refl, ap}
 use Rattle.std.specs.Option.{option_map}
 use Rattle.em_fields.specs.declared.part.Part.{Part}

@@ -36,8 +36,8 @@ impl Line {
         }
     }
 
-    /// Runs it as `exec` does a script. Wrong syntax is written as `emake: sh: syntax error` and has status 2. A construct that
-    /// isn't supported is refused before anything runs.
+    /// Runs it as `exec` does a script. Wrong syntax is written as `emake: sh: syntax error` and
+    /// has status 2. A construct that isn't supported is refused before anything runs.
     pub fn run<V: View>(
         &self,
         alloc: Global,

@@ -1,4 +1,5 @@
-//! Jobs with one line of recipe, over a tree with the root alone. The texts are those of docs/FORMATS.md.
+//! Jobs with one line of recipe, over a tree with the root alone. The texts are those of
+//! docs/FORMATS.md.
 use em_base::{NoMemory, Place, Seq, Text};
 use em_job::{Flags, Job, JobSpec, JobWork, SharedVars};
 use em_path::Path;
@@ -11,7 +12,8 @@ use em_view::PlainView;
 use std::alloc::Global;
 use std::test::Fail;
 
-/// A recipe's line, whether lines are only shown, the units of fuel; what is said, and a letter for how the job ends.
+/// A recipe's line, whether lines are only shown, the units of fuel; what is said, and a letter for
+/// how the job ends.
 type Row = (&'static str, bool, u16, &'static str, char);
 
 static ROWS: [Row; 16] = [

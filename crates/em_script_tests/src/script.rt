@@ -1,4 +1,5 @@
-//! What is expected is a text: what was written, then `|` and the status, or why there is none: `!` and a letter, `$` for spent fuel.
+//! What is expected is a text: what was written, then `|` and the status, or why there is none: `!`
+//! and a letter, `$` for spent fuel.
 use em_base::{Construct, Fuel, Text};
 use em_path::Path;
 use em_script::Line;

@@ -11,10 +11,11 @@ use em_tree::{Answer, Delta, Kind, NameList, Outcome, Question};
 use std::alloc::Global;
 use std::sync::{Condvar, Mutex, Wait};
 
-/// A board that threads share. Each call takes the lock, makes the board's call of the same name and lets the lock
-/// go. Then it wakes the committer where the job that it waits for has ended, and one of those that wait to claim
-/// where the call may have changed what they wait for: who is woken and claims a job wakes the next one, and who finds
-/// that none is left wakes all. Where the board's call can't be made, since the job is in another phase, nothing changes.
+/// A board that threads share. Each call takes the lock, makes the board's call of the same name
+/// and lets the lock go. Then it wakes the committer where the job that it waits for has ended, and
+/// one of those that wait to claim where the call may have changed what they wait for: who is woken
+/// and claims a job wakes the next one, and who finds that none is left wakes all. Where the
+/// board's call can't be made, since the job is in another phase, nothing changes.
 #[derive(Drop)]
 pub struct Shared<S: Spec> {
     board: Mutex<Board<S>>,
@@ -62,8 +63,8 @@ impl<S: Spec> Shared<S> {
         unreachable!()
     }
 
-    /// Claims the next job to be settled for the committer, if it is free. False also where it isn't the next
-    /// one.
+    /// Claims the next job to be settled for the committer, if it is free. False also where it
+    /// isn't the next one.
     pub fn claim_front<R: Wait>(&self, rt: &R, job: u32) -> bool {
         let mut board = self.board.lock(rt);
         if (job as usize) >= board.len() || job != board.settled() {
@@ -75,8 +76,8 @@ impl<S: Spec> Shared<S> {
         claimed
     }
 
-    /// Answers a question of a job that a worker has. Where no worker has it, some answer of the question's
-    /// kind, and the journal stays as it is.
+    /// Answers a question of a job that a worker has. Where no worker has it, some answer of the
+    /// question's kind, and the journal stays as it is.
     pub fn ask<R: Wait>(
         &self,
         rt: &R,
@@ -123,8 +124,8 @@ impl<S: Spec> Shared<S> {
         self.wake_after_end(awaited);
     }
 
-    /// Takes what a worker has left of the next job to be settled. None where it isn't the next one, or no
-    /// worker had it.
+    /// Takes what a worker has left of the next job to be settled. None where it isn't the next
+    /// one, or no worker had it.
     pub fn take<R: Wait>(&self, rt: &R, job: u32) -> Option<Taken<S>> {
         let mut board = self.board.lock(rt);
         if job != board.settled() || !board.can_take(job) {
@@ -181,7 +182,8 @@ impl<S: Spec> Shared<S> {
         }
     }
 
-    /// Wakes those for whom the end of a job may have changed something; whether the committer waits for this job.
+    /// Wakes those for whom the end of a job may have changed something; whether the committer
+    /// waits for this job.
     fn wake_after_end(&self, awaited: bool) {
         self.claimable.notify_one();
         if awaited {

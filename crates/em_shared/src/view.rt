@@ -7,8 +7,8 @@ use em_view::View;
 use std::alloc::Global;
 use std::sync::Wait;
 
-/// The answers of a shared board to one claimed job. Other jobs post and settle meanwhile, so it tells none of them
-/// beforehand.
+/// The answers of a shared board to one claimed job. Other jobs post and settle meanwhile, so it
+/// tells none of them beforehand.
 #[derive(Drop)]
 pub struct SharedView<'a, R: Wait, S: Spec> {
     rt: &'a R,

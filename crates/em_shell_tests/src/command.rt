@@ -365,7 +365,8 @@ fn run<V: View>(
     log
 }
 
-/// What a script writes where a file `f`, which holds `b` and a newline, and a directory `d` are, over a desk that has done nothing.
+/// What a script writes where a file `f`, which holds `b` and a newline, and a directory `d` are,
+/// over a desk that has done nothing.
 fn run_behind<V: View>(
     alloc: Global,
     in_loop: bool,

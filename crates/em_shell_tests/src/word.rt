@@ -1,5 +1,6 @@
-//! What is expected is a text: each turn, then each question as a letter (K kind, N names) and its path, `|` and the units used. A turn is
-//! `name=value;`, `(n)` for an output, the fields in brackets, a pattern with `'` before each quoted byte, or `!` and a fault.
+//! What is expected is a text: each turn, then each question as a letter (K kind, N names) and its
+//! path, `|` and the units used. A turn is `name=value;`, `(n)` for an output, the fields in
+//! brackets, a pattern with `'` before each quoted byte, or `!` and a fault.
 ghost use Rattle.std.specs.Prelude.{◌≡◌, true, IfOk};
 ghost use Rattle.em_word.specs.Held.{IsReady};
 
@@ -19,7 +20,8 @@ use std::test::Fail;
 #[derive(Clone, Copy)]
 enum Part {
     Bytes(bool, &'static str),
-    /// A value of the variable `x`: its form, and its argument, which is one piece, not quoted; `None` is no argument.
+    /// A value of the variable `x`: its form, and its argument, which is one piece, not quoted;
+    /// `None` is no argument.
     Value(bool, &'static str, Option<&'static str>),
     /// The begin of the argument of a value of `x` in this form, and its end; not quoted.
     Begin(&'static str),
@@ -372,7 +374,8 @@ fn values_have_their_forms(rt: HostRuntime) -> Result<(), Fail> {
     Ok(())
 }
 
-/// A word of one piece: its bytes, whether they are quoted, how the word is expanded, the units, and what is expected.
+/// A word of one piece: its bytes, whether they are quoted, how the word is expanded, the units,
+/// and what is expected.
 type Plain = (&'static str, bool, Mode, u64, &'static str);
 
 static TEXTS: [Plain; 20] = [

@@ -1,7 +1,8 @@
 -- The conditions of `ifeq`, `ifneq`, `ifdef` and `ifndef`.
 --     sides_of text            the two texts of `(A,B)`, or of `"A" "B"` in quotes of either kind
 --     condition_by k text      the condition that the text behind this keyword is, if that begins one
--- A comma and a closing bracket are looked for outside references and outside brackets within the text.
+-- A comma and a closing bracket are looked for outside references and outside brackets within the
+-- text.
 use Rattle.std.specs.Prelude.{ℕ, zero, suc, ◌==◌, ◌||◌, Bool, true, false, List, [], ◌∷◌, take, Option, Some, None, option_map, option_and_then, if◌then◌else◌}
 use Rattle.std.specs.List.{position}
 use Rattle.em_base.specs.Blanks.{trimmed_start, trimmed_end}
@@ -17,7 +18,8 @@ use Rattle.em_statement.specs.Split.{behind, is_empty}
 abbrev pub deeper : ℕ → ℕ → ℕ
 deeper b depth = if b == 40 then suc depth else depth
 
--- where this byte first stands outside brackets; nowhere behind a bracket that closes more than was opened
+-- where this byte first stands outside brackets; nowhere behind a bracket that closes more than was
+-- opened
 abbrev pub outer : ℕ → ℕ → List ℕ → Option ℕ
 outer stop depth [] = None
 outer stop zero (b ∷ bs) =

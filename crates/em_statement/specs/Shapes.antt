@@ -1,4 +1,5 @@
--- A line with its references blotted out, so that what stands outside references can be looked for in it.
+-- A line with its references blotted out, so that what stands outside references can be looked for
+-- in it.
 --     shape text     the text, with each byte of a reference as an `x` (120); what stands where stays where it is
 --     colons_in text the colons outside references, each behind a blank
 use Rattle.std.specs.Prelude.{ℕ, ◌==◌, List, [], ◌∷◌, ◌++◌, map, Option, Some, None, if◌then◌else◌}

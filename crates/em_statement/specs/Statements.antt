@@ -1,5 +1,5 @@
--- What a logical line of a makefile is. The tests come in this order: an empty line, a conditional, a directive by its first word,
--- an assignment, a rule.
+-- What a logical line of a makefile is. The tests come in this order: an empty line, a conditional,
+-- a directive by its first word, an assignment, a rule.
 --     statement_of line      the statement; the line is joined, stands outside recipes and has its comment
 use Rattle.std.specs.Prelude.{ℕ, ◌==◌, ◌||◌, nat_lt, Bool, true, false, List, [], take, Option, Some, None, is_some, option_map, option_and_then, unwrap_or, codes, if◌then◌else◌}
 use Rattle.std.specs.List.{position}
@@ -68,7 +68,8 @@ modified_by _ text = (none, text)
 abbrev pub modified : List ℕ → Modifiers × List ℕ
 modified text = modified_by (keyword_in text) text
 
--- `define NAME`, or `define NAME OPERATOR`: an assignment whose value stands on the lines up to `endef`
+-- `define NAME`, or `define NAME OPERATOR`: an assignment whose value stands on the lines up to
+-- `endef`
 abbrev pub recursive : Modifiers → List ℕ → Assignment
 recursive m text = record { modifiers = m; name = trimmed text; operator = Recursive; value = [] }
 

@@ -143,7 +143,8 @@ fn assignment_at(
     })
 }
 
-/// The assignment that the text is: an operator stands outside references in front of any other colon.
+/// The assignment that the text is: an operator stands outside references in front of any other
+/// colon.
 #[tactic(auto, unfolding(crate::specs::Assignments::assignment_of))]
 pub(crate) fn read_assignment(
     alloc: Global,

@@ -31,7 +31,8 @@ pub enum Condition {
     Malformed,
 }
 
-/// Where the byte first stands outside brackets; nowhere behind a bracket that closes more than was opened.
+/// Where the byte first stands outside brackets; nowhere behind a bracket that closes more than was
+/// opened.
 fn outer(stop: u8, shape: &[u8]) -> Option<usize>
     ensures { result ≡ outer stop 0 shape.now }
 {
@@ -138,7 +139,8 @@ fn compared(same: bool, sides: Option<Sides>) -> Condition
     }
 }
 
-/// The condition that the text behind this keyword is; `None` exactly where the keyword begins no condition. Steps for each byte.
+/// The condition that the text behind this keyword is; `None` exactly where the keyword begins no
+/// condition. Steps for each byte.
 #[tactic(auto, unfolding(crate::specs::Conditions::condition_by))]
 pub(crate) fn read_condition(
     alloc: Global,

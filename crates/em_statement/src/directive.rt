@@ -157,7 +157,8 @@ fn undefine(alloc: Global, modifiers: Modifiers, text: &[u8]) -> Result<Statemen
     Ok(Statement::Undefine(Undefine { overriding, name }))
 }
 
-/// What modifiers are put before: `define`, `undefine` and, where there are modifiers, an assignment.
+/// What modifiers are put before: `define`, `undefine` and, where there are modifiers, an
+/// assignment.
 #[tactic(auto, unfolding(crate::specs::Statements::directive_behind))]
 fn with_modifiers(
     alloc: Global,

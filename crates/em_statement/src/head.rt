@@ -134,9 +134,9 @@ pub(crate) fn head_at(alloc: Global, text: &[u8], at: usize) -> Result<Head, NoM
     head_with(alloc, targets_text(before(at, text)), rest)
 }
 
-/// The parts of a rule's head, when it is expanded; `None` exactly where no colon is in it, also where memory is short.
-/// A second colon ends the form of a static pattern rule; the first `|` begins the order-only prerequisites. Steps for
-/// each byte, and one copy of each word.
+/// The parts of a rule's head, when it is expanded; `None` exactly where no colon is in it, also
+/// where memory is short. A second colon ends the form of a static pattern rule; the first `|`
+/// begins the order-only prerequisites. Steps for each byte, and one copy of each word.
 #[tactic(auto, unfolding(crate::specs::Heads::head_of))]
 pub fn read_head(alloc: Global, text: &[u8]) -> Result<Option<Head>, NoMemory>
     ensures value { IfOk result (λ h. h ≡ head_of text.now) }

@@ -11,8 +11,8 @@ ghost use Rattle.em_statement.specs.Statements.{statement_of};
 
 use em_base::laws::law_trimmed;
 
-/// The shape of a text is as long as the text, and has its bytes or an `x` for them: what stands in the shape and is no `x` stands
-/// at the same place of the text.
+/// The shape of a text is as long as the text, and has its bytes or an `x` for them: what stands in
+/// the shape and is no `x` stands at the same place of the text.
 pub fn law_shape()
     ensures bytes { (text : List ℕ) → IsBlotted (shape text) text }
     ensures places { (text : List ℕ) → length (shape text) ≡ length text }
@@ -24,8 +24,8 @@ pub fn law_blank()
         → statement_of (blanks ++ comment) ≡ Blank }
 {}
 
-/// An assignment's text is its name, its operator as it may be written, and its value, in this order, with blanks round the name and
-/// behind the operator.
+/// An assignment's text is its name, its operator as it may be written, and its value, in this
+/// order, with blanks round the name and behind the operator.
 pub fn law_assignment()
     ensures { (modifiers : Modifiers) (text : List ℕ) (assignment : Assignment)
         → assignment_of modifiers text ≡ Some assignment → IsWritten text assignment }

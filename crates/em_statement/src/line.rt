@@ -80,9 +80,9 @@ fn by_first_word(alloc: Global, text: &[u8]) -> Result<Option<Statement>, NoMemo
     }
 }
 
-/// What a logical line is that stands outside recipes, with its comment. The tests come in this order: nothing but blanks, a
-/// conditional, a directive by its first word, an assignment, a rule. Nothing is expanded. Steps for each byte; a byte of the line is
-/// copied at most six times.
+/// What a logical line is that stands outside recipes, with its comment. The tests come in this
+/// order: nothing but blanks, a conditional, a directive by its first word, an assignment, a rule.
+/// Nothing is expanded. Steps for each byte; a byte of the line is copied at most six times.
 #[tactic(auto, unfolding(crate::specs::Statements::statement_of))]
 pub fn read_statement(alloc: Global, line: &[u8]) -> Result<Statement, NoMemory>
     ensures { IfOk result (λ s. s ≡ statement_of line.now) }

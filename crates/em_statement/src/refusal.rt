@@ -155,11 +155,12 @@ fn head_refusal(assigns: bool, colon: Colon, head: &Head) -> Option<&[u8]>
     first_prerequisite_refusal(head.order.items())
 }
 
-/// The name of the leftmost construct that is refused in a rule's head, when it is expanded; `None` where there is none, and, also
-/// where memory is short, where no colon is in it. `assigns` tells that an assignment stands behind the colon. Refused are `::`, `&:`,
-/// a `%` in one of several targets, a member of an archive, `\%`, an assignment (by the first target, if there is one), the special
-/// targets that aren't supported, `.SUFFIXES` with prerequisites and the prerequisite `.WAIT`; these names also with `./` in front.
-/// Steps for each byte, and one copy of each word.
+/// The name of the leftmost construct that is refused in a rule's head, when it is expanded; `None`
+/// where there is none, and, also where memory is short, where no colon is in it. `assigns` tells
+/// that an assignment stands behind the colon. Refused are `::`, `&:`, a `%` in one of several
+/// targets, a member of an archive, `\%`, an assignment (by the first target, if there is one), the
+/// special targets that aren't supported, `.SUFFIXES` with prerequisites and the prerequisite
+/// `.WAIT`; these names also with `./` in front. Steps for each byte, and one copy of each word.
 #[tactic(auto, unfolding(crate::specs::Heads::refusal_of))]
 pub fn refused_in_head(alloc: Global, assigns: bool, text: &[u8]) -> Result<Option<Text>, NoMemory>
     ensures value { IfOk result (λ r. r ≡ refusal_of assigns text.now) }

@@ -38,8 +38,8 @@ fn add_part(alloc: Global, shape: &mut Text, text: &[u8], part: Part) -> Result<
     }
 }
 
-/// The text with an `x` for each byte of a reference, so that what stands outside references is found by its byte. Steps for each
-/// byte.
+/// The text with an `x` for each byte of a reference, so that what stands outside references is
+/// found by its byte. Steps for each byte.
 #[tactic(auto, unfolding(crate::specs::Shapes::shape))]
 pub fn shape(alloc: Global, text: &[u8]) -> Result<Text, NoMemory>
     ensures { IfOk result (λ s. s ≡ shapes.shape text.now) }

@@ -56,7 +56,8 @@ pub enum Statement {
     /// `unexport`
     Unexport(Text),
     Assign(Assignment),
-    /// `endef` without its `define`, `override` without an assignment, `define` with something behind its operator.
+    /// `endef` without its `define`, `override` without an assignment, `define` with something
+    /// behind its operator.
     Stray,
     /// A line that is refused by its first word.
     Unsupported(Text),

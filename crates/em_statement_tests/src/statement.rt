@@ -63,7 +63,8 @@ fn operator_text(operator: Operator) -> &'static [u8] {
     }
 }
 
-/// An assignment, whose kinds are named with no modifier, with `override`, with `export` and with both.
+/// An assignment, whose kinds are named with no modifier, with `override`, with `export` and with
+/// both.
 fn assignment_seen<'a>(kinds: [&'static [u8]; 4], assignment: &'a Assignment) -> Seen<'a> {
     let [plain, overriding, exported, both] = kinds;
     let modifiers = assignment.modifiers;

@@ -64,8 +64,8 @@ fn tree(alloc: Global, text: &str) -> Result<Tree, Fail> {
     Ok(tree)
 }
 
-/// A state of a text of words like `d/a` and `f/a/x`: d a directory, f an empty file, b one that holds `b` and a newline, then the
-/// path; the root is always there.
+/// A state of a text of words like `d/a` and `f/a/x`: d a directory, f an empty file, b one that
+/// holds `b` and a newline, then the path; the root is always there.
 pub fn state(alloc: Global, text: &str) -> Result<State, Fail> {
     let tree = tree(alloc, text)?;
     let outcomes = Outcomes::new(alloc);

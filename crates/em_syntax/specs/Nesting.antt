@@ -1,4 +1,5 @@
--- How the pieces of a word nest: an `Argument` opens the argument of a value, and an `End` closes the innermost one.
+-- How the pieces of a word nest: an `Argument` opens the argument of a value, and an `End` closes
+-- the innermost one.
 --     IsClosed ps       each `End` belongs to an `Argument` before it, and none is left open
 --     open_after n ns   how many are open behind these, where n were before them
 use Rattle.std.specs.Prelude.{◌≡◌, ℕ, zero, suc, List, [], ◌∷◌, ◌++◌, Option, Some, None}

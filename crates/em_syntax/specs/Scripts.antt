@@ -1,4 +1,5 @@
--- The command substitutions of a word, from left to right: those in an argument count, those inside another substitution don't.
+-- The command substitutions of a word, from left to right: those in an argument count, those inside
+-- another substitution don't.
 use Rattle.std.specs.Prelude.{List, [], ◌∷◌, ◌++◌}
 use Rattle.em_syntax.specs.declared.tree.Command.TheOpen.{WordWhat-F}
 use Rattle.em_syntax.specs.declared.tree.Script.{Script}

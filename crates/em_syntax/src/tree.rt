@@ -41,7 +41,8 @@ pub enum Command {
     Compound(Compound, Vec<Redirect>),
 }
 
-/// Assignments, words and redirections, each in their order; at least one of them. An assignment stands before all words.
+/// Assignments, words and redirections, each in their order; at least one of them. An assignment
+/// stands before all words.
 #[cycle(tree)]
 #[derive(Drop)]
 pub struct Simple {
@@ -58,7 +59,8 @@ pub struct Assigned {
     pub value: Word,
 }
 
-/// A redirection of the descriptor `fd`. The target of `Duplicate` is the digit behind `>&`, as a word.
+/// A redirection of the descriptor `fd`. The target of `Duplicate` is the digit behind `>&`, as a
+/// word.
 #[cycle(tree)]
 #[derive(Drop)]
 pub struct Redirect {
@@ -140,15 +142,17 @@ pub struct Item {
     pub body: Option<Script>,
 }
 
-/// A word: its pieces from left to right, in one list. The argument of a value stands between an `Argument` and the `End` that belongs to
-/// it, so however deep values stand in one another, no word holds a word.
+/// A word: its pieces from left to right, in one list. The argument of a value stands between an
+/// `Argument` and the `End` that belongs to it, so however deep values stand in one another, no
+/// word holds a word.
 #[cycle(tree)]
 #[derive(Drop)]
 pub struct Word {
     pub pieces: Vec<WordPiece>,
 }
 
-/// A piece of a word. What is `quoted` is neither split nor expanded to path names; an `End` never is.
+/// A piece of a word. What is `quoted` is neither split nor expanded to path names; an `End` never
+/// is.
 #[cycle(tree)]
 #[derive(Drop)]
 pub struct WordPiece {
@@ -172,8 +176,8 @@ pub enum WordWhat {
     Output(Script),
 }
 
-/// `$name` and its kin. The form is what stands between the name and the argument, as `:-` or `%%`; `#` without an argument is a length,
-/// and `?` with an empty name is `$?`.
+/// `$name` and its kin. The form is what stands between the name and the argument, as `:-` or `%%`;
+/// `#` without an argument is a length, and `?` with an empty name is `$?`.
 #[derive(Drop)]
 pub struct Value {
     pub name: Text,

@@ -1,5 +1,5 @@
-//! What the tests of boards, committers and builds share: a small job, plans of it, who counts runs, and what is compared as
-//! texts.
+//! What the tests of boards, committers and builds share: a small job, plans of it, who counts
+//! runs, and what is compared as texts.
 #![tactic(auto)]
 
 mod counting;

@@ -15,7 +15,8 @@ use em_tree::{Body, Outcome, Outcomes, State, Tree};
 use em_view::{Desk, DeskNo, PlainView, View};
 use std::alloc::Global;
 
-/// Reads the file of the job before, says what it holds and then its own path, and makes a file of that at its path.
+/// Reads the file of the job before, says what it holds and then its own path, and makes a file of
+/// that at its path.
 #[derive(Drop, PartialEq, Eq)]
 pub struct Link {
     pub job: u32,

@@ -15,7 +15,8 @@ use std::test::Fail;
 /// What each job reads, and what it makes.
 pub type Plan<'a> = &'a [(&'static str, &'static str)];
 
-/// Three jobs, each of which reads the file of the one before. The first reads a file that isn't there.
+/// Three jobs, each of which reads the file of the one before. The first reads a file that isn't
+/// there.
 pub static THREE: [(&str, &str); 3] = [("/z", "/a"), ("/a", "/b"), ("/b", "/c")];
 
 /// The path of this text.

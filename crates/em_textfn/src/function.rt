@@ -124,12 +124,12 @@ fn value(alloc: Global, function: Function, args: &[Text]) -> Result<Text, Textf
     Ok(text)
 }
 
-/// What the function of this name gives for these arguments, which are expanded; `None` exactly where no text function has
-/// the name. Arguments beyond those that it needs are ignored.
+/// What the function of this name gives for these arguments, which are expanded; `None` exactly
+/// where no text function has the name. Arguments beyond those that it needs are ignored.
 ///
-/// The error is `BadArgument` for too few arguments, and where the first of `word` or one of the first two of `wordlist`
-/// isn't a canonical decimal number below 2^32, or the first is 0; else it is `NoMemory`, which comes only where there is a
-/// text to give.
+/// The error is `BadArgument` for too few arguments, and where the first of `word` or one of the
+/// first two of `wordlist` isn't a canonical decimal number below 2^32, or the first is 0; else it
+/// is `NoMemory`, which comes only where there is a text to give.
 pub fn text_function(alloc: Global, name: &[u8], args: &[Text]) -> Result<Option<Text>, TextfnNo>
     ensures ok { IfOk result (λ r. functions.text_function name.now args.now ≡ Ok r) }
     ensures err { IfErr result

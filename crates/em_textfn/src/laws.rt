@@ -6,7 +6,8 @@ ghost use Rattle.std.specs.Ordering.{nat_cmp};
 ghost use Rattle.std.specs.Cmp.Lexicographic.{slice_cmp};
 ghost use Rattle.em_textfn.specs.Texts.{matches, occurs, sorted, substituted};
 
-/// `filter` and `filter-out` part the words: together they have each as often as it stands there, and none is in both.
+/// `filter` and `filter-out` part the words: together they have each as often as it stands there,
+/// and none is in both.
 pub fn law_filters_part_the_words()
     ensures together { (patterns words : List (List ℕ))
         → IsPermutation words
@@ -16,7 +17,8 @@ pub fn law_filters_part_the_words()
         → Contains (filter (λ v. not (matches patterns v)) words) w → ⊥ }
 {}
 
-/// What `sort` gives rises in byte order, so that no word stands in it twice, and it has the same words.
+/// What `sort` gives rises in byte order, so that no word stands in it twice, and it has the same
+/// words.
 pub fn law_sorted()
     ensures rises { (words : List (List ℕ))
         → IsStrictlySortedBy (slice_cmp nat_cmp) (sorted words) }
@@ -24,7 +26,8 @@ pub fn law_sorted()
         → Contains (sorted words) w ↔ Contains words w }
 {}
 
-/// Worked cases of the search and the replacement: from the left, without overlaps, and an empty text at the end alone.
+/// Worked cases of the search and the replacement: from the left, without overlaps, and an empty
+/// text at the end alone.
 pub fn law_worked()
     ensures street { substituted (codes "ee") (codes "EE") (codes "feet on the street")
         ≡ codes "fEEt on the strEEt" }

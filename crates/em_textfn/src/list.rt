@@ -11,7 +11,8 @@ use em_wordlist::{join, join_texts, replace, stem, texts};
 use itoa::Buffer;
 use std::alloc::Global;
 
-/// The words, where each that matches p is replaced by r with the stem put in; none that becomes empty.
+/// The words, where each that matches p is replaced by r with the stem put in; none that becomes
+/// empty.
 fn replaced_words(alloc: Global, p: &[u8], r: &[u8], x: &[u8]) -> Result<Vec<Text>, NoMemory>
     ensures { IfOk result (λ v. v.items ≡ nonempty (map (replaced p.now r.now) (words_of x.now))) }
 {

@@ -1,5 +1,5 @@
--- What a utility writes of what it has read: of each source for itself, of all lines together, of two texts, or of the lines that hold a
--- pattern.
+-- What a utility writes of what it has read: of each source for itself, of all lines together, of
+-- two texts, or of the lines that hold a pattern.
 --     shown_by f name bytes       what a filter writes of the bytes of a file
 --     job_done utility job ss     what is written in the end, and the status
 use Rattle.std.specs.Prelude.{ℕ, ◌==◌, ◌||◌, Bool, false, not, nat_lt, List, [], ◌∷◌, ◌++◌, length, codes, decimal, if◌then◌else◌}

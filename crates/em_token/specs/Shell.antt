@@ -85,7 +85,8 @@ target = file ∣ duplicate
 abbrev pub redirect : Expr
 redirect = number ⨾ target
 
--- Simple commands: assignments and redirections, then words and redirections. The first word is no reserved word where the command begins with it.
+-- Simple commands: assignments and redirections, then words and redirections. The first word is no
+-- reserved word where the command begins with it.
 abbrev pub assigned : Expr
 assigned = key Assignment ⨾ key Assigning ⨾ word_rest
 

@@ -1,5 +1,5 @@
-//! What a lexeme holds. The caller has looked at its kind, so that another lexeme doesn't come: only for such a one the answer is want
-//! of memory.
+//! What a lexeme holds. The caller has looked at its kind, so that another lexeme doesn't come:
+//! only for such a one the answer is want of memory.
 ghost use Rattle.std.specs.Prelude.{◌≡◌, ℕ, Bool, List, IfOk, IsOk};
 ghost use Rattle.em_lexeme.specs.declared.lexeme.What.TheVariants as What;
 

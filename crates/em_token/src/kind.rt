@@ -5,7 +5,8 @@ ghost use Rattle.em_lexeme.specs.declared.lexeme.What.TheVariants as What;
 
 use em_lexeme::{Start, What};
 
-/// The kinds of lexemes that the grammar tells apart. The begin of a word tells which reserved word it may be.
+/// The kinds of lexemes that the grammar tells apart. The begin of a word tells which reserved word
+/// it may be.
 #[derive(Clone, Copy, Debug, PartialEq, Eq)]
 pub enum Kind {
     Plain,

@@ -17,8 +17,8 @@ use Rattle.em_tree.specs.declared.question.Entry.{Entry}
 use Rattle.em_tree.specs.Trees.{Table, kind_of, stamp_of, content_of}
 use Rattle.em_tree.specs.Names.{names_of}
 
--- The table need not be a tree. Where a path is absent its stamp is none; a content is that of a file, names are those
--- of a directory, and an outcome is that of a job that has one, else none.
+-- The table need not be a tree. Where a path is absent its stamp is none; a content is that of a
+-- file, names are those of a directory, and an outcome is that of a job that has one, else none.
 abbrev pub answer_on : Table → (ℕ → Option Outcome) → Question → Answer
 answer_on t outcomes (ask.Kind p) = told.Kind (kind_of (get t p))
 answer_on t outcomes (ask.Stamp p) = told.Stamp (stamp_of (get t p))

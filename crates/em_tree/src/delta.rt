@@ -19,8 +19,8 @@ use std::collections::btree_map::Iter;
 use std::collections::{BTreeMap, btree_set};
 use std::marker::Model;
 
-/// What paths become: a node, or absent. Contracts see the finite map; an index beside it has the named paths right under
-/// each directory.
+/// What paths become: a node, or absent. Contracts see the finite map; an index beside it has the
+/// named paths right under each directory.
 #[derive(Drop)]
 pub struct Delta {
     alloc: Global,
@@ -72,7 +72,8 @@ impl Delta {
         self.named.len()
     }
 
-    /// The i-th named path, from 0, in byte order, with what it becomes; `None` exactly where there are not so many. It costs i steps.
+    /// The i-th named path, from 0, in byte order, with what it becomes; `None` exactly where there
+    /// are not so many. It costs i steps.
     pub fn at(&self, i: usize) -> Option<(&Path, &Option<Node>)>
         ensures { option_map (λ c. (c.0.now, c.1.now)) result ≡ slice_get (map.entries self.now) i }
     {
@@ -111,7 +112,8 @@ impl Delta {
         take_out(&mut self.named, &mut self.children, place);
     }
 
-    /// Makes two paths nodes or absent, or neither where memory runs out. Only a path that isn't named yet can fail.
+    /// Makes two paths nodes or absent, or neither where memory runs out. Only a path that isn't
+    /// named yet can fail.
     pub fn set_both(
         &mut self,
         p: Path,

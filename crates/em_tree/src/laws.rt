@@ -55,7 +55,8 @@ pub fn law_all_answers()
     ensures { (s t : State) → ((q : Question) → answer s q ≡ answer t q) → s ≡ t }
 {}
 
-/// A tree stays a tree where a node is put into a directory; a directory that is there must stay one.
+/// A tree stays a tree where a node is put into a directory; a directory that is there must stay
+/// one.
 pub fn law_put()
     ensures { (t : Table) (p above : List ℕ) (n : Node) → IsTree t → IsPath p
         → parent_text p ≡ Some above → kind_of (map.get t above) ≡ kind.Dir

@@ -47,7 +47,8 @@ fn step_of(alloc: Global, p: &Path, becomes: &Option<Node>) -> Result<Step, NoMe
     })
 }
 
-/// Sees that a node stands at the step's path where it becomes one. A path that it adds goes to `added`.
+/// Sees that a node stands at the step's path where it becomes one. A path that it adds goes to
+/// `added`.
 fn add_room<'a>(
     nodes: &mut PathMap<Node>,
     children: &mut Children,

@@ -88,7 +88,8 @@ impl Eq for Body {
     ghost laws = { nat_list_eq_equiv };
 }
 
-/// A file with its bytes, or a directory. The stamp is the number of the change that made or touched it.
+/// A file with its bytes, or a directory. The stamp is the number of the change that made or
+/// touched it.
 #[derive(Debug, Drop, PartialEq, Eq)]
 pub enum Node {
     File { body: Body, stamp: u64 },

@@ -25,8 +25,9 @@ use std::collections::btree_set::Iter;
 use std::collections::{BTreeMap, btree_map};
 use std::marker::Model;
 
-/// A finite map from paths to nodes in which the root is a directory and the parent of every other path is one.
-/// Its nodes stand in byte order of their paths, and an index beside them has the paths right under each directory.
+/// A finite map from paths to nodes in which the root is a directory and the parent of every other
+/// path is one. Its nodes stand in byte order of their paths, and an index beside them has the
+/// paths right under each directory.
 #[derive(Drop)]
 pub struct Tree {
     alloc: Global,
@@ -130,7 +131,8 @@ impl Tree {
         self.nodes.len()
     }
 
-    /// The i-th node, from 0, in byte order of the paths; `None` exactly where there are not so many. It costs i steps.
+    /// The i-th node, from 0, in byte order of the paths; `None` exactly where there are not so
+    /// many. It costs i steps.
     pub fn at(&self, i: usize) -> Option<(&Path, &Node)>
         ensures { option_map (λ e. (e.0.now, e.1.now)) result ≡ slice_get (map.entries self.now) i }
     {
@@ -193,7 +195,8 @@ impl Tree {
         put(&mut self.nodes, &mut self.children, self.alloc, p, n)
     }
 
-    /// Puts a node at an absent path, in one search less than `set`. The table with it must be a tree.
+    /// Puts a node at an absent path, in one search less than `set`. The table with it must be a
+    /// tree.
     pub fn add(&mut self, p: Path, n: Node) -> Result<(), NoMemory>
         requires absent { map.get self.old p ≡ None }
         requires tree { IsTree (map.insert self.old p n) }
@@ -203,7 +206,8 @@ impl Tree {
         put_absent(&mut self.nodes, &mut self.children, self.alloc, p, n)
     }
 
-    /// Makes each path that the delta names what it says; the others stay. The table then must be a tree.
+    /// Makes each path that the delta names what it says; the others stay. The table then must be a
+    /// tree.
     pub fn lay(&mut self, d: &Delta) -> Result<(), NoMemory>
         requires tree { IsTree (laid_over d.now self.old) }
         ensures ok { OnOk result (self.new ≡ laid_over d.now self.old) }

@@ -1,7 +1,9 @@
--- The options of a utility: the words of a dash and letters before the first operand. `--` ends them and is no operand. A dash
--- alone is an operand, and so is a word with another byte than letters, unless the utility lists that byte. A letter's value is
--- what stands behind it in its word, or else the next word (POSIX, Utility Syntax Guidelines 5 to 7). Where a letter takes a value,
--- a dash and digits alone, as `-5`, would be its old form, and is one of options that isn't listed.
+-- The options of a utility: the words of a dash and letters before the first operand. `--` ends
+-- them and is no operand. A dash alone is an operand, and so is a word with another byte than
+-- letters, unless the utility lists that byte. A letter's value is what stands behind it in its
+-- word, or else the next word (POSIX, Utility Syntax Guidelines 5 to 7). Where a letter takes a
+-- value, a dash and digits alone, as `-5`, would be its old form, and is one of options that isn't
+-- listed.
 --     letters_in valued bytes, value_in valued bytes    of a word without its dash the letters, and the value behind them
 --     is_option listed valued word         the word is one of options
 --     options_of listed valued words     letters, the value of one, and how many words they take

@@ -1,4 +1,5 @@
-//! The tests of what the utilities share, of those that work on files and of those that work on text.
+//! The tests of what the utilities share, of those that work on files and of those that work on
+//! text.
 #![tactic(auto)]
 
 #[cfg(test)]

@@ -1,4 +1,5 @@
--- What the definitions of variables come to, and what indexmap's words on its entries come to on the entries that contracts see.
+-- What the definitions of variables come to, and what indexmap's words on its entries come to on
+-- the entries that contracts see.
 use Rattle.std.proofs.Common.{◌≡◌, ◌≢◌, ◌∙◌, refl, sym, ap, ℕ, Bool, true, false, not, cond, List, [], ◌∷◌, ◌++◌, map, Some, None, IsSome, subst, append_assoc}
 use Rattle.std.proofs.lemmas.Bool.{false≢true}
 use Rattle.std.specs.Str.{bytes_eq}

@@ -58,7 +58,8 @@ const ORIGINS: [Origin; 5] = [
     Origin::Automatic,
 ];
 
-/// For each origin that a variable has, in the order above, whether one of each origin, in that order, replaces it.
+/// For each origin that a variable has, in the order above, whether one of each origin, in that
+/// order, replaces it.
 const REPLACES: [[bool; 5]; 5] = [
     [true, true, true, true, true],
     [false, true, true, true, true],

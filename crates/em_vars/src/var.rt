@@ -18,7 +18,8 @@ pub enum Origin {
     Override,
     File,
     Default,
-    /// A recipe's automatic variables, and what a shell assigns: nothing ranks above it, so that it always takes effect.
+    /// A recipe's automatic variables, and what a shell assigns: nothing ranks above it, so that it
+    /// always takes effect.
     Automatic,
 }
 

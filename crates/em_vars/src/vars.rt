@@ -14,8 +14,8 @@ use indexmap::map::Iter;
 use std::alloc::Global;
 use std::marker::Model;
 
-/// Variables, each name once, in the order in which the names were first defined. Contracts see the list of the names, each
-/// with its variable.
+/// Variables, each name once, in the order in which the names were first defined. Contracts see the
+/// list of the names, each with its variable.
 #[derive(Drop)]
 pub struct Vars {
     held: IndexMap<Vec<u8>, Var>,
@@ -87,8 +87,8 @@ impl Vars {
         self.len() == 0
     }
 
-    /// The i-th name, in the order in which they were first defined, with its variable; `None` exactly where there are no more
-    /// than i. One step.
+    /// The i-th name, in the order in which they were first defined, with its variable; `None`
+    /// exactly where there are no more than i. One step.
     pub fn at(&self, i: usize) -> Option<(&[u8], &Var)>
         ensures { option_map (λ e. (e.0.now, e.1.now)) result ≡ slice_get self.now i }
     {
@@ -104,9 +104,10 @@ impl Vars {
         self.held.iter()
     }
 
-    /// Gives the name the variable, at the place where the name was first defined. The answer is false exactly where a
-    /// variable is there whose origin ranks above the new one's; it keeps its value, and no memory is asked for. From the lowest
-    /// the ranks are `Default`, `File`, `CommandLine`, `Override`, `Automatic`.
+    /// Gives the name the variable, at the place where the name was first defined. The answer is
+    /// false exactly where a variable is there whose origin ranks above the new one's; it keeps its
+    /// value, and no memory is asked for. From the lowest the ranks are `Default`, `File`,
+    /// `CommandLine`, `Override`, `Automatic`.
     pub fn set(&mut self, name: Text, v: Var) -> Result<bool, NoMemory>
         ensures answer { IfOk result (λ b. b ≡ not (keeps (value_of self.old name) v)) }
         ensures refused { keeps (value_of self.old name) v ≡ true → result ≡ Ok false }

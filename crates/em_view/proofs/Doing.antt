@@ -102,7 +102,8 @@ module _ {V S T D E A : Type 0} {low : D → Bool} {free : E → Bool} {tells : 
 
 -- ---- loops
 
--- whatever goes on with the rest from this desk and state goes on with the whole from the first ones
+-- whatever goes on with the rest from this desk and state goes on with the whole from the first
+-- ones
 abbrev pub Goes : {V S E A : Type 0} → (E → Bool) → (V → Told) → DeskState V → DeskState V → S → S → Steps S E A → Steps S E A → Type 0
 Goes {V} {S} {E} {A} free tells first here s t whole rest = (new : DeskState V) (u : S) (r : Result A E) → Does free tells here new t u r rest → Does free tells first new s u r whole
 

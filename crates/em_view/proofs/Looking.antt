@@ -1,4 +1,5 @@
--- What is seen at a path on a state, and that the changes of `put`, `place` and `make_dir` leave a tree.
+-- What is seen at a path on a state, and that the changes of `put`, `place` and `make_dir` leave a
+-- tree.
 use Rattle.std.proofs.Common.{◌≡◌, ◌≢◌, ℕ, ◌+◌, ◌^◌, ◌≤◌, true, List, ◌++◌, length, Option, Some, None, Result, Ok, Err, refl, sym, ap, subst, ◌∙◌, ◌⊎◌, inl, inr, arith}
 use Rattle.std.specs.Prelude.{IfSome, IfErr, OnErr, OnOk}
 use Rattle.std.specs.Option.{option_map}

@@ -201,7 +201,8 @@ pub agreed_with : (s : State) (es : List Entry) → AreTrue (λ i q. Some (answe
 agreed_with s [] h = tt
 agreed_with s (e ∷ es) h = (sym h.0, agreed_with s es h.1)
 
--- what the desk of a plain view did is what its state says, and the state agrees with all that was answered
+-- what the desk of a plain view did is what its state says, and the state agrees with all that was
+-- answered
 pub on_state : {V E A : Type 0} {free : E → Bool} {tells : V → Told} {d e : DeskState V} {r : Result A E} {m : Action E A} (s : State) → tells d.view ≡ (λ i q. Some (answer s q)) → d.usage ≡ []
     → is_free free r ≡ false → Performs free tells d e r m → (m (snapshot s) d.work ≡ (r, e.work)) × Agrees s e.usage
 on_state {d} {e} s plain none given p =

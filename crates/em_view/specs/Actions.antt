@@ -18,7 +18,8 @@ use Rattle.em_view.specs.declared.no.DeskNo.TheVariants as no
 
 -- all that an action reads or writes
 pub record Workspace : Type 0 where
-  -- the greatest stamp of the starting tree, and the job's number: with the number of a change they make its stamp
+  -- the greatest stamp of the starting tree, and the job's number: with the number of a change they
+  -- make its stamp
   pub base : ℕ
   pub job : ℕ
   -- the fuel that the job was given, and what is left of it
@@ -30,8 +31,8 @@ pub record Workspace : Type 0 where
   -- the questions that were asked, in order
   pub asked : List Question
 
--- an answer belongs to an ask: asks are numbered from 0, by how many were made before. So one question may be asked twice
--- and be answered differently
+-- an answer belongs to an ask: asks are numbered from 0, by how many were made before. So one
+-- question may be asked twice and be answered differently
 abbrev pub Oracle : Type 0
 Oracle = ℕ → Question → Answer
 

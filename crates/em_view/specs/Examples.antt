@@ -1,4 +1,5 @@
--- Four shapes of functions over a desk, of which docs/DESKS.md works two through; the crate's tests prove a function of each.
+-- Four shapes of functions over a desk, of which docs/DESKS.md works two through; the crate's tests
+-- prove a function of each.
 --     show p            an output, with a refusal after what was said
 --     wait n p          a recursion on a number of turns
 --     known p           a lower layer's error under its name in a higher one

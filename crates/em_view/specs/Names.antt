@@ -13,7 +13,8 @@ use Rattle.em_tree.specs.declared.node.Node.{Node}
 use Rattle.em_tree.specs.Trees.{Changes}
 use Rattle.em_tree.specs.Names.{children_of}
 
--- one path that the changes name: where it becomes a node its last component is put among the names, in their order, else taken out
+-- one path that the changes name: where it becomes a node its last component is put among the
+-- names, in their order, else taken out
 abbrev pub amended : Option (Option Node) → Option (List ℕ) → List (List ℕ) → List (List ℕ)
 amended (Some (Some n)) (Some name) ns = insert_key (slice_cmp nat_cmp) ns name
 amended (Some None) (Some name) ns = remove_key (is_at (slice_cmp nat_cmp name)) ns

@@ -29,9 +29,11 @@ abbrev pub is_free : {E A : Type 0} → (E → Bool) → Result A E → Bool
 is_free free (Ok a) = false
 is_free free (Err e) = free e
 
--- what holds between a desk and a later one, whatever was done in between, also where memory ran out
+-- what holds between a desk and a later one, whatever was done in between, also where memory ran
+-- out
 pub record Grows {V : Type 0} (tells : V → Told) (old new : DeskState V) : Type 0 where
-  -- what was answered on the way is kept, in order, with its questions, and is what the view told; it was asked nothing else
+  -- what was answered on the way is kept, in order, with its questions, and is what the view told;
+  -- it was asked nothing else
   pub entries : List Entry
   pub grew : new.usage ≡ old.usage ++ entries
   pub asked : new.work.asked ≡ old.work.asked ++ map (λ e. e.question) entries
@@ -45,10 +47,12 @@ pub record Grows {V : Type 0} (tells : V → Told) (old new : DeskState V) : Typ
 
 pub record Performs {V E A : Type 0} (free : E → Bool) (tells : V → Told) (old new : DeskState V) (result : Result A E) (action : Action E A) : Type 0 where
   pub grows : Grows tells old new
-  -- unless memory ran out: whatever answers these asks so makes the action give this result and this workspace
+  -- unless memory ran out: whatever answers these asks so makes the action give this result and
+  -- this workspace
   pub plain : is_free free result ≡ false → (o : Oracle) → AgreesFrom (length old.work.asked) o grows.entries → action o old.work ≡ (result, new.work)
 
--- the workspace is as it was but for what an end without a value may cost: at most so many units, and questions
+-- the workspace is as it was but for what an end without a value may cost: at most so many units,
+-- and questions
 pub record Keeps (units : ℕ) (old new : Workspace) : Type 0 where
   pub work : new ≡ record old { fuel = new.fuel; asked = new.asked }
   pub lost : old.fuel ≤ new.fuel + units

@@ -1,8 +1,8 @@
 -- What the operations of a desk do. What the job's own changes say of a path isn't asked.
 --     kind, stamp, content, names, outcome              questions
 --     put, make_dir, remove, touch, place               changes; refusals come in the order in which they stand here
--- Each costs a unit, taken before the first question of a reading, and for a change after its refusals; and the blocks of the
--- bytes that it gives or puts, taken before they are used.
+-- Each costs a unit, taken before the first question of a reading, and for a change after its
+-- refusals; and the blocks of the bytes that it gives or puts, taken before they are used.
 use Rattle.std.specs.Prelude.{ℕ, ◌+◌, ◌*◌, ◌/◌, ◌^◌, Bool, true, false, nat_lt, List, [], ◌∷◌, length, Result, Ok, Option, Some, None, unwrap_or, option_map, if◌then◌else◌}
 use Rattle.std.specs.FinMap.{insert}
 use Rattle.em_path.specs.Paths.{parent_text}
@@ -176,7 +176,8 @@ change_number base job k = base + job * 2 ^ 20 + k
 unfoldable pub number : Action DeskNo ℕ
 number = λ o w. (Ok (change_number w.base w.job (w.count + 1)), w)
 
--- the path becomes the node, or absent; a directory above it that is stamped gets the number of the change
+-- the path becomes the node, or absent; a directory above it that is stamped gets the number of the
+-- change
 abbrev pub becomes : List ℕ → Option Node → Option (List ℕ) → ℕ → Changes → Changes
 becomes p c None n d = insert d p c
 becomes p c (Some above) n d = insert (insert d p c) above (Some (Dir n))

@@ -1,5 +1,6 @@
--- What is done over a desk to a state that the caller lends, such as an output, what was said, a shell or a reading. The state
--- comes back beside a value and beside an error, since what was made before a refusal stands.
+-- What is done over a desk to a state that the caller lends, such as an output, what was said, a
+-- shell or a reading. The state comes back beside a value and beside an error, since what was made
+-- before a refusal stands.
 --     Steps S E A             from a state an action, whose value or error comes with the state after it
 --     and_then m k            one after another; `Do.antt` names it ◌>>=◌, for `do` blocks
 --     done a, refuse e        a value, an error; the state stays

@@ -18,9 +18,10 @@ use em_tree::{Answer, Delta, Entry, Node, Question};
 use std::alloc::Global;
 use std::marker::Model;
 
-/// Asks a view in the name of a job, keeps every answer in order, and holds what the job has changed. What the job's own
-/// changes say of a path isn't asked. Each call costs fuel. Where memory runs out, the answers are kept and no change is
-/// made; the units of the call may be spent. Contracts see the view, the answers and a workspace.
+/// Asks a view in the name of a job, keeps every answer in order, and holds what the job has
+/// changed. What the job's own changes say of a path isn't asked. Each call costs fuel. Where
+/// memory runs out, the answers are kept and no change is made; the units of the call may be spent.
+/// Contracts see the view, the answers and a workspace.
 #[derive(Drop)]
 pub struct Desk<V> {
     pub(crate) alloc: Global,

@@ -46,8 +46,9 @@ impl<V: View> Desk<V> {
         self.take_away(p, above)
     }
 
-    /// Takes a file or an empty directory away, and stamps the directory above. Refusals, in this order: `Root`, before
-    /// anything is asked; `Absent`; `NotEmpty`. A directory of which the view tells no list of names is empty. It costs 1.
+    /// Takes a file or an empty directory away, and stamps the directory above. Refusals, in this
+    /// order: `Root`, before anything is asked; `Absent`; `NotEmpty`. A directory of which the view
+    /// tells no list of names is empty. It costs 1.
     pub fn remove(&mut self, p: &Path) -> Result<(), DeskNo>
         ensures performs { Acts V.tells self.old self.new result (remove p.now) }
         ensures root { parent_text p.now ≡ None → 1 ≤ self.old.work.fuel
@@ -94,8 +95,9 @@ impl<V: View> Desk<V> {
         self.change(p.copy()?, Some(Node::File { body, stamp }), None)
     }
 
-    /// Gives what stands at a path the stamp of the change. A file keeps its bytes, so they are asked for; where they are
-    /// then told to be absent, so is the file. The one refusal is `Absent`. It costs 1.
+    /// Gives what stands at a path the stamp of the change. A file keeps its bytes, so they are
+    /// asked for; where they are then told to be absent, so is the file. The one refusal is
+    /// `Absent`. It costs 1.
     pub fn touch(&mut self, p: &Path) -> Result<(), DeskNo>
         ensures performs { Acts V.tells self.old self.new result (touch p.now) }
         ensures spent { self.old.work.fuel < 1 → IsErrOf result no.Spent }

@@ -77,7 +77,8 @@ fn amend_all(
     Ok(())
 }
 
-/// The names of a directory with the children that the changes put there, and without those that they took.
+/// The names of a directory with the children that the changes put there, and without those that
+/// they took.
 pub(crate) fn with_own(
     alloc: Global,
     changes: &Delta,

@@ -38,7 +38,8 @@ impl<V: View> Desk<V> {
         self.stamp_below(p)
     }
 
-    /// The bytes of the file at a path; `None` where no file is there. It costs 1 and the blocks of the bytes.
+    /// The bytes of the file at a path; `None` where no file is there. It costs 1 and the blocks of
+    /// the bytes.
     pub fn content(&mut self, p: &Path) -> Result<Option<Body>, DeskNo>
         ensures performs { Acts V.tells self.old self.new result (content p.now) }
         ensures still { self.new.work
@@ -53,8 +54,8 @@ impl<V: View> Desk<V> {
         Ok(body)
     }
 
-    /// The names of the directory at a path in byte order; `None` where no directory is there. It costs 1 and the blocks of
-    /// the names' bytes.
+    /// The names of the directory at a path in byte order; `None` where no directory is there. It
+    /// costs 1 and the blocks of the names' bytes.
     pub fn names(&mut self, p: &Path) -> Result<Option<NameList>, DeskNo>
         ensures performs { Acts V.tells self.old self.new result (names p.now) }
         ensures still { self.new.work

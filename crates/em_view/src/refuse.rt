@@ -29,7 +29,8 @@ fn size_refusal(size: u64) -> Option<FileNo>
     }
 }
 
-/// Why no file of so many bytes can be put where this kind of node is, with this kind of parent. The root is a directory.
+/// Why no file of so many bytes can be put where this kind of node is, with this kind of parent.
+/// The root is a directory.
 pub(crate) fn put_refusal(kind: Kind, above: Option<Kind>, size: u64) -> Option<FileNo>
     ensures { result ≡ put_refusal kind above size }
 {
@@ -71,7 +72,8 @@ pub(crate) fn names_refusal(names: &Option<NameList>) -> Option<FileNo>
     }
 }
 
-/// The directory that gets the stamp of a file that is put where this kind of node is: the one above a new name.
+/// The directory that gets the stamp of a file that is put where this kind of node is: the one
+/// above a new name.
 pub(crate) fn stamped(kind: Kind, above: Option<Path>) -> Option<Path>
     ensures { result ≡ stamped kind above }
 {

@@ -10,12 +10,15 @@ use em_tree::{Answer, Question, State};
 use std::alloc::Global;
 use std::marker::Model;
 
-/// What a job's questions are put to. Nothing else is promised of it: the answers to two asks need not fit together.
+/// What a job's questions are put to. Nothing else is promised of it: the answers to two asks need
+/// not fit together.
 pub trait View: Drop {
-    /// The answer to the i-th ask from now, from 0, where it is this question; none where the view doesn't tell it.
+    /// The answer to the i-th ask from now, from 0, where it is this question; none where the view
+    /// doesn't tell it.
     ghost tells: { Self → ℕ → Question → Option Answer };
 
-    /// Answers a question, by an answer of its kind. Where memory runs out, what the view tells stays as it was.
+    /// Answers a question, by an answer of its kind. Where memory runs out, what the view tells
+    /// stays as it was.
     fn ask(&mut self, alloc: Global, q: &Question) -> Result<Answer, NoMemory>
         ensures kind { IfOk result (λ a. IsAnswerTo q.now a) }
         ensures told { IfOk result (λ a. IsTold (tells self.old 0 q.now) a) }
@@ -59,8 +62,8 @@ impl<'a> View for PlainView<'a> {
     }
 }
 
-/// The answers of several states: of the i-th to the i-th ask, and of the last to all later ones. Contracts see the list of
-/// the states that are still to come, the last one among them.
+/// The answers of several states: of the i-th to the i-th ask, and of the last to all later ones.
+/// Contracts see the list of the states that are still to come, the last one among them.
 #[derive(Drop)]
 pub struct ScriptView {
     states: Vec<State>,

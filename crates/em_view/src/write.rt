@@ -13,8 +13,9 @@ use em_path::Path;
 use em_tree::{Body, Node};
 
 impl<V: View> Desk<V> {
-    /// Puts a file of these bytes at a path, with the stamp of the change. The directory above is stamped where the name is new.
-    /// Refusals, in this order: `IsDir`, also of the root; `NoParent`, `NotDir`; `TooBig`. It costs 1 and the blocks of the bytes.
+    /// Puts a file of these bytes at a path, with the stamp of the change. The directory above is
+    /// stamped where the name is new. Refusals, in this order: `IsDir`, also of the root;
+    /// `NoParent`, `NotDir`; `TooBig`. It costs 1 and the blocks of the bytes.
     pub fn put(&mut self, p: &Path, bytes: &[u8]) -> Result<(), DeskNo>
         ensures performs { Acts V.tells self.old self.new result (put p.now bytes.now) }
         ensures spent { self.old.work.fuel < 1 → IsErrOf result no.Spent }
@@ -38,7 +39,8 @@ impl<V: View> Desk<V> {
         )
     }
 
-    /// Puts a file of these bytes and this stamp at a path, as `put` does; the directory above is always stamped.
+    /// Puts a file of these bytes and this stamp at a path, as `put` does; the directory above is
+    /// always stamped.
     pub fn place(&mut self, p: &Path, bytes: &[u8], stamp: u64) -> Result<(), DeskNo>
         ensures performs { Acts V.tells self.old self.new result (place p.now bytes.now stamp) }
         ensures spent { self.old.work.fuel < 1 → IsErrOf result no.Spent }
@@ -57,8 +59,8 @@ impl<V: View> Desk<V> {
         self.change(p.copy()?, Some(Node::File { body, stamp }), above)
     }
 
-    /// Makes a directory at a path where nothing is, and stamps the directory above. Refusals, in this order: `Exists`, also
-    /// of the root; `NoParent`, `NotDir`. It costs 1.
+    /// Makes a directory at a path where nothing is, and stamps the directory above. Refusals, in
+    /// this order: `Exists`, also of the root; `NoParent`, `NotDir`. It costs 1.
     pub fn make_dir(&mut self, p: &Path) -> Result<(), DeskNo>
         ensures performs { Acts V.tells self.old self.new result (make_dir p.now) }
         ensures spent { self.old.work.fuel < 1 → IsErrOf result no.Spent }

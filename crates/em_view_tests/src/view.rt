@@ -1,9 +1,10 @@
-//! Desks over small trees. A state is a text of words like `f4/d/x`: d a directory, f a file of 2 bytes and g one of 300, then
-//! the stamp and the path; the root is always there, with stamp 1, and job 0 has ended. A call is a word of a letter and a path:
-//! k kind, s stamp, c content, n names, o outcome of job 0, O of job 1, m make_dir, r remove, t touch, p put of 1 byte, P put of
-//! 300, l place of 1 byte with stamp 7; or of a digit and a path, for spend. What is expected stands in one text: results |
-//! usage | units left + units used | changes. A file is shown as its bytes and its stamp, as `1b101`, a directory as `d101`. A
-//! job's first change has number 101.
+//! Desks over small trees. A state is a text of words like `f4/d/x`: d a directory, f a file of 2
+//! bytes and g one of 300, then the stamp and the path; the root is always there, with stamp 1, and
+//! job 0 has ended. A call is a word of a letter and a path: k kind, s stamp, c content, n names, o
+//! outcome of job 0, O of job 1, m make_dir, r remove, t touch, p put of 1 byte, P put of 300, l
+//! place of 1 byte with stamp 7; or of a digit and a path, for spend. What is expected stands in
+//! one text: results | usage | units left + units used | changes. A file is shown as its bytes and
+//! its stamp, as `1b101`, a directory as `d101`. A job's first change has number 101.
 ghost use Rattle.std.specs.Prelude.{◌≡◌, Some};
 ghost use Rattle.std.specs.FinMap as map;
 ghost use Rattle.em_path.specs.Paths.{IsPath, parent_text};

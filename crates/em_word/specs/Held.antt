@@ -132,7 +132,8 @@ abbrev pub seen : Expander → Result WordTurn WordFault → Result Stop WordFau
 seen e (Ok t) = Ok (seen_turn e t)
 seen e (Err f) = Err f
 
--- the next turn may be taken after a value is set, and an output is waited for after it was asked for
+-- the next turn may be taken after a value is set, and an output is waited for after it was asked
+-- for
 abbrev pub StandsAfter : Expander → WordTurn → Type 0
 StandsAfter e (turn.Set name value) = IsReady e
 StandsAfter e (turn.Output n) = IsAsking e n

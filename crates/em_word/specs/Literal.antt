@@ -1,4 +1,5 @@
--- Words that are one text in any shell: a piece of bytes that are quoted, or of which none parts fields or is of a pattern.
+-- Words that are one text in any shell: a piece of bytes that are quoted, or of which none parts
+-- fields or is of a pattern.
 use Rattle.std.specs.Prelude.{ℕ, ◌==◌, ◌&&◌, ◌||◌, Bool, not, List, [], ◌∷◌, length, Option, Some, None, if◌then◌else◌}
 use Rattle.std.specs.List.{list_all}
 use Rattle.em_syntax.specs.declared.tree.Command.TheOpen.{WordWhat-F}

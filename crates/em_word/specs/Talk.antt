@@ -1,4 +1,5 @@
--- What the expansion of a word needs, step by step, of the shell around it. It is a plan: nothing is done by it.
+-- What the expansion of a word needs, step by step, of the shell around it. It is a plan: nothing
+-- is done by it.
 --     Ends a               it is done, and gives a
 --     Fails f              it ends with a fault
 --     Pays n t             n units of fuel are taken, then t

@@ -18,8 +18,8 @@ use Rattle.em_word.specs.Talk.{Ends, Fails, Pays, Looks, Sets, Asks}
 use Rattle.em_word.specs.Values.{Plan}
 use Rattle.em_word.specs.Ends.{of_desk}
 
--- a turn: the fields, the pattern, a variable that is to be set, or a command whose output is needed; the last two with what follows.
--- No command stands for one that isn't in the word
+-- a turn: the fields, the pattern, a variable that is to be set, or a command whose output is
+-- needed; the last two with what follows. No command stands for one that isn't in the word
 pub data Stop : Type 0 where
   Finished : List (List ℕ) → Stop
   Matching : List Glyph → Stop

@@ -1,8 +1,10 @@
--- The expansion of a word of the syntax tree, up to splitting: what it asks for are the scripts of its command substitutions.
+-- The expansion of a word of the syntax tree, up to splitting: what it asks for are the scripts of
+-- its command substitutions.
 --     plan n os ps pieces   the pieces from left to right behind the parts ps, where the arguments of the values os are open, the
 --                           innermost first, and of n more arguments, which don't bear on their values, only the ends are looked for
 --     word_plan w           all pieces of a word
--- What this means is said by the laws in laws.rt: closed lists come one after another, and a value is expanded with its argument.
+-- What this means is said by the laws in laws.rt: closed lists come one after another, and a value
+-- is expanded with its argument.
 use Rattle.std.specs.Prelude.{ℕ, zero, suc, Bool, true, List, [], ◌∷◌, Option, Some, None}
 use Rattle.em_base.specs.declared.construct.Construct.TheVariants.{Positional}
 use Rattle.em_syntax.specs.declared.tree.Command.TheOpen.{WordWhat-F}

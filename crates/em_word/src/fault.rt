@@ -11,7 +11,8 @@ use thiserror::Error;
 /// Why a word has no expansion.
 #[derive(Debug, Drop, PartialEq, Eq, Error)]
 pub enum WordFault {
-    /// `${name?word}` of a name that is unset: this line, `emake: sh: name: word`, is to be written, and the shell ends with status 1.
+    /// `${name?word}` of a name that is unset: this line, `emake: sh: name: word`, is to be
+    /// written, and the shell ends with status 1.
     #[error("a parameter is unset")]
     Unset(Text),
     /// It has an expansion that isn't supported.

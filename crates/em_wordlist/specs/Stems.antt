@@ -11,7 +11,8 @@ use Rattle.em_base.specs.Spans.{cut}
 abbrev pub is_percent : ℕ → Bool
 is_percent b = b == 37
 
--- with its first `%` at i: the part before it, the stem, the part after it; without one the pattern itself, and no stem
+-- with its first `%` at i: the part before it, the stem, the part after it; without one the pattern
+-- itself, and no stem
 abbrev pub IsMatchAt : Option ℕ → List ℕ → List ℕ → List ℕ → Type 0
 IsMatchAt None pattern word stem = (word ≡ pattern) × (stem ≡ [])
 IsMatchAt (Some i) pattern word stem = word ≡ take i pattern ++ stem ++ drop (i + 1) pattern

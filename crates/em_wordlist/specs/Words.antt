@@ -7,7 +7,8 @@ use Rattle.std.specs.List.{slice_split, filter, join_with_byte}
 use Rattle.em_base.specs.declared.place.Span.{Span}
 use Rattle.em_base.specs.Blanks.{is_blank}
 
--- a run without blanks that isn't empty, and that ends on both sides at a blank or at an end of the text
+-- a run without blanks that isn't empty, and that ends on both sides at a blank or at an end of the
+-- text
 pub record IsWord (text : List ℕ) (s : Span) : Type 0 where
   pub filled : s.start < s.end
   pub within : s.end ≤ length text

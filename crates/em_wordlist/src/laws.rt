@@ -35,8 +35,8 @@ pub fn law_stem_is_put_back()
         → IsMatch pattern word stem → replaced pattern to word ≡ filled to stem }
 {}
 
-/// A pattern with a `%` that is filled with a stem matches with this stem, and a word that matches is the pattern filled with
-/// its stem.
+/// A pattern with a `%` that is filled with a stem matches with this stem, and a word that matches
+/// is the pattern filled with its stem.
 pub fn law_filled_matches()
     ensures matches { (pattern stem : List ℕ) (i : ℕ) → position is_percent pattern ≡ Some i
         → IsMatch pattern (filled pattern stem) stem }

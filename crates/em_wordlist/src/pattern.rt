@@ -14,9 +14,9 @@ fn percent(text: &[u8]) -> Option<usize>
     text.iter().position(|b| *b == b'%')
 }
 
-/// Where the stem stands in the word, which is what the pattern's first `%` stands for; `None` exactly where the word
-/// doesn't match. A backslash before the `%` is an ordinary byte. A pattern without `%` matches itself alone, with an empty
-/// stem at 0.
+/// Where the stem stands in the word, which is what the pattern's first `%` stands for; `None`
+/// exactly where the word doesn't match. A backslash before the `%` is an ordinary byte. A pattern
+/// without `%` matches itself alone, with an empty stem at 0.
 pub fn stem(pattern: &[u8], word: &[u8]) -> Option<Span>
     ensures stem { result ≡ stem_of pattern.now word.now }
     ensures some { IfSome result (λ s. IsMatch pattern.now word.now (cut word.now s)) }
@@ -54,8 +54,8 @@ pub fn fill(alloc: Global, pattern: &[u8], stem: &[u8]) -> Result<Text, NoMemory
     Ok(text)
 }
 
-/// The word, and where it matches the pattern the text `to` with the stem for its first `%`. A pattern without `%` has no
-/// stem to give: then `to` stands as it is.
+/// The word, and where it matches the pattern the text `to` with the stem for its first `%`. A
+/// pattern without `%` has no stem to give: then `to` stands as it is.
 pub fn replace(alloc: Global, pattern: &[u8], to: &[u8], word: &[u8]) -> Result<Text, NoMemory>
     ensures { IfOk result (λ t. t ≡ replaced pattern.now to.now word.now) }
 {

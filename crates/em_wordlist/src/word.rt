@@ -42,7 +42,8 @@ fn next_word(text: &[u8], at: usize) -> Option<Span>
     Some(Span { start, end })
 }
 
-/// The words of a text, its longest runs without blanks, in order. Blanks are space and tab; a newline is none.
+/// The words of a text, its longest runs without blanks, in order. Blanks are space and tab; a
+/// newline is none.
 pub fn words(alloc: Global, text: &[u8]) -> Result<Vec<Span>, NoMemory>
     ensures words { IfOk result (λ v. AreWords text.now v.items) }
     ensures texts { IfOk result (λ v. map (λ s. cut text.now s) v.items ≡ words_of text.now) }
@@ -67,7 +68,8 @@ pub fn texts<'a>(alloc: Global, text: &'a [u8]) -> Result<Vec<&'a [u8]>, NoMemor
     Ok(texts)
 }
 
-/// Appends a text behind so many others that are joined: with a space before it, unless it is the first.
+/// Appends a text behind so many others that are joined: with a space before it, unless it is the
+/// first.
 fn add_next(joined: &mut Text, before: usize, next: &[u8]) -> Result<(), NoMemory>
     ensures { OnOk result
         (joined.new ≡ joined.old ++ (if before == 0 then next.now else 32 ∷ next.now)) }

@@ -15,7 +15,8 @@ use Rattle.em_engine.specs.declared.note.Note.{Note}
 use Rattle.em_engine.specs.Fronts.{last_among}
 use Rattle.em_workers.specs.Turns.{runs_for, IsNote}
 
--- the first run was answered otherwise; `after` is the last job before this one that changed what was asked
+-- the first run was answered otherwise; `after` is the last job before this one that changed what
+-- was asked
 pub record Differs (s : State) (ds : List Changes) (question : _) (recorded now : _) (after : Option ℕ) : Type 0 where
   pub other : recorded ≢ now
   pub now_is : now ≡ answer s question

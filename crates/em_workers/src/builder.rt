@@ -203,15 +203,17 @@ fn build_beside<
     Ok(Built { state, notes, fuel })
 }
 
-/// Builds: runs the jobs so that all that is printed, the state and the fuel are those of the serial run, with so many
-/// workers, of which one is the committer. `waits` has of each job those that are to end before it is run ahead. Job i has
-/// the number i, and waits for jobs below it. The notes tell of each job in how many runs it came to be committed, and why
-/// in two; with one worker each is run once.
+/// Builds: runs the jobs so that all that is printed, the state and the fuel are those of the
+/// serial run, with so many workers, of which one is the committer. `waits` has of each job those
+/// that are to end before it is run ahead. Job i has the number i, and waits for jobs below it. The
+/// notes tell of each job in how many runs it came to be committed, and why in two; with one worker
+/// each is run once.
 ///
-/// An error comes only where a call on the host failed, or memory ran out; a front of the outputs was printed then.
+/// An error comes only where a call on the host failed, or memory ran out; a front of the outputs
+/// was printed then.
 ///
-/// Besides the runs it takes steps for each job and each of its waits, a search for each change, and with more than one
-/// worker for each question as the board's versions take.
+/// Besides the runs it takes steps for each job and each of its waits, a search for each change,
+/// and with more than one worker for each question as the board's versions take.
 pub fn build<
     R: Threads + Wait + Sync,
     S: Spec + Send + Sync,

@@ -73,8 +73,8 @@ fn pushed(notes: Seq<Note>, note: Note) -> Result<Seq<Note>, NoMemory>
     }
 }
 
-/// Commits the next job and tells how: what is lent of it, or else a run on the front's own state. None where there is
-/// no next job.
+/// Commits the next job and tells how: what is lent of it, or else a run on the front's own state.
+/// None where there is no next job.
 fn commit_next<S: Spec, L: Lender<S>, W: Work<S>, G: Gate, H: Host>(
     alloc: Global,
     lender: &mut L,
@@ -121,9 +121,10 @@ fn commit_each<S: Spec, L: Lender<S>, W: Work<S>, G: Gate, H: Host>(
     Ok(notes)
 }
 
-/// Commits the jobs that are left, in order, up to the one that ends the run: of each it takes what is lent, makes its
-/// turn, prints what it said and settles it. A job that can't be settled now is passed over. It stops the lender before
-/// it returns, also after an error. Gives a note for each job.
+/// Commits the jobs that are left, in order, up to the one that ends the run: of each it takes what
+/// is lent, makes its turn, prints what it said and settles it. A job that can't be settled now is
+/// passed over. It stops the lender before it returns, also after an error. Gives a note for each
+/// job.
 ///
 /// Besides the turns it takes the calls on lender and host.
 pub fn commit_all<S: Spec, L: Lender<S>, W: Work<S>, G: Gate, H: Host>(
@@ -174,8 +175,8 @@ fn rerun_next<S: Spec, W: Work<S>, G: Gate, H: Host>(
     }))
 }
 
-/// Runs the jobs that are left, one after another, with nobody beside it. What each says is printed before the next one
-/// runs. Gives a note for each job.
+/// Runs the jobs that are left, one after another, with nobody beside it. What each says is printed
+/// before the next one runs. Gives a note for each job.
 pub(crate) fn rerun_each<S: Spec, W: Work<S>, G: Gate, H: Host>(
     alloc: Global,
     front: &mut Front<S>,

@@ -8,8 +8,8 @@ use std::alloc::Global;
 
 /// Told of every ask of every run before it is made; it may wait.
 pub trait Gate: Drop {
-    /// `worker` is the thread's number, 0 for the committer. `step` is the number of earlier asks of this run, at
-    /// most 2^32 - 1.
+    /// `worker` is the thread's number, 0 for the committer. `step` is the number of earlier asks
+    /// of this run, at most 2^32 - 1.
     fn before(&self, worker: u32, job: u32, step: u32);
 }
 

@@ -9,8 +9,9 @@ ghost use Rattle.em_workers.specs.Notes.{AreNotes, AreTurns};
 
 use em_run::Spec;
 
-/// Notes of what was lent of jobs in a row tell the truth: each job was run once, or twice and for a cause that is so
-/// on the state that the jobs before it left. The jobs have their places as numbers.
+/// Notes of what was lent of jobs in a row tell the truth: each job was run once, or twice and for
+/// a cause that is so on the state that the jobs before it left. The jobs have their places as
+/// numbers.
 pub fn law_notes<S: Spec>()
     ensures { (s : State) (ds : List Changes) (jobs : List S) (lent : List (Option (Taken S)))
         (made : List Made) (notes : List Note)

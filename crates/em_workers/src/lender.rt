@@ -15,9 +15,11 @@ use std::marker::Model;
 use std::sync::Wait;
 use std::vec::IntoIter;
 
-/// The committer's side of a board: it lends what a worker has left of a job, and is told what was committed.
+/// The committer's side of a board: it lends what a worker has left of a job, and is told what was
+/// committed.
 pub trait Lender<S: Spec>: Drop {
-    /// What the coming calls give, what was settled and whether it was stopped, where it tells that.
+    /// What the coming calls give, what was settled and whether it was stopped, where it tells
+    /// that.
     ghost told: { Self → Option (Lending S) };
 
     /// What a worker has left of the next job; None where the committer is to run it.

@@ -1,5 +1,5 @@
-//! A build by threads: workers run jobs ahead, and a committer checks each run in order and commits it, or runs the job
-//! again.
+//! A build by threads: workers run jobs ahead, and a committer checks each run in order and commits
+//! it, or runs the job again.
 #![tactic(auto)]
 
 mod builder;

@@ -50,8 +50,8 @@ fn commit_run<S: Spec>(
     }
 }
 
-/// Runs the next job whole, on the front's own state, and commits it. After want of memory the front is as before.
-/// Besides the run it takes a search for each path that the run changes.
+/// Runs the next job whole, on the front's own state, and commits it. After want of memory the
+/// front is as before. Besides the run it takes a search for each path that the run changes.
 pub fn rerun<S: Spec, W: Work<S>, G: Gate>(
     alloc: Global,
     front: &mut Front<S>,
@@ -129,7 +129,8 @@ fn cause_of<S: Spec>(
     })
 }
 
-/// Commits the run where it is what the next job makes of the front's state; else runs the job again.
+/// Commits the run where it is what the next job makes of the front's state; else runs the job
+/// again.
 fn turn_run<S: Spec, W: Work<S>, G: Gate>(
     alloc: Global,
     front: &mut Front<S>,
@@ -154,10 +155,11 @@ fn turn_run<S: Spec, W: Work<S>, G: Gate>(
     Ok((committed, cause))
 }
 
-/// The committer's work on the next job, of which this was taken: nothing, what a worker gave up, or a run with what
-/// the board answered it. The run is committed where it is one of this job, its usage is what it was answered and the
-/// front's state agrees with it; else the job is run again on the front's own state. The note tells which, and why.
-/// After want of memory the front is as before. Besides the run it takes steps for each entry of the usage, as an answer of the state
+/// The committer's work on the next job, of which this was taken: nothing, what a worker gave up,
+/// or a run with what the board answered it. The run is committed where it is one of this job, its
+/// usage is what it was answered and the front's state agrees with it; else the job is run again on
+/// the front's own state. The note tells which, and why. After want of memory the front is as
+/// before. Besides the run it takes steps for each entry of the usage, as an answer of the state
 /// takes, and a search for each path that the run changes.
 pub fn turn<S: Spec, W: Work<S>, G: Gate>(
     alloc: Global,

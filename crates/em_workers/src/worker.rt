@@ -15,8 +15,8 @@ fn publish<R: Wait, S: Spec>(rt: &R, shared: &Shared<S>, job: u32, run: Run<S>) 
     }
 }
 
-/// Runs a claimed job over the board's answers and publishes the run. Where the run or its publication wants memory it
-/// gives the job up.
+/// Runs a claimed job over the board's answers and publishes the run. Where the run or its
+/// publication wants memory it gives the job up.
 fn run_claimed<R: Wait, S: Spec, W: Work<S>, G: Gate>(
     rt: &R,
     alloc: Global,
@@ -34,9 +34,10 @@ fn run_claimed<R: Wait, S: Spec, W: Work<S>, G: Gate>(
     }
 }
 
-/// Claims jobs, runs them and publishes the runs, until the board is stopped or no job is free. It returns also where
-/// `specs` has no spec for a job that it has claimed; whoever then waits for this job waits for ever, so hand it a spec
-/// for each job of the board, each with its job's number: a run of another job is handed back or published as that one's.
+/// Claims jobs, runs them and publishes the runs, until the board is stopped or no job is free. It
+/// returns also where `specs` has no spec for a job that it has claimed; whoever then waits for
+/// this job waits for ever, so hand it a spec for each job of the board, each with its job's
+/// number: a run of another job is handed back or published as that one's.
 pub fn work<R: Wait, S: Spec, W: Work<S>, G: Gate>(
     rt: &R,
     alloc: Global,

@@ -21,7 +21,8 @@ enum Before {
     Publish,
     /// Job 0 is claimed and given up.
     GiveUp,
-    /// A worker runs what it can, and a run of job 0 that asked the board nothing is published before this ask of job 1.
+    /// A worker runs what it can, and a run of job 0 that asked the board nothing is published
+    /// before this ask of job 1.
     PublishAt(u32),
 }
 
@@ -189,7 +190,8 @@ fn show_runs(counter: &Counter<Linker>, log: &mut String) -> Result<(), AllocErr
     Ok(())
 }
 
-/// What comes of the three jobs where a worker has run them all, each behind those that it waits for.
+/// What comes of the three jobs where a worker has run them all, each behind those that it waits
+/// for.
 fn show_kept<R: Wait>(
     rt: &R,
     alloc: Global,

@@ -15,7 +15,8 @@ use em_workers::{BuildNo, OpenGate, ScriptLender, commit_all};
 use std::alloc::{AllocError, Global};
 use std::test::Fail;
 
-/// Five jobs, each of which reads the file of the one before. The first reads a file that isn't there.
+/// Five jobs, each of which reads the file of the one before. The first reads a file that isn't
+/// there.
 static FIVE: [(&str, &str); 5] = [
     ("/z", "/a"),
     ("/a", "/b"),
@@ -63,7 +64,8 @@ fn lends_of(
     Ok(vec![in alloc; None, Some(Taken::GivenUp), third, fourth]?)
 }
 
-/// Lends nothing of job 0, what was given up of job 1, a stale run of job 2 and an agreeing one of job 3.
+/// Lends nothing of job 0, what was given up of job 1, a stale run of job 2 and an agreeing one of
+/// job 3.
 fn script(alloc: Global) -> Result<ScriptLender<Link>, Fail> {
     let third = stale(alloc)?;
     let fourth = agreeing(alloc)?;

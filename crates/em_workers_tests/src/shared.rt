@@ -27,8 +27,8 @@ enum Step {
 
 use Step::*;
 
-/// The calls, and what they answer. An ask is one of each kind of question: what `/` is, its stamp, its content, the names
-/// of `/a`, and how job 0 ended.
+/// The calls, and what they answer. An ask is one of each kind of question: what `/` is, its stamp,
+/// its content, the names of `/a`, and how job 0 ended.
 type Row = (&'static [Step], &'static str);
 
 static ROWS: [Row; 3] = [

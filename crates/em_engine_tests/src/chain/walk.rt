@@ -68,7 +68,8 @@ fn slow_names(done: &[Step], job: u32, log: &mut String) -> Result<(), AllocErro
     Ok(())
 }
 
-/// What the jobs from this one to 9 are told by the walk: the stamps at the three paths, and the root's names.
+/// What the jobs from this one to 9 are told by the walk: the stamps at the three paths, and the
+/// root's names.
 fn slow_log(alloc: Global, done: &[Step], from: u32) -> Result<String, NoMemory> {
     let mut log = String::new(alloc);
     for job in from..10 {

@@ -27,7 +27,8 @@ use Step::*;
 /// What each job waits for, the calls, and what they answer.
 type Row = (&'static [&'static [u32]], &'static [Step], &'static str);
 
-/// A claim answers a job, or `wait` or `done`. Each question is the kind of `/x`, which each run makes.
+/// A claim answers a job, or `wait` or `done`. Each question is the kind of `/x`, which each run
+/// makes.
 static ROWS: [Row; 5] = [
     (
         &[&[], &[], &[1], &[2]],

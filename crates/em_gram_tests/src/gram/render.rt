@@ -1,5 +1,6 @@
-//! A tree as a text. An item of a list ends with `;`, a stage begins with `|`, a word with a blank, an assignment with `.` and a
-//! redirection with `,`. What is quoted stands between `'`, or behind `=`.
+//! A tree as a text. An item of a list ends with `;`, a stage begins with `|`, a word with a blank,
+//! an assignment with `.` and a redirection with `,`. What is quoted stands between `'`, or behind
+//! `=`.
 
 use em_base::Text;
 use em_gram::{

@@ -1,4 +1,5 @@
-//! Lines with their trees, and lines with their faults. Expected is what docs/FORMATS.md says of the shell.
+//! Lines with their trees, and lines with their faults. Expected is what docs/FORMATS.md says of
+//! the shell.
 
 /// Each line with its tree as a text.
 pub static TREES: [(&str, &str); 85] = [

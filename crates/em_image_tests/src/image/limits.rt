@@ -16,7 +16,8 @@ fn add_file(alloc: Global, tree: &mut Tree, name: &[u8], size: usize) -> Result<
     add(alloc, tree, name, node)
 }
 
-/// The stamp of the root; the files with their sizes; how long the image is, or which limit forbids it.
+/// The stamp of the root; the files with their sizes; how long the image is, or which limit forbids
+/// it.
 struct Row {
     base: u64,
     files: &'static [(&'static [u8], usize)],

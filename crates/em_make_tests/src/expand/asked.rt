@@ -1,5 +1,6 @@
-//! What is said, kept, asked and paid. What is expected is the result, `|`, what was said, `|`, each text for `eval` with `;`, `|`,
-//! each question as a letter (K kind, N names) and its path, `|` and the units used.
+//! What is said, kept, asked and paid. What is expected is the result, `|`, what was said, `|`,
+//! each text for `eval` with `;`, `|`, each question as a letter (K kind, N names) and its path,
+//! `|` and the units used.
 use super::{expand_on, set, show, variable, variables};
 use crate::usage::show_usage;
 use em_base::{Fuel, NoMemory, Text};

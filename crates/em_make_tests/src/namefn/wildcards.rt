@@ -1,5 +1,5 @@
-//! `wildcard` over small trees. What is expected is a text: the result, `|`, each question as a letter (K kind, N names) and its path,
-//! `|`, and the units used.
+//! `wildcard` over small trees. What is expected is a text: the result, `|`, each question as a
+//! letter (K kind, N names) and its path, `|`, and the units used.
 use crate::usage::show_usage;
 use em_base::{Fuel, Text};
 use em_namefn::wildcard;
@@ -103,7 +103,8 @@ fn names_that_match_are_given_in_byte_order(rt: HostRuntime) -> Result<(), Fail>
 /// The states of a view, patterns, and what is expected.
 type Script = (&'static [&'static str], &'static str, &'static str);
 
-/// A directory that is listed and then is none, one that is there and then has no names, and one of which nothing is left.
+/// A directory that is listed and then is none, one that is there and then has no names, and one of
+/// which nothing is left.
 static SCRIPTS: [Script; 4] = [
     (
         &["d/d f/d/x", "d/d f/d/x", ""],

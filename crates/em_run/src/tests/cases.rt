@@ -40,7 +40,8 @@ fn run_crosses<S: Spec + Send + Sync>(run: &Run<S>) {
     crosses(run.spec());
 }
 
-/// A job's path and fuel; what its run says, how it ends, the fuel that it takes, and how many questions it asks.
+/// A job's path and fuel; what its run says, how it ends, the fuel that it takes, and how many
+/// questions it asks.
 type Row = (&'static str, u16, &'static str, char, u64, usize);
 
 const ROWS: [Row; 6] = [

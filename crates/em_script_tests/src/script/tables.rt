@@ -1,5 +1,5 @@
-//! Lines and what is expected of them. The expected bytes are those of POSIX's shell, but for the messages and what is refused, which
-//! docs/FORMATS.md has.
+//! Lines and what is expected of them. The expected bytes are those of POSIX's shell, but for the
+//! messages and what is refused, which docs/FORMATS.md has.
 
 /// A line; what it writes, then `|` and its status, or why there is none.
 pub(crate) static LINES: [(&str, &str); 78] = [

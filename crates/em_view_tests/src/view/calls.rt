@@ -1,4 +1,5 @@
-//! Each call on an absent path, a file, a directory with and without children and the root, at fuel 0, 1 and exactly enough.
+//! Each call on an absent path, a file, a directory with and without children and the root, at fuel
+//! 0, 1 and exactly enough.
 use super::Row;
 
 /// The state of the rows: two directories, one of them empty, and two files.

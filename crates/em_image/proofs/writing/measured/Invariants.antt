@@ -4,7 +4,8 @@ use Rattle.std.specs.FinMap.{entries}
 use Rattle.em_image.specs.Image.{node_text, limits, image_text, is_too_big, is_too_late}
 use Rattle.em_image.proofs.writing.measured.Given as goal
 
--- the room is for what is left, where all has room for the rest; what was found, or is found in the rest, is in all
+-- the room is for what is left, where all has room for the rest; what was found, or is found in the
+-- rest, is in all
 abbrev pub invariant-loop-path : goal.invariant-loop-path
 invariant-loop-path l = record {
   room : l.room + length (image_text l.tree) ≡ limits.image + length (flat_map node_text l.path-iterator);

@@ -1,6 +1,5 @@
-use super::*;
-use crate::no::HostNo;
-use em_base::NoMemory;
+use em_base::{NoMemory, Text};
+use em_host::{Call, Called, Host, HostNo, MemHost};
 use std::alloc::Global;
 use std::test::Fail;
 
@@ -30,9 +29,12 @@ fn made(alloc: Global, host: &mut MemHost, act: Act) -> Result<Option<Vec<u8>>, 
 /// The call as a host notes it.
 fn noted(alloc: Global, act: Act, ok: bool) -> Result<Called, NoMemory> {
     let call = match act {
-        Act::Take(name) => Call::take(alloc, name)?,
-        Act::Replace(name, bytes) => Call::replace(alloc, name, bytes)?,
-        Act::Print(bytes) => Call::print(alloc, bytes)?,
+        Act::Take(name) => Call::Take(Text::from_slice(alloc, name)?),
+        Act::Replace(name, bytes) => Call::Replace {
+            name: Text::from_slice(alloc, name)?,
+            bytes: Text::from_slice(alloc, bytes)?,
+        },
+        Act::Print(bytes) => Call::Print(Text::from_slice(alloc, bytes)?),
     };
     Ok(Called { call, ok })
 }

@@ -4,7 +4,8 @@ use em_report::read;
 use std::alloc::Global;
 use std::test::Fail;
 
-/// Reports by their lines, each with the agents, and what is to be said: the chain's fuel, its jobs, the span.
+/// Reports by their lines, each with the agents, and what is to be said: the chain's fuel, its
+/// jobs, the span.
 static REPORTS: [(&[u8], u32, &[u8]); 9] = [
     (b"job 0 1 - 7 b\njob 1 1 - 10 a 0\n", 2, b"17: 0 1 17"),
     (
@@ -18,7 +19,8 @@ static REPORTS: [(&[u8], u32, &[u8]); 9] = [
         b"3: 2 3",
     ),
     (b"", 1, b"0: 0"),
-    // of several chains of the greatest weight that with the least last job, then the least before it
+    // of several chains of the greatest weight that with the least last job, then the least before
+    // it
     (
         b"job 0 1 - 3 a\njob 1 1 - 3 b\njob 2 1 - 4 c 1 0\njob 3 1 - 7 d\n",
         1,

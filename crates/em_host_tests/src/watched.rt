@@ -1,5 +1,5 @@
 //! The system's files, watched: when what was done, and one kind of call that fails.
-use crate::lock::LockFile;
+use em_host::LockFile;
 use std::alloc::Allocator;
 use std::fmt::Display;
 use std::fs::{File, Metadata, OpenFile, OpenOptions, Permissions, TryLockError};

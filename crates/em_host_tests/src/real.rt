@@ -1,6 +1,6 @@
-use super::*;
 use crate::watched::{Failing, Watch, Watched};
 use em_base::NoMemory;
+use em_host::{Host, HostNo, RealHost};
 use std::alloc::Global;
 use std::fs;
 use std::fs::{OpenOptions, Permissions};

@@ -1,0 +1,9 @@
+//! The tests of hosts.
+#![tactic(auto)]
+
+#[cfg(test)]
+mod mem;
+#[cfg(test)]
+mod real;
+#[cfg(test)]
+mod watched;
