@@ -5,7 +5,12 @@ use Rattle.std.proofs.lemmas.Slice.Eq.{bytes_eq-Decides}
 use Rattle.clap.specs.Words.{Row, Text, first_of}
 use Rattle.em_cmdline.specs.declared.order.WordNo.{WordNo}
 use Rattle.em_cmdline.specs.declared.order.WordNo.TheVariants.{BadName, BadNumber, Missing, SameName}
-use Rattle.em_cmdline.specs.Words.{Differ, HasNames, HasSource, bad_name, bad_number, bad_value, causes, first_some, is_missing, order_from, positive, same, same_name, when}
+use Rattle.em_cmdline.specs.Words.{Differ, HasNames, HasSource, bad_build_number, bad_name, bad_number, bad_value, causes, first_some, is_missing, is_one, order_from, positive, same, same_name, when}
+
+no_second : {A : Type 0} (a b : Option A) → first_some (a ∷ b ∷ []) ≡ None → (a ≡ None) × (b ≡ None)
+no_second None None e = (refl, refl)
+no_second None (Some b) e = absurd cc
+no_second (Some a) b e = absurd cc
 
 no_third : {A : Type 0} (a b c : Option A) → first_some (a ∷ b ∷ c ∷ []) ≡ None → (a ≡ None) × (b ≡ None) × (c ≡ None)
 no_third None None None e = (refl, refl, refl)
@@ -25,11 +30,9 @@ not_when : (b : Bool) (e : WordNo) → when b e ≡ None → b ≡ false
 not_when true e h = absurd cc
 not_when false e h = refl
 
-one_of : (image generate : Bool) → cond image generate (not generate) ≡ false → image ≡ not generate
-one_of true true e = absurd cc
-one_of true false e = refl
-one_of false true e = refl
-one_of false false e = absurd cc
+not_false : (b : Bool) → not b ≡ false → b ≡ true
+not_false true e = refl
+not_false false e = absurd cc
 
 good_value : (limit : ℕ) (value : Option Text) → bad_value limit value ≡ None → is_some (option_and_then (positive limit) value) ≡ is_some value
 good_value limit None e = refl
@@ -57,10 +60,16 @@ no_cause rows none =
 pub has_source : (rows : List Row) → first_some (causes rows) ≡ None → HasSource (order_from rows)
 has_source rows none =
     let no = no_cause rows none in
+    let image = is_some (first_of (codes "image") rows) in
     let generate = first_of (codes "generate") rows in
+    let explain = is_some (first_of (codes "explain") rows) in
     let numbers : bad_number rows ≡ None = unmapped BadNumber (bad_number rows) no.number in
-    let good = no_third (bad_value 64 (first_of (codes "workers") rows)) (bad_value 1000000 (first_of (codes "fuel") rows)) (bad_value 10000 generate) numbers in
-    one_of (is_some (first_of (codes "image") rows)) (is_some generate) (not_when (is_missing rows) Missing no.missing) ∙ ap not (sym (good_value 10000 generate good.2))
+    let workers = bad_value 64 (first_of (codes "workers") rows) in
+    let fuel = bad_value 1000000 (first_of (codes "fuel") rows) in
+    let of_build = (no_second (bad_build_number rows) (bad_value 64 (first_of (codes "agents") rows)) numbers).0 in
+    let good = no_third workers fuel (bad_value 10000 generate) of_build in
+    ap (λ g. is_one image g explain) (good_value 10000 generate good.2)
+    ∙ not_false (is_one image (is_some generate) explain) (not_when (is_missing rows) Missing no.missing)
 
 pub has_names : (rows : List Row) → first_some (causes rows) ≡ None → HasNames (order_from rows)
 has_names rows none =

@@ -3,7 +3,7 @@
 --     refusal words      the first cause for which they are refused, or none
 --     order_of words     what they order
 --     HasRanges o        the numbers of an order are in their ranges
---     HasSource o        it has either an image or the size of a project
+--     HasSource o        it has an image, the size of a project or a report to explain, one alone
 --     HasNames o         the host's files that it names differ
 use Rattle.std.specs.Prelude.{◌≡◌, ◌≢◌, ◌≤◌, IfSome, ℕ, Bool, true, false, not, fold, ◌||◌, ◌==◌, nat_lt, List, [], ◌∷◌, length, codes, find, Option, Some, None, is_some, unwrap_or, option_map, option_and_then, if◌then◌else◌}
 use Rattle.std.specs.List.{filter, filter_map, list_all, list_any, before_first, after_first}
@@ -59,6 +59,8 @@ order_app = fold with_rule (plain (new_app (codes "emake"))) (
     ∷ long (codes "mode") (valued (codes "mode"))
     ∷ long (codes "report") (valued (codes "report"))
     ∷ long (codes "gen") (valued (codes "generate"))
+    ∷ long (codes "explain") (valued (codes "explain"))
+    ∷ long (codes "agents") (valued (codes "agents"))
     ∷ others_rule ∷ [])
 
 -- why clap refuses the words, where it does
@@ -116,23 +118,30 @@ when b e = if b then Some e else None
 abbrev pub unreadable : List Text → Bool
 unreadable words = not (list_all is_utf8 words) || nat_lt 0 (length (faults words)) || not (is_some (mode_of (found words)))
 
--- not exactly one of the image and the size of a project is there
+-- exactly one of the three
+abbrev pub is_one : Bool → Bool → Bool → Bool
+is_one a b c = if a then not (b || c) else if b then not c else c
+
+-- not exactly one of the image, the size of a project and a report to explain is there
 abbrev pub is_missing : List Row → Bool
 is_missing rows =
     let image = is_some (first_of (codes "image") rows) in
     let generate = is_some (first_of (codes "generate") rows) in
-    if image then generate else not generate
+    not (is_one image generate (is_some (first_of (codes "explain") rows)))
 
 abbrev pub bad_value : ℕ → Option Text → Option Text
 bad_value limit None = None
 bad_value limit (Some text) = if is_some (positive limit text) then None else Some text
 
--- the first value that is no number in its range
-abbrev pub bad_number : List Row → Option Text
-bad_number rows = first_some (
+-- the first value that is no number in its range, of those of a build and of all
+abbrev pub bad_build_number : List Row → Option Text
+bad_build_number rows = first_some (
     bad_value 64 (first_of (codes "workers") rows)
     ∷ bad_value 1000000 (first_of (codes "fuel") rows)
     ∷ bad_value 10000 (first_of (codes "generate") rows) ∷ [])
+
+abbrev pub bad_number : List Row → Option Text
+bad_number rows = first_some (bad_build_number rows ∷ bad_value 64 (first_of (codes "agents") rows) ∷ [])
 
 -- a blank, `:`, `#` or `$`
 abbrev pub breaks_name : ℕ → Bool
@@ -192,6 +201,8 @@ order_from rows = record {
   mode = unwrap_or (mode_of rows) Merge;
   report = first_of (codes "report") rows;
   generate = option_and_then (positive 10000) (first_of (codes "generate") rows);
+  explain = first_of (codes "explain") rows;
+  agents = unwrap_or (option_and_then (positive 64) (first_of (codes "agents") rows)) 1;
   goals = filter is_goal (other_words rows);
   assigned = filter_map assignment (other_words rows);
 }
@@ -204,9 +215,10 @@ pub record HasRanges (o : Order) : Type 0 where
   pub workers : (1 ≤ o.workers) × (o.workers ≤ 64)
   pub fuel : (1 ≤ o.fuel) × (o.fuel ≤ 1000000)
   pub generate : IfSome o.generate (λ n. (1 ≤ n) × (n ≤ 10000))
+  pub agents : (1 ≤ o.agents) × (o.agents ≤ 64)
 
 abbrev pub HasSource : Order → Type 0
-HasSource o = is_some o.image ≡ not (is_some o.generate)
+HasSource o = is_one (is_some o.image) (is_some o.generate) (is_some o.explain) ≡ true
 
 abbrev pub Differ : Option Text → Option Text → Type 0
 Differ a b = IfSome a (λ s. IfSome b (λ t. s ≢ t))

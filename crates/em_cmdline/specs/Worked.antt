@@ -35,6 +35,8 @@ plain_order = record {
   mode = Merge;
   report = None;
   generate = None;
+  explain = None;
+  agents = 1;
   goals = [];
   assigned = [];
 }
@@ -88,6 +90,19 @@ ordering =
     ∷ (codes "a|-I|i|b|-k|c", record plain_order { keep_going = true; goals = codes "a" ∷ codes "b" ∷ codes "c" ∷ [] })
     ∷ (codes "-I|i|A=b=c|B=", record plain_order { assigned = (codes "A", codes "b=c") ∷ (codes "B", []) ∷ [] })
     ∷ (codes "-I|i|--mode|create|-j|64", record plain_order { mode = Create; workers = 64 })
+    ∷ (codes "--explain|r", record plain_order { image = None; explain = Some (codes "r") })
+    ∷ (
+      codes "--agents|64|--explain|r|--report|r|-k|a",
+      record plain_order {
+        image = None;
+        keep_going = true;
+        report = Some (codes "r");
+        explain = Some (codes "r");
+        agents = 64;
+        goals = codes "a" ∷ [];
+      },
+    )
+    ∷ (codes "-I|i|--agents|2", record plain_order { agents = 2 })
     ∷ (codes "-I|./i|--report|i", record plain_order { image = Some (codes "./i"); report = Some (codes "i") }) ∷ []
 
 -- lines, and why they are refused
@@ -96,6 +111,10 @@ refused =
     (codes "-k", Missing)
     ∷ (codes "-I|i|--gen|7", Missing)
     ∷ (codes "--|-I|i", Missing)
+    ∷ (codes "--agents|2", Missing)
+    ∷ (codes "--explain|r|-I|i", Missing)
+    ∷ (codes "--gen|7|--explain|r", Missing)
+    ∷ (codes "--explain|r|-I|i|--gen|7", Missing)
     ∷ (codes "-I|i|-I|j", Unknown)
     ∷ (codes "-I|i|-knk", Unknown)
     ∷ (codes "-I", Unknown)
@@ -103,6 +122,8 @@ refused =
     ∷ (codes "-I|--|i", Unknown)
     ∷ (codes "-I|i|-j|-1", Unknown)
     ∷ (codes "-x", Unknown)
+    ∷ (codes "--explain|r|--explain|s", Unknown)
+    ∷ (codes "--explain", Unknown)
     ∷ (codes "-I|i|-h", Unknown)
     ∷ (codes "-I|i|--help", Unknown)
     ∷ (codes "-I|i|-k=1", Unknown)
@@ -111,6 +132,9 @@ refused =
     ∷ (codes "-I|i|-j|65", BadNumber (codes "65"))
     ∷ (codes "--gen|0|--fuel|00|-j|000", BadNumber (codes "000"))
     ∷ (codes "-I|i|-j|0|=x", BadNumber (codes "0"))
+    ∷ (codes "--explain|r|--agents|0", BadNumber (codes "0"))
+    ∷ (codes "-I|i|--agents|65", BadNumber (codes "65"))
+    ∷ (codes "--agents|0|--gen|0x", BadNumber (codes "0x"))
     ∷ (codes "-I|i|=x", BadName (codes "=x"))
     ∷ (codes "-I|i|a:=c", BadName (codes "a:=c"))
     ∷ (codes "-I|i|--report|i|=x", BadName (codes "=x"))

@@ -52,13 +52,21 @@ fn bad_value<'a>(limit: u64, value: Option<&'a str>) -> Option<&'a str>
     value.filter(|text| positive(limit, text).is_none())
 }
 
-/// The first value that is no number in its range.
-fn bad_number<'a>(found: &ArgMatches<'a>) -> Option<&'a str>
-    ensures { option_map (λ s. s.now) result ≡ spec.bad_number (rows_of (found_of found.now)) }
+/// The first value of those of a build that is no number in its range.
+fn bad_build_number<'a>(found: &ArgMatches<'a>) -> Option<&'a str>
+    ensures { option_map (λ s. s.now) result
+        ≡ spec.bad_build_number (rows_of (found_of found.now)) }
 {
     bad_value(64, value(found, "workers"))
         .or(bad_value(1_000_000, value(found, "fuel")))
         .or(bad_value(10_000, value(found, "generate")))
+}
+
+/// The first value that is no number in its range.
+fn bad_number<'a>(found: &ArgMatches<'a>) -> Option<&'a str>
+    ensures { option_map (λ s. s.now) result ≡ spec.bad_number (rows_of (found_of found.now)) }
+{
+    bad_build_number(found).or(bad_value(64, value(found, "agents")))
 }
 
 /// Whether no name holds the byte: a space, a tab, `:`, `#` or `$`.
@@ -115,6 +123,25 @@ fn same_name<'a>(found: &ArgMatches<'a>) -> Option<&'a str>
         .or(same(history, report))
 }
 
+/// Whether exactly one of the three is so.
+fn is_one(a: bool, b: bool, c: bool) -> bool
+    ensures { result ≡ spec.is_one a b c }
+{
+    if a {
+        return !(b || c);
+    }
+    if b { !c } else { c }
+}
+
+/// Whether there isn't exactly one of the image, the size of a project and a report to explain.
+fn is_missing(found: &ArgMatches<'_>) -> bool
+    ensures { result ≡ spec.is_missing (rows_of (found_of found.now)) }
+{
+    let image = value(found, "image").is_some();
+    let generate = value(found, "generate").is_some();
+    !is_one(image, generate, value(found, "explain").is_some())
+}
+
 /// Answers the first refusal.
 pub(crate) fn check(alloc: Global, found: &ArgMatches<'_>) -> Result<(), WordNo>
     ensures ok { IfOk result
@@ -123,7 +150,7 @@ pub(crate) fn check(alloc: Global, found: &ArgMatches<'_>) -> Result<(), WordNo>
         (λ e. (e ≡ WordNo.NoMemory)
         ⊎ (spec.first_some (spec.causes (rows_of (found_of found.now))) ≡ Some e)) }
 {
-    if value(found, "image").is_some() == value(found, "generate").is_some() {
+    if is_missing(found) {
         return Err(WordNo::Missing);
     }
     if let Some(text) = bad_number(found) {

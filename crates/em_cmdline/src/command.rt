@@ -51,6 +51,8 @@ fn command<'a>(alloc: Global) -> Result<Command<'a>, AllocError>
         .arg(valued(alloc, "mode").long("mode"))?
         .arg(valued(alloc, "report").long("report"))?
         .arg(valued(alloc, "generate").long("gen"))?
+        .arg(valued(alloc, "explain").long("explain"))?
+        .arg(valued(alloc, "agents").long("agents"))?
         .arg(Arg::new(alloc, "words").action(ArgAction::Append))
 }
 

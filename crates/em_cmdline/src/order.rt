@@ -50,6 +50,10 @@ pub struct Order {
     pub report: Option<Text>,
     /// From 1 to 10,000, the size of a project to generate: `--gen`.
     pub generate: Option<u32>,
+    /// The host's file that holds a report to explain: `--explain`.
+    pub explain: Option<Text>,
+    /// From 1 to 64, for how many agents it is scheduled: `--agents`, else 1.
+    pub agents: u32,
     /// The words that are no assignments, in order.
     pub goals: Seq<Text>,
     /// The words with `=`, in order: the name before the first `=`, and the value after it.
@@ -63,11 +67,11 @@ pub enum WordNo {
     /// value.
     #[error("unknown word")]
     Unknown,
-    /// There is neither `-I` nor `--gen`, or there are both.
+    /// There isn't exactly one of `-I`, `--gen` and `--explain`.
     #[error("missing -I")]
     Missing,
     /// A number isn't canonical decimal in its range: the first such value of `-j`, `--fuel`,
-    /// `--gen`.
+    /// `--gen`, `--agents`.
     #[error("bad number")]
     BadNumber(Text),
     /// The first assignment whose name is empty or holds a space, a tab, `:`, `#` or `$`: the whole

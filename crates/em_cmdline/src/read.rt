@@ -1,7 +1,7 @@
 //! Reading the words.
-ghost use Rattle.std.specs.Prelude.{◌≡◌, ◌≤◌, ◌⊎◌, map, not, is_some, option_map, option_and_then, IfOk, IfErr, IfSome, None, Some};
+ghost use Rattle.std.specs.Prelude.{◌≡◌, ◌≤◌, ◌⊎◌, codes, map, not, is_some, option_map, option_and_then, IfOk, IfErr, IfSome, None, Some};
 ghost use Rattle.std.specs.List.{filter, filter_map};
-ghost use Rattle.clap.specs.Words.{found_of, rows_of};
+ghost use Rattle.clap.specs.Words.{first_of, found_of, rows_of};
 ghost use Rattle.em_cmdline.specs.Words.{refusal, order_of, order_from, HasNames, HasRanges, HasSource};
 ghost use Rattle.em_cmdline.specs.Words as spec;
 
@@ -29,6 +29,15 @@ fn count(limit: u64, text: Option<&str>) -> Option<u64>
     ensures range { IfSome result (λ n. (1 ≤ n) × (n ≤ limit)) }
 {
     positive(limit, text?)
+}
+
+/// The size of a project to generate.
+fn size(found: &ArgMatches<'_>) -> Option<u32>
+    ensures value { result ≡ option_and_then (spec.positive 10000)
+        (first_of (codes "generate") (rows_of (found_of found.now))) }
+    ensures range { IfSome result (λ n. (1 ≤ n) × (n ≤ 10000)) }
+{
+    count(10_000, value(found, "generate")).map(|n| n as u32)
 }
 
 /// The words that are no assignments.
@@ -82,7 +91,9 @@ fn order(alloc: Global, found: &ArgMatches<'_>) -> Result<Order, NoMemory>
         history: own(alloc, value(found, "history"))?,
         mode: mode(found).unwrap_or(HistoryMode::Merge),
         report: own(alloc, value(found, "report"))?,
-        generate: count(10_000, value(found, "generate")).map(|n| n as u32),
+        generate: size(found),
+        explain: own(alloc, value(found, "explain"))?,
+        agents: count(64, value(found, "agents")).unwrap_or(1) as u32,
         goals: goals(alloc, words)?,
         assigned: assigned(alloc, words)?,
     })
@@ -90,9 +101,9 @@ fn order(alloc: Global, found: &ArgMatches<'_>) -> Result<Order, NoMemory>
 
 /// Reads the words after the program's name. Each option may stand once, before or after the other
 /// words; `--` ends the options. Of the other words those with `=` are assignments, which are split
-/// at their first `=` and never expanded, and the rest are goals. An order has either an image or
-/// the size of a project, and the host's files that it names differ. The error is the first of
-/// `WordNo` that applies, or `NoMemory`.
+/// at their first `=` and never expanded, and the rest are goals. An order has an image, the size of
+/// a project or a report to explain, one of them alone; image, history and report differ. The error
+/// is the first of `WordNo` that applies, or `NoMemory`.
 #[tactic(auto, unfolding(crate::specs::Words::refusal, crate::specs::Words::order_of))]
 pub fn read_words(alloc: Global, words: &[Text]) -> Result<Order, WordNo>
     ensures ok { IfOk result (λ o. (refusal words.now ≡ None) × (o ≡ order_of words.now)) }

@@ -24,6 +24,8 @@ returns c =
     let s13 = added_long c.valued-7.result c.in_ok-arg-13.ensures s12 c.long-3.ensures c.valued-7.ensures.rule c.valued-7.ensures.local in
     let s14 = added_long c.valued-8.result c.in_ok-arg-14.ensures s13 c.long-4.ensures c.valued-8.ensures.rule c.valued-8.ensures.local in
     let s15 = added_long c.valued-9.result c.in_ok-arg-15.ensures s14 c.long-5.ensures c.valued-9.ensures.rule c.valued-9.ensures.local in
+    let s16 = added_long c.valued-10.result c.in_ok-arg-16.ensures s15 c.long-6.ensures c.valued-10.ensures.rule c.valued-10.ensures.local in
+    let s17 = added_long c.valued-11.result c.in_ok-arg-17.ensures s16 c.long-7.ensures c.valued-11.ensures.rule c.valued-11.ensures.local in
     let others : rule_of c.action.result ≡ others_rule = search rules in
     let local : c.action.result.global ≡ false = search rules in
-    IfOk-weaker c.arg-16.result _ _ (λ r adds. added adds s15 others local) c.arg-16.ensures
+    IfOk-weaker c.arg-18.result _ _ (λ r adds. added adds s17 others local) c.arg-18.ensures

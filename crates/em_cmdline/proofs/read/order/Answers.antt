@@ -1,7 +1,7 @@
-use Rattle.std.proofs.Common.{◌≡◌, ◌∙◌, ap, subst, sym, rules, List, codes, map, option_and_then, unwrap_or}
+use Rattle.std.proofs.Common.{◌≡◌, ◌∙◌, ap, subst, sym, List, map, option_and_then, unwrap_or}
 use Rattle.std.specs.Borrow.{Bor}
 use Rattle.std.specs.List.{filter, filter_map}
-use Rattle.clap.specs.Words.{first_of, found_of, rows_of}
+use Rattle.clap.specs.Words.{found_of, rows_of}
 use Rattle.em_cmdline.specs.declared.order.HistoryMode.TheVariants.{Merge}
 use Rattle.em_cmdline.specs.Words.{HasNames, HasSource, assignment, is_goal, other_words, positive}
 use Rattle.em_cmdline.proofs.Found.{Str, value_or}
@@ -14,7 +14,6 @@ returns-clause-value c =
     let words : map (λ (s : Str). s.now) c.unwrap_or-words.result.now ≡ other_words rows =
     value_or (λ (ws : Bor (List Str)). map (λ s. s.now) ws.now) c.others.result _ c.unwrap_or-words.result _ c.others.ensures c.unwrap_or-words.ensures in
     let dir = value_or (λ (s : Str). s.now) c.value-3.result _ c.unwrap_or.result _ c.value-3.ensures c.unwrap_or.ensures in
-    let generate : c.map.result ≡ option_and_then (positive 10000) (first_of (codes "generate") rows) = search rules in
     λ i. record {
       image = (c.in_ok-own.ensures ∙ c.value.ensures) i;
       makefile = (c.in_ok-own-2.ensures ∙ c.value-2.ensures) i;
@@ -30,7 +29,9 @@ returns-clause-value c =
       history = (c.in_ok-own-3.ensures ∙ c.value-6.ensures) i;
       mode = (c.unwrap_or-4.ensures ∙ ap (λ m. unwrap_or m Merge) c.mode.ensures) i;
       report = (c.in_ok-own-4.ensures ∙ c.value-7.ensures) i;
-      generate = generate i;
+      generate = c.size.ensures.value i;
+      explain = (c.in_ok-own-5.ensures ∙ c.value-8.ensures) i;
+      agents = (c.unwrap_or-5.ensures ∙ ap (λ n. unwrap_or n 1) (c.count-3.ensures.value ∙ ap (option_and_then (positive 64)) c.value-9.ensures)) i;
       goals = (c.in_ok-goals.ensures ∙ ap (filter is_goal) words) i;
       assigned = (c.in_ok-assigned.ensures ∙ ap (filter_map assignment) words) i;
     }
