@@ -1,5 +1,5 @@
 -- Where no cause applies, an order has one source, and its names differ.
-use Rattle.std.proofs.Common.{◌≡◌, ◌∙◌, refl, sym, ap, Bool, true, false, not, cond, ℕ, List, [], ◌∷◌, Option, Some, None, is_some, option_map, option_and_then, codes}
+use Rattle.std.proofs.Common.{◌≡◌, ◌∙◌, refl, ap, Bool, true, false, not, cond, ℕ, List, [], ◌∷◌, Option, Some, None, is_some, option_map, option_and_then, codes}
 use Rattle.std.specs.Str.{bytes_eq}
 use Rattle.std.proofs.lemmas.Slice.Eq.{bytes_eq-Decides}
 use Rattle.clap.specs.Words.{Row, Text, first_of}

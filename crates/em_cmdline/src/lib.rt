@@ -5,7 +5,9 @@ mod check;
 mod command;
 pub mod laws;
 mod order;
+mod page;
 mod read;
 
 pub use order::{HistoryMode, Order, WordNo};
+pub use page::{Page, page_in};
 pub use read::read_words;

@@ -1,5 +1,5 @@
 use em_base::Text;
-use em_cmdline::{HistoryMode, Order, WordNo, read_words};
+use em_cmdline::{HistoryMode, Order, Page, WordNo, page_in, read_words};
 use em_states::put_all;
 use std::alloc::Global;
 use std::process::Abort;
@@ -62,6 +62,7 @@ fn put_names(out: &mut Text, order: &Order) {
     }
     put_some(out, b" history:", &order.history);
     put_some(out, b" report:", &order.report);
+    put_some(out, b" explain:", &order.explain);
 }
 
 fn put_flag(out: &mut Text, name: &[u8], set: bool) {
@@ -91,6 +92,9 @@ fn put_numbers(alloc: Global, out: &mut Text, order: &Order) -> Result<(), Fail>
     }
     if order.fuel != 1_000_000 {
         put_number(alloc, out, b" fuel:", order.fuel)?;
+    }
+    if order.agents != 1 {
+        put_number(alloc, out, b" agents:", u64::from(order.agents))?;
     }
     match order.generate {
         Some(n) => put_number(alloc, out, b" gen:", u64::from(n)),
@@ -172,7 +176,7 @@ fn words_that_are_not_utf8(rt: HostRuntime) -> Result<(), Fail> {
     Ok(())
 }
 
-static OPTIONS: [(&str, &str); 50] = [
+static OPTIONS: [(&str, &str); 53] = [
     ("-I|i", " I:i"),
     (
         "-I|i|-f|m|-C|/d|-k|-n|-q|-s|-i|-B|-j|8|--fuel|5|--history|h|--mode|read|--report|r|a|A=b|b",
@@ -237,6 +241,13 @@ static OPTIONS: [(&str, &str); 50] = [
     ("-I|i|--history|h|--report|r", " I:i history:h report:r"),
     ("-I|i|-f|i|-C|i", " I:i f:i C:i"),
     ("--gen|7|--history|h", " history:h gen:7"),
+    // a report to explain
+    ("--explain|r", " explain:r"),
+    (
+        "--agents=64|--explain=r|--report|r",
+        " report:r explain:r agents:64",
+    ),
+    ("-I|i|--agents|2", " I:i agents:2"),
 ];
 
 #[test]
@@ -244,7 +255,7 @@ fn options_are_read(rt: HostRuntime) -> Result<(), Fail> {
     compare(&rt, rt.alloc(), OPTIONS.as_slice())
 }
 
-static NUMBERS: [(&str, &str); 26] = [
+static NUMBERS: [(&str, &str); 29] = [
     ("-I|i|-j|1", " I:i"),
     ("-I|i|-j|2", " I:i j:2"),
     ("-I|i|-j|64", " I:i j:64"),
@@ -274,6 +285,9 @@ static NUMBERS: [(&str, &str); 26] = [
     ("--gen|0|--fuel|00|-j|1", " BadNumber:00"),
     ("--gen|00|--fuel|1", " BadNumber:00"),
     ("-I|i|-j|0|=x", " BadNumber:0"),
+    ("--explain|r|--agents|1", " explain:r"),
+    ("--explain|r|--agents|0", " BadNumber:0"),
+    ("-I|i|--agents|65", " BadNumber:65"),
 ];
 
 #[test]
@@ -315,7 +329,7 @@ fn assignments_are_read(rt: HostRuntime) -> Result<(), Fail> {
     compare(&rt, rt.alloc(), ASSIGNMENTS.as_slice())
 }
 
-static UNREADABLE: [(&str, &str); 50] = [
+static UNREADABLE: [(&str, &str); 53] = [
     // neither the image nor a project, or both
     ("-k", " Missing"),
     ("a", " Missing"),
@@ -326,6 +340,9 @@ static UNREADABLE: [(&str, &str); 50] = [
     ("-I|i|--gen|0", " Missing"),
     ("--|-I|i", " Missing"),
     ("--report|r|--history|r", " Missing"),
+    ("--explain|r|-I|i", " Missing"),
+    ("--gen|7|--explain|r", " Missing"),
+    ("--agents|2", " Missing"),
     // twice
     ("-I|i|-I|j", " Unknown"),
     ("-I|i|-Ii", " Unknown"),
@@ -376,4 +393,24 @@ static UNREADABLE: [(&str, &str); 50] = [
 #[test]
 fn other_lines_are_refused(rt: HostRuntime) -> Result<(), Fail> {
     compare(&rt, rt.alloc(), UNREADABLE.as_slice())
+}
+
+static PAGES: [(&str, Option<Page>); 6] = [
+    ("--help", Some(Page::Usage)),
+    ("--version", Some(Page::Version)),
+    ("--help|--version", None),
+    ("-I|--help", None),
+    ("--help=", None),
+    ("help", None),
+];
+
+#[test]
+fn a_word_alone_asks_for_a_page(rt: HostRuntime) -> Result<(), Fail> {
+    for (line, wanted) in &PAGES {
+        let words = words(rt.alloc(), line.as_bytes())?;
+        assert!(rt; page_in(words.as_slice()) == *wanted, "at {line}");
+    }
+    assert!(rt; Page::Usage.text().starts_with(b"usage: emake -I IMAGE "));
+    assert!(rt; Page::Version.text().starts_with(b"emake "));
+    Ok(())
 }

@@ -57,6 +57,8 @@ fn order_of(alloc: Global) -> Result<Order, NoMemory>
         mode: HistoryMode::Merge,
         report: None,
         generate: None,
+        explain: None,
+        agents: 1,
         goals: Seq::new(alloc),
         assigned: Seq::new(alloc),
     })

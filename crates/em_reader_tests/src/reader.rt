@@ -113,6 +113,8 @@ fn order(alloc: Global) -> Result<Order, NoMemory>
         mode: HistoryMode::Merge,
         report: None,
         generate: None,
+        explain: None,
+        agents: 1,
         goals: Seq::new(alloc),
         assigned: Seq::new(alloc),
     })
