@@ -125,6 +125,7 @@ fn whole(alloc: Global, bytes: &[u8]) -> Result<Report, ReportNo>
 /// length, where it ends too early. Numbers are canonical decimal within the bounds of their
 /// fields, and runs are 1 or 2. Linear in the bytes.
 pub fn read(alloc: Global, bytes: &[u8]) -> Result<Report, ReportNo>
+    ensures reading { Gives (λ r. r) result (reading bytes.now) }
     ensures report { IfOk result IsReport }
     ensures text { IfOk result (λ r. report_text r ≡ bytes.now) }
     ensures fault { (at : ℕ) → IsErrOf result (ReportNo.Form at) → IsFault bytes.now at }
