@@ -2,6 +2,7 @@ pub mod Each
 pub mod Jobs
 pub mod Chains
 pub mod Schedules
+pub mod Found
 pub mod Leads
 pub mod Links
 pub mod Queues
