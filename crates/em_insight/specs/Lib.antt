@@ -3,6 +3,7 @@ pub mod Jobs
 pub mod Chains
 pub mod Schedules
 pub mod Found
+pub mod Telling
 pub mod Leads
 pub mod Links
 pub mod Queues
