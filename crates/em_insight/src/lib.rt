@@ -11,8 +11,10 @@ mod lead;
 mod listing;
 mod no;
 mod queue;
+mod telling;
 
 pub use data::{Chain, Schedule, Slot};
 pub use heaviest::longest;
 pub use listing::schedule;
 pub use no::InsightNo;
+pub use telling::explanation;
