@@ -50,7 +50,7 @@ fn report_of(alloc: Global, lines: &[u8]) -> Result<Text, Fail> {
     Ok(text)
 }
 
-/// What is said of a report.
+/// What is said of a report. Without agents, or with more than 64, it has no span.
 fn said(alloc: Global, lines: &[u8], agents: u32) -> Result<Text, Fail> {
     let text = report_of(alloc, lines)?;
     let report = read(alloc, text.bytes())?;
@@ -59,6 +59,9 @@ fn said(alloc: Global, lines: &[u8], agents: u32) -> Result<Text, Fail> {
     out.add(format!(in alloc; "{}:", chain.fuel)?.as_bytes())?;
     for job in chain.jobs.items() {
         out.add(format!(in alloc; " {job}")?.as_bytes())?;
+    }
+    if agents == 0 || agents > 64 {
+        return Ok(out);
     }
     let span = schedule(alloc, &report, agents)?.span;
     out.add(format!(in alloc; " {span}")?.as_bytes())?;
