@@ -7,3 +7,4 @@ pub mod Walking
 pub mod Linking
 pub mod Filing
 pub mod Dispatching
+pub mod Finding

@@ -47,7 +47,7 @@ module _ (ls : List ReportLine) (n : ℕ) where
 
   -- ---- one schedule
 
-  same_slot : (s t : Slot) → s.start ≡ t.start → s.job ≡ t.job → s.agent ≡ t.agent → s ≡ t
+  pub same_slot : (s t : Slot) → s.start ≡ t.start → s.job ≡ t.job → s.agent ≡ t.agent → s ≡ t
   same_slot s t a b c = λ i. record { job = b i; agent = c i; start = a i }
 
   tied : (s t : Slot) → ComesFirst ls s t → ComesFirst ls t s → s ≡ t
@@ -63,7 +63,7 @@ module _ (ls : List ReportLine) (n : ℕ) where
   one_next past s t a b = tied s t (a.first t b.can) (b.first s a.can)
 
   -- none can start where all have
-  none_left : (past : List Slot) (s : Slot) → ((j : ℕ) → j < length ls → Any (λ p. p.job ≡ j) past) → CanStart ls n past s → ⊥
+  pub none_left : (past : List Slot) (s : Slot) → ((j : ℕ) → j < length ls → Any (λ p. p.job ≡ j) past) → CanStart ls n past s → ⊥
   none_left past s all can = any_none (λ p. p.job ≡ s.job) past can.fresh (all s.job can.known.0)
 
   one_rest : (past ss ts : List Slot) → ((j : ℕ) → j < length ls → Any (λ p. p.job ≡ j) (past ++ ss)) → ((j : ℕ) → j < length ls → Any (λ p. p.job ≡ j) (past ++ ts))

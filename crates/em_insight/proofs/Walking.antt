@@ -45,7 +45,7 @@ module _ (ls : List ReportLine) where
   weight_turned js = weight_aux js [] ∙ omega arith
 
   -- a job that waits for others is one of the report
-  waits_within : (j : ℕ) → (k : ℕ) → Any (λ w. w ≡ k) (waits_at ls j) → j < length ls
+  pub waits_within : (j : ℕ) → (k : ℕ) → Any (λ w. w ≡ k) (waits_at ls j) → j < length ls
   waits_within j k a = by ls j k a
     where
       by : (ls : List ReportLine) (j k : ℕ) → Any (λ w. w ≡ k) (waits_at ls j) → j < length ls

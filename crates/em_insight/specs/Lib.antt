@@ -2,6 +2,8 @@ pub mod Each
 pub mod Jobs
 pub mod Chains
 pub mod Schedules
+pub mod Found
+pub mod Telling
 pub mod Leads
 pub mod Links
 pub mod Queues

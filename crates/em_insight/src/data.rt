@@ -8,8 +8,8 @@ pub struct Chain {
     pub jobs: Seq<u32>,
     /// What they weigh together: the sum of their units of fuel.
     pub fuel: u64,
-    /// For each job of the report what the heaviest chain weighs that ends with it. This certifies
-    /// that none is heavier.
+    /// For each job of the report at least what the heaviest chain weighs that ends with it, and at
+    /// most `fuel`. This certifies that none is heavier.
     pub ends: Seq<u64>,
 }
 

@@ -3,6 +3,7 @@ ghost use Rattle.std.specs.Prelude.{◌≡◌, ◌⊎◌, ◌≤◌, ◌<◌, �
 ghost use Rattle.em_insight.specs.Each.{Each, Any};
 ghost use Rattle.em_insight.specs.Jobs.{refusal, total};
 ghost use Rattle.em_insight.specs.Chains.{Certifies, IsNamed};
+ghost use Rattle.em_insight.specs.Found.{path_of};
 ghost use Rattle.em_insight.specs.Links.{IsLead, Linked, IsWalk};
 
 use crate::check::check;
@@ -83,6 +84,7 @@ pub fn longest(alloc: Global, report: &Report) -> Result<Chain, InsightNo>
     ensures ok { IfOk result (λ c. refusal report.now.lines ≡ None) }
     ensures certified { IfOk result (Certifies report.now.lines) }
     ensures named { IfOk result (IsNamed report.now.lines) }
+    ensures path { IfOk result (λ c. c.jobs ≡ path_of report.now.lines) }
     ensures err { IfErr result (λ e. (e ≡ InsightNo.NoMemory) ⊎ (refusal report.now.lines ≡ Some e)) }
 {
     let lines = report.lines.items();

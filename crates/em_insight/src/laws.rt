@@ -6,6 +6,7 @@ ghost use Rattle.em_insight.specs.declared.data.Slot.{Slot};
 ghost use Rattle.em_insight.specs.Jobs.{total};
 ghost use Rattle.em_insight.specs.Chains.{IsChain, weight, Certifies, IsNamed};
 ghost use Rattle.em_insight.specs.Schedules.{IsGreedy, IsLegal, span};
+ghost use Rattle.em_insight.specs.Found.{path_of, slots_of};
 
 /// No chain weighs more than the critical path, and of several paths of its weight one is named.
 pub fn law_longest()
@@ -21,6 +22,20 @@ pub fn law_legal()
         → IsGreedy ls n ss → IsLegal ls n ss }
     ensures one { (ls : List ReportLine) (n : ℕ) (ss ts : List Slot)
         → IsGreedy ls n ss → IsGreedy ls n ts → ss ≡ ts }
+{}
+
+/// The critical path is the path that is found of the lines.
+pub fn law_path()
+    ensures jobs { (ls : List ReportLine) (c : Chain) → Certifies ls c → IsNamed ls c
+        → c.jobs ≡ path_of ls }
+    ensures fuel { (ls : List ReportLine) (c : Chain) → Certifies ls c → IsNamed ls c
+        → c.fuel ≡ weight ls (path_of ls) }
+{}
+
+/// The slots of list scheduling are those that are found of the lines.
+pub fn law_slots()
+    ensures { (ls : List ReportLine) (n : ℕ) (ss : List Slot) → IsGreedy ls n ss
+        → ss ≡ slots_of ls n }
 {}
 
 /// No legal schedule is shorter than a chain, nor than the fuel of all jobs shared evenly by the

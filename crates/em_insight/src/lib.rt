@@ -11,10 +11,12 @@ mod lead;
 mod listing;
 mod no;
 mod queue;
+mod sum;
 mod telling;
 
 pub use data::{Chain, Schedule, Slot};
 pub use heaviest::longest;
 pub use listing::schedule;
 pub use no::InsightNo;
+pub use sum::total;
 pub use telling::explanation;

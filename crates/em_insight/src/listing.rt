@@ -4,6 +4,7 @@ ghost use Rattle.em_insight.specs.Each.{Each};
 ghost use Rattle.em_insight.specs.Jobs.{refusal};
 ghost use Rattle.em_insight.specs.Schedules.{IsGreedy, end_of};
 ghost use Rattle.em_insight.specs.Schedules as schedules;
+ghost use Rattle.em_insight.specs.Found.{slots_of};
 
 use crate::check::check;
 use crate::data::{Schedule, Slot};
@@ -35,6 +36,7 @@ pub fn schedule(alloc: Global, report: &Report, agents: u32) -> Result<Schedule,
     requires few { agents ≤ 64 }
     ensures ok { IfOk result (λ s. refusal report.now.lines ≡ None) }
     ensures greedy { IfOk result (λ s. IsGreedy report.now.lines agents s.slots) }
+    ensures slots { IfOk result (λ s. s.slots ≡ slots_of report.now.lines agents) }
     ensures span { IfOk result (λ s. s.span ≡ schedules.span report.now.lines s.slots) }
     ensures err { IfErr result (λ e. (e ≡ InsightNo.NoMemory) ⊎ (refusal report.now.lines ≡ Some e)) }
 {

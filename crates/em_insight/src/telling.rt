@@ -3,10 +3,10 @@ ghost use Rattle.std.specs.Prelude.{◌≡◌, ◌⊎◌, ◌≤◌, ◌++◌, N
 ghost use Rattle.em_insight.specs.Jobs.{refusal};
 ghost use Rattle.em_insight.specs.Telling as telling;
 
-use crate::check::total;
 use crate::heaviest::longest;
 use crate::listing::schedule;
 use crate::no::InsightNo;
+use crate::sum::total;
 use em_base::{NoMemory, Text};
 use em_report::{Report, ReportLine};
 use itoa::Buffer;

@@ -6,6 +6,7 @@ use Rattle.em_insight.specs.Chains.{Certifies, IsNamed}
 use Rattle.em_insight.specs.Links.{IsLead, IsWalk, Linked}
 use Rattle.em_insight.proofs.Linking.{before_below, sound}
 use Rattle.em_insight.proofs.Walking.{certified, named}
+use Rattle.em_insight.proofs.Finding.{path_is}
 use Rattle.em_insight.proofs.heaviest.longest.Goals as goal
 
 -- all that the parts found, of the report's lines
@@ -52,3 +53,7 @@ returns-clause-named c =
     (found c.args.report.now.lines c.items-lines.result.now c.in_ok-links.links.ends.items c.deref.result.now c.in_ok-links.links.before.items c.deref-2.result.now c.last_of-last.result c.in_ok-jobs.jobs.items
     c.items-lines.ensures c.deref.ensures.value c.deref-2.ensures.value c.in_ok-check.ensures.ok c.in_ok-links.ensures c.last_of-last.ensures c.in_ok-jobs.ensures)
     (c.from_vec.ensures ∙ c.reverse.ensures.items) c.from_vec-2.ensures
+
+pub returns-clause-path : goal.returns-clause-path
+returns-clause-path c =
+    path_is c.args.report.now.lines (record { jobs = c.from_vec.result; fuel = c.last_of-last.result.weight; ends = c.from_vec-2.result }) (returns-clause-certified c) (returns-clause-named c)

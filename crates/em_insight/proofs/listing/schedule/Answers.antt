@@ -3,6 +3,7 @@ use Rattle.em_insight.specs.Each.{Each}
 use Rattle.em_insight.specs.Jobs.{refusal}
 use Rattle.em_insight.specs.Schedules.{end_of, IsGreedy}
 use Rattle.em_insight.proofs.Dispatching.{slots_small, slots_within, greedy}
+use Rattle.em_insight.proofs.Finding.{slots_are}
 use Rattle.em_insight.proofs.listing.schedule.Goals as goal
 
 pub loop-dispatch-smaller : goal.loop-dispatch-smaller
@@ -24,3 +25,6 @@ returns-clause-greedy c =
     subst (IsGreedy c.args.report.now.lines c.args.agents) (sym c.from_vec.ensures)
     (greedy c.step.new.self c.args.report.now.lines c.args.agents c.in_ok-step.ensures.standing (c.in_ok-step.ensures.none c.if-branch.false) (c.step.ensures.lines ∙ c.loop-dispatch.invariant.lines)
     (c.in_ok-step.ensures.agents ∙ c.loop-dispatch.invariant.agents))
+
+pub returns-clause-slots : goal.returns-clause-slots
+returns-clause-slots c = slots_are c.args.report.now.lines c.args.agents c.from_vec.result (returns-clause-greedy c)
