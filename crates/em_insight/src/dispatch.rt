@@ -37,7 +37,7 @@ fn first_free(free: &[u64]) -> u64
     first
 }
 
-/// The first agent that is free at a moment, and the last where none is.
+/// The first agent that is free at a moment; one is.
 fn agent_at(free: &[u64], moment: u64) -> usize
     requires some { 0 < length free.now }
     requires free { (a : ℕ) × (a < length free.now) × (get_or free.now a 0 ≤ moment) }

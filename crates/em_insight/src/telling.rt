@@ -1,5 +1,5 @@
 //! What is said of a report.
-ghost use Rattle.std.specs.Prelude.{◌≡◌, ◌⊎◌, ◌≤◌, ◌++◌, None, Some, IfOk, IfErr, OnOk};
+ghost use Rattle.std.specs.Prelude.{◌≡◌, ◌⊎◌, ◌≤◌, None, Some, IfOk, IfErr};
 ghost use Rattle.em_insight.specs.Jobs.{refusal};
 ghost use Rattle.em_insight.specs.Telling as telling;
 
@@ -23,14 +23,15 @@ fn target(lines: &[ReportLine], job: u32) -> &[u8]
 }
 
 /// The targets of these jobs, each behind a blank.
-fn put_targets(out: &mut Text, lines: &[ReportLine], jobs: &[u32]) -> Result<(), NoMemory>
-    ensures { OnOk result (out.new ≡ out.old ++ telling.targets lines.now jobs.now) }
+fn targets(alloc: Global, lines: &[ReportLine], jobs: &[u32]) -> Result<Text, NoMemory>
+    ensures { IfOk result (λ t. t ≡ telling.targets lines.now jobs.now) }
 {
+    let mut text = Text::new(alloc);
     for job in jobs {
-        out.add(b" ")?;
-        out.add(target(lines, *job))?;
+        text.add(b" ")?;
+        text.add(target(lines, *job))?;
     }
-    Ok(())
+    Ok(text)
 }
 
 /// What a report tells of the build's speed, in three lines: the critical path with its units and
@@ -50,7 +51,8 @@ pub fn explanation(alloc: Global, report: &Report, agents: u32) -> Result<Text, 
     let mut out = Text::from_slice(alloc, b"chain ")?;
     out.add(buffer.format(path.fuel).as_bytes())?;
     out.add(b":")?;
-    put_targets(&mut out, report.lines.items(), path.jobs.items())?;
+    let named = targets(alloc, report.lines.items(), path.jobs.items())?;
+    out.add(named.bytes())?;
     out.add(b"\ntotal ")?;
     out.add(buffer.format(total(report)).as_bytes())?;
     out.add(b"\nagents ")?;
