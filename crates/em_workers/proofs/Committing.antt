@@ -302,19 +302,20 @@ module _ {S : Type 0} (job_of : S → ℕ) (eq : S → S → Bool) (makes : S �
       (as_err job_of eq makes ends no.NoMemory [] ns r v v a b x x is
       (commits_not job_of eq makes ends {A = Unit {0}} v a x b [] (Both-weaken a b (λ l m f. serves_lost job_of {A = Unit {0}} (rest_of v) no.NoMemory lent l m f) lends)))
 
-  -- a turn of a loop, and its end
+  -- a stretch of jobs behind others, the end of a loop
   module _ {A B : Type 0} (o : A) (p : B) (ns : List Note) (u v w : Standing S) (a b c : Option (Lending S)) (x y z : Option Outside) where
-    pub commits_more : (n : Note) → Commits job_of eq makes ends ns (Ok o) u v a b x y → Commits job_of eq makes ends (n ∷ []) (Ok p) v w b c y z → Commits job_of eq makes ends (ns ++ n ∷ []) (Ok o) u w a c x z
-    commits_more n first next = as_ok job_of eq makes ends u w a c x z p o (ns ++ n ∷ []) (commits_then job_of eq makes ends o ns (n ∷ []) (Ok p) u v w a b c x y z first next)
+    pub commits_both : {C : Type 0} (q : C) (os : List Note) → Commits job_of eq makes ends ns (Ok o) u v a b x y → Commits job_of eq makes ends os (Ok p) v w b c y z → Commits job_of eq makes ends (ns ++ os) (Ok q) u w a c x z
+    commits_both q os first next = as_ok job_of eq makes ends u w a c x z p q (ns ++ os) (commits_then job_of eq makes ends o ns os (Ok p) u v w a b c x y z first next)
+
+    pub commits_more : (os : List Note) → Commits job_of eq makes ends ns (Ok o) u v a b x y → Commits job_of eq makes ends os (Ok p) v w b c y z → Commits job_of eq makes ends (ns ++ os) (Ok o) u w a c x z
+    commits_more os first next = commits_both o os first next
 
     pub commits_end : {C : Type 0} (q : C) → Commits job_of eq makes ends ns (Ok o) u v a b x y → Commits job_of eq makes ends [] (Ok p) v w b c y z → Commits job_of eq makes ends ns (Ok q) u w a c x z
-    commits_end q first last = as_ok job_of eq makes ends u w a c x z p q ns
-        (subst (λ (ms : List Note). Commits job_of eq makes ends ms (Ok p) u w a c x z) (append-nil ns)
-        (commits_then job_of eq makes ends o ns [] (Ok p) u v w a b c x y z first last))
+    commits_end q first last = subst (λ (ms : List Note). Commits job_of eq makes ends ms (Ok q) u w a c x z) (append-nil ns) (commits_both q [] first last)
 
-    -- memory ran out behind a turn
-    pub commits_out : {C : Type 0} (r : Result C BuildNo) (ms : List Note) (n : Note) → IsErrAnd r (λ s. s ≡ no.NoMemory) → Commits job_of eq makes ends ns (Ok o) u v a b x y
-        → Commits job_of eq makes ends (n ∷ []) (Ok p) v w b c y z → Commits job_of eq makes ends ms r u w a c x z
-    commits_out r ms n is first next =
+    -- memory ran out behind them
+    pub commits_out : {C : Type 0} (r : Result C BuildNo) (ms os : List Note) → IsErrAnd r (λ s. s ≡ no.NoMemory) → Commits job_of eq makes ends ns (Ok o) u v a b x y
+        → Commits job_of eq makes ends os (Ok p) v w b c y z → Commits job_of eq makes ends ms r u w a c x z
+    commits_out r ms os is first next =
         as_err job_of eq makes ends no.NoMemory [] ms r u w a c x z is
-        (commits_lost job_of eq makes ends {A = A} o (ns ++ n ∷ []) [] u w a c x z (commits_more n first next))
+        (commits_lost job_of eq makes ends {A = A} o (ns ++ os) [] u w a c x z (commits_more os first next))
