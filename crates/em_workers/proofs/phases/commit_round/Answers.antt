@@ -1,5 +1,4 @@
 use Rattle.std.proofs.Common.{None, refl}
-use Rattle.em_workers.proofs.Saying.{faults_left}
 use Rattle.em_workers.proofs.Committing.{commits_none, commits_want, commits_then, commits_both, commits_out, as_err}
 use Rattle.em_workers.proofs.phases.commit_round.Goals as goal
 
