@@ -112,11 +112,17 @@ fn build_beside<
 /// notes tell of each job in how many runs it came to be committed, and why in two; with one worker
 /// each is run once.
 ///
-/// An error comes only where a call on the host failed, or memory ran out; a front of the outputs
-/// was printed then.
+/// An error comes only where a call on the host failed, or memory ran out; then the outputs of the
+/// jobs that were committed were printed, but perhaps not all of the last one's.
+///
+/// More workers begin beside the committer. It goes on alone where the jobs that were committed took
+/// little fuel, and has workers begin again where jobs get long: so short jobs take no longer than
+/// with one worker. While a worker has the next job, and all others are busy, the committer runs
+/// another job.
 ///
 /// Besides the runs it takes steps for each job and each of its waits, a search for each change,
-/// and with more than one worker for each question as the board's versions take.
+/// and with more than one worker for each question as the board's versions take, and nine times at
+/// most steps for each job, wait and node of the tree.
 pub fn build<
     R: Threads + Wait + Sync,
     S: Spec + Send + Sync,
