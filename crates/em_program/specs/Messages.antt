@@ -79,8 +79,11 @@ image_line e = stopped (codes "image: " ++ fault_name e ++ codes " at byte " ++ 
 abbrev pub no_report : List ℕ
 no_report = stopped (codes "report: absent")
 
+abbrev pub report_text : ℕ → List ℕ
+report_text at = codes "report: Form at byte " ++ decimal at
+
 abbrev pub report_line : ℕ → List ℕ
-report_line at = stopped (codes "report: Form at byte " ++ decimal at)
+report_line at = stopped (report_text at)
 
 abbrev pub insight_text : InsightNo → List ℕ
 insight_text (insight.Order job) = codes "report: job " ++ decimal job

@@ -72,8 +72,8 @@ pub fn explained<H: Host>(alloc: Global, order: &Order, host: &mut H) -> Result<
     match &order.explain {
         None => Ok(()),
         Some(name) => {
-            let bytes = report_in(alloc, name.bytes(), host)?;
-            let report = report_of(alloc, bytes.bytes(), host)?;
+            let taken = report_in(alloc, name.bytes(), host)?;
+            let report = report_of(alloc, taken.bytes(), host)?;
             told_of(alloc, &report, order.agents, host)
         }
     }

@@ -110,14 +110,20 @@ pub fn image_line(alloc: Global, no: ImageNo) -> Result<Text, NoMemory>
     stopped(alloc, text.bytes())
 }
 
-/// At this byte no report goes on.
-pub fn report_line(alloc: Global, at: usize) -> Result<Text, NoMemory>
-    ensures { IfOk result (λ t. t ≡ messages.report_line at) }
+fn report_text(alloc: Global, at: usize) -> Result<Text, NoMemory>
+    ensures { IfOk result (λ t. t ≡ messages.report_text at) }
 {
     let mut buffer = Buffer::new();
     let mut text = Text::from_slice(alloc, b"report: Form at byte ")?;
     text.add(buffer.format(at).as_bytes())?;
-    stopped(alloc, text.bytes())
+    Ok(text)
+}
+
+/// At this byte no report goes on.
+pub fn report_line(alloc: Global, at: usize) -> Result<Text, NoMemory>
+    ensures { IfOk result (λ t. t ≡ messages.report_line at) }
+{
+    stopped(alloc, report_text(alloc, at)?.bytes())
 }
 
 fn insight_text(alloc: Global, no: InsightNo) -> Result<Text, NoMemory>

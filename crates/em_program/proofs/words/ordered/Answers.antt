@@ -1,3 +1,4 @@
+use Rattle.std.proofs.Common.{sym, ◌∙◌}
 use Rattle.em_program.proofs.words.ordered.Goals as goal
 
 pub returns-in-Some-clause-told : goal.returns-in-Some-clause-told
