@@ -11,11 +11,12 @@ use Rattle.em_insight.specs.Jobs.{waits_at}
 use Rattle.em_insight.specs.Chains.{is_before, weight}
 use Rattle.em_insight.specs.Schedules.{end_of, span}
 
--- of all these the one that comes before the others, by a test of two
+-- of one and perhaps another that which comes before
 abbrev pub former : {A : Type 0} → (A → A → Bool) → A → Option A → A
 former before x None = x
 former before x (Some y) = if before y x then y else x
 
+-- of all these the one that comes before the others, by a test of two
 abbrev pub first_of : {A : Type 0} → (A → A → Bool) → List A → Option A
 first_of before [] = None
 first_of before (x ∷ xs) = Some (former before x (first_of before xs))

@@ -2,7 +2,7 @@
 ghost use Rattle.std.specs.Prelude.{◌≡◌, ◌⊎◌, ◌≤◌, ◌<◌, ◌^◌, ℕ, length, get_or, None, Some, IfOk, IfErr};
 ghost use Rattle.em_insight.specs.Each.{Each, Any};
 ghost use Rattle.em_insight.specs.Jobs.{refusal, total};
-ghost use Rattle.em_insight.specs.Chains.{Certifies, IsNamed};
+ghost use Rattle.em_insight.specs.Chains.{weight, Certifies, IsNamed};
 ghost use Rattle.em_insight.specs.Found.{path_of};
 ghost use Rattle.em_insight.specs.Links.{IsLead, Linked, IsWalk};
 
@@ -85,6 +85,7 @@ pub fn longest(alloc: Global, report: &Report) -> Result<Chain, InsightNo>
     ensures certified { IfOk result (Certifies report.now.lines) }
     ensures named { IfOk result (IsNamed report.now.lines) }
     ensures path { IfOk result (λ c. c.jobs ≡ path_of report.now.lines) }
+    ensures fuel { IfOk result (λ c. c.fuel ≡ weight report.now.lines (path_of report.now.lines)) }
     ensures err { IfErr result (λ e. (e ≡ InsightNo.NoMemory) ⊎ (refusal report.now.lines ≡ Some e)) }
 {
     let lines = report.lines.items();

@@ -1,44 +1,44 @@
 use em_base::Text;
-use em_insight::{InsightNo, longest, schedule};
+use em_insight::{InsightNo, longest, schedule, total};
 use em_report::read;
 use std::alloc::Global;
 use std::test::Fail;
 
-/// Reports by their lines, each with the agents, and what is to be said: the chain's fuel, its
-/// jobs, the span.
+/// Reports by their lines, each with the agents, and what is to be said: the chain's fuel, that
+/// of all jobs, the chain's jobs, the span.
 static REPORTS: [(&[u8], u32, &[u8]); 9] = [
-    (b"job 0 1 - 7 b\njob 1 1 - 10 a 0\n", 2, b"17: 0 1 17"),
+    (b"job 0 1 - 7 b\njob 1 1 - 10 a 0\n", 2, b"17 of 17: 0 1 17"),
     (
         b"job 0 1 - 2 a\njob 1 1 - 2 b\njob 2 1 - 3 c\n",
         2,
-        b"3: 2 5",
+        b"3 of 7: 2 5",
     ),
     (
         b"job 0 1 - 2 a\njob 1 1 - 2 b\njob 2 1 - 3 c\n",
         64,
-        b"3: 2 3",
+        b"3 of 7: 2 3",
     ),
-    (b"", 1, b"0: 0"),
+    (b"", 1, b"0 of 0: 0"),
     // of several chains of the greatest weight that with the least last job, then the least before
     // it
     (
         b"job 0 1 - 3 a\njob 1 1 - 3 b\njob 2 1 - 4 c 1 0\njob 3 1 - 7 d\n",
         1,
-        b"7: 0 2 17",
+        b"7 of 17: 0 2 17",
     ),
-    (b"job 0 1 - 3 a\njob 1 1 - 3 b\n", 1, b"3: 0 6"),
+    (b"job 0 1 - 3 a\njob 1 1 - 3 b\n", 1, b"3 of 6: 0 6"),
     // a job that took nothing doesn't begin a chain, and holds no agent
     (
         b"job 0 1 - 0 a\njob 1 1 - 5 b 0\njob 2 1 - 0 c 1\n",
         1,
-        b"5: 1 5",
+        b"5 of 5: 1 5",
     ),
-    (b"job 0 1 - 0 a\n", 1, b"0: 0"),
+    (b"job 0 1 - 0 a\n", 1, b"0 of 0: 0"),
     // a wait that is told twice
     (
         b"job 0 1 - 4 a\njob 1 1 - 1 b\njob 2 1 - 2 c 0 0 1\n",
         2,
-        b"6: 0 2 6",
+        b"6 of 7: 0 2 6",
     ),
 ];
 
@@ -56,7 +56,8 @@ fn said(alloc: Global, lines: &[u8], agents: u32) -> Result<Text, Fail> {
     let report = read(alloc, text.bytes())?;
     let chain = longest(alloc, &report)?;
     let mut out = Text::new(alloc);
-    out.add(format!(in alloc; "{}:", chain.fuel)?.as_bytes())?;
+    let units = total(&report);
+    out.add(format!(in alloc; "{} of {units}:", chain.fuel)?.as_bytes())?;
     for job in chain.jobs.items() {
         out.add(format!(in alloc; " {job}")?.as_bytes())?;
     }

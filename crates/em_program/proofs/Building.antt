@@ -8,6 +8,7 @@ use Rattle.std.specs.List.{list_any}
 use Rattle.std.proofs.lemmas.List.{length-append}
 use Rattle.std.proofs.lemmas.List.Elements.{All-nil, All-cons, All-head, All-tail}
 use Rattle.em_host.specs.Outside.{Outside}
+use Rattle.em_host.proofs.Telling.{Tells-weaken}
 use Rattle.em_tree.specs.declared.outcome.Outcome.{Outcome}
 use Rattle.em_tree.specs.declared.state.State.{State}
 use Rattle.em_tree.specs.Trees.{Changes}
@@ -23,6 +24,7 @@ use Rattle.em_workers.specs.declared.no.BuildNo.{BuildNo}
 use Rattle.em_engine.specs.declared.note.Note.{Note}
 use Rattle.em_workers.specs.Builds.{Builds, IsOnce}
 use Rattle.em_workers.specs.Notes.{AreNotes, IsNoteOf}
+use Rattle.em_workers.proofs.Saying.{said_says}
 use Rattle.em_program.specs.declared.build.Finished.{Finished}
 use Rattle.em_program.specs.declared.project.Project.{Project}
 use Rattle.em_program.specs.declared.stop.Stop.{Stop}
@@ -127,7 +129,7 @@ breaks p {no} {r = Err s} {x} {y} is b = record {
   noted = clean_noted p.start [] b.made;
   alone = λ one. clean_once 0 b.made;
   whole = tt;
-  follows = leave _ is (not_said_all (outputs_of b.made) Built no b.printed);
+  follows = leave _ is (not_said_all (outputs_of b.made) Built no (Tells-weaken x y (λ u v h. said_says {A = Built} (outputs_of b.made) (Err no) u v h) b.printed));
 }
 
 -- before the first job

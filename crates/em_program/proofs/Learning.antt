@@ -29,7 +29,7 @@ use Rattle.em_program.specs.declared.project.Project.{Project}
 use Rattle.em_program.specs.declared.site.Site.{Site}
 use Rattle.em_program.specs.declared.verdict.Verdict.{Verdict}
 use Rattle.em_program.specs.Course.{Trace, Course, go_on, ◌>>=◌, done}
-use Rattle.em_program.specs.Projects.{entered, book_of, planned, assembled, project, EndAlike, IsUntouched}
+use Rattle.em_program.specs.Projects.{entered, book_of, planned, assembled, EndAlike, IsUntouched}
 
 no_cause : (c : Option Cause) → 1 ≡ runs_for c → c ≡ None
 no_cause None e = refl

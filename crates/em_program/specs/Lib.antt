@@ -2,6 +2,7 @@ pub mod Words
 pub mod Messages
 pub mod Course
 pub mod Closing
+pub mod Explaining
 pub mod Projects
 pub mod Serial
 pub mod Endings

@@ -1,5 +1,6 @@
 -- What `emake` says besides its jobs.
 --     word_line e, image_line e, dir_line name, read_line e, plan_line found e     why there is no build
+--     report_line at, insight_line e                                               why a report isn't explained
 --     not_remade, nothing_to_do, up_to_date                                        the closing text's lines
 --     summary jobs printed nodes status                                            what a generated project's build comes to
 use Rattle.std.specs.Prelude.{ℕ, Bool, true, false, List, [], ◌++◌, codes, decimal}
@@ -10,6 +11,8 @@ use Rattle.em_image.specs.declared.no.ImageNo.{ImageNo}
 use Rattle.em_image.specs.declared.no.ImageNo.TheVariants as no
 use Rattle.em_image.specs.declared.no.Which.{Which}
 use Rattle.em_image.specs.declared.no.Which.TheVariants as which
+use Rattle.em_insight.specs.declared.no.InsightNo.{InsightNo}
+use Rattle.em_insight.specs.declared.no.InsightNo.TheVariants as insight
 use Rattle.em_reading.specs.declared.no.Fault.{Fault}
 use Rattle.em_reading.specs.declared.no.Fault.TheVariants as fault
 use Rattle.em_reading.specs.declared.no.RuleNo.{RuleNo}
@@ -72,6 +75,23 @@ fault_place no.NoMemory = 0
 
 abbrev pub image_line : ImageNo → List ℕ
 image_line e = stopped (codes "image: " ++ fault_name e ++ codes " at byte " ++ decimal (fault_place e))
+
+abbrev pub no_report : List ℕ
+no_report = stopped (codes "report: absent")
+
+abbrev pub report_text : ℕ → List ℕ
+report_text at = codes "report: Form at byte " ++ decimal at
+
+abbrev pub report_line : ℕ → List ℕ
+report_line at = stopped (report_text at)
+
+abbrev pub insight_text : InsightNo → List ℕ
+insight_text (insight.Order job) = codes "report: job " ++ decimal job
+insight_text insight.Sum = codes "report: too much fuel"
+insight_text insight.NoMemory = []
+
+abbrev pub insight_line : InsightNo → List ℕ
+insight_line e = stopped (insight_text e)
 
 -- the directory that `-C` names
 abbrev pub dir_line : List ℕ → List ℕ

@@ -45,6 +45,7 @@ use Rattle.em_program.specs.declared.verdict.Verdict.TheVariants.{Faulty}
 use Rattle.em_program.specs.Course.{Course, ◌>>=◌, done, say, take, stop}
 use Rattle.em_program.specs.Messages.{bad_words, no_image, image_line, dir_line, read_line, plan_line}
 use Rattle.em_program.specs.Words.{ordered}
+use Rattle.em_program.specs.Explaining.{explained}
 
 -- ---- the image
 
@@ -136,10 +137,11 @@ planned book order t cwd = as_plan book.found (plan_of book order.goals t cwd)
 
 -- ---- all of it
 
--- where the build takes place
+-- where the build takes place; a page and an explanation end the run before
 abbrev pub site : List (List ℕ) → Course Site
 site words = do
   order ← ordered words
+  u ← explained order
   tree ← tree_in order.generate order.image
   old ← recalled order.mode order.history
   done (record { order = order; start = start_of tree; old = old })

@@ -1,6 +1,6 @@
 -- The words of a command line.
 --     words_of args      the words behind the program's name
---     ordered words      what they order, or their refusal
+--     ordered words      what they order, or their refusal, or a page that they ask for
 use Rattle.std.specs.Prelude.{ℕ, List, [], ◌∷◌, drop, map, Option, Some, None, is_some, Result, Ok, Err, if◌then◌else◌, codes, string_bytes}
 use Rattle.std.specs.declared.string.String.{String}
 use Rattle.std.specs.Global.{Global}
@@ -10,7 +10,9 @@ use Rattle.std.specs.declared.io.Error.{Error}
 use Rattle.em_cmdline.specs.declared.order.Order.{Order}
 use Rattle.em_cmdline.specs.declared.order.WordNo.{WordNo}
 use Rattle.em_cmdline.specs.Words.{refusal, order_of}
-use Rattle.em_program.specs.declared.verdict.Verdict.TheVariants.{Faulty}
+use Rattle.em_cmdline.specs.Pages.{page_in, text_of}
+use Rattle.em_cmdline.specs.declared.page.Page.{Page}
+use Rattle.em_program.specs.declared.verdict.Verdict.TheVariants.{Done, Faulty}
 use Rattle.em_program.specs.Course.{Course, done, stop}
 use Rattle.em_program.specs.Messages.{word_line}
 
@@ -31,5 +33,13 @@ abbrev pub as_ordered : Option WordNo → Order → Course Order
 as_ordered None o = done (aimed o)
 as_ordered (Some e) o = stop (word_line e) Faulty
 
+abbrev pub read : List (List ℕ) → Course Order
+read words = as_ordered (refusal words) (order_of words)
+
+-- a page that is asked for is printed, and ends the run
+abbrev pub paged : Option Page → List (List ℕ) → Course Order
+paged None words = read words
+paged (Some page) words = stop (text_of page) Done
+
 abbrev pub ordered : List (List ℕ) → Course Order
-ordered words = as_ordered (refusal words) (order_of words)
+ordered words = paged (page_in words) words

@@ -5,6 +5,7 @@ mod build;
 mod closing;
 mod count;
 mod ending;
+mod explain;
 mod messages;
 mod project;
 mod say;

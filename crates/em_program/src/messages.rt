@@ -6,6 +6,7 @@ ghost use Rattle.em_program.specs.Messages as messages;
 use em_base::{NoMemory, Place, Text};
 use em_cmdline::WordNo;
 use em_image::{ImageNo, Which};
+use em_insight::InsightNo;
 use em_plan::PlanNo;
 use em_reader::{Fault, RuleNo};
 use em_recipe::{fault_text, put_halted, put_quoted};
@@ -15,6 +16,8 @@ use std::alloc::Global;
 pub const BAD_WORDS: &[u8] = b"emake: *** bad words.  Stop.\n";
 
 pub const NO_IMAGE: &[u8] = b"emake: *** image: absent.  Stop.\n";
+
+pub const NO_REPORT: &[u8] = b"emake: *** report: absent.  Stop.\n";
 
 /// A text with a name in quotes behind it.
 fn of_name(alloc: Global, text: &[u8], name: &[u8]) -> Result<Text, NoMemory>
@@ -105,6 +108,44 @@ pub fn image_line(alloc: Global, no: ImageNo) -> Result<Text, NoMemory>
     text.add(b" at byte ")?;
     text.add(buffer.format(fault_place(no)).as_bytes())?;
     stopped(alloc, text.bytes())
+}
+
+fn report_text(alloc: Global, at: usize) -> Result<Text, NoMemory>
+    ensures { IfOk result (λ t. t ≡ messages.report_text at) }
+{
+    let mut buffer = Buffer::new();
+    let mut text = Text::from_slice(alloc, b"report: Form at byte ")?;
+    text.add(buffer.format(at).as_bytes())?;
+    Ok(text)
+}
+
+/// At this byte no report goes on.
+pub fn report_line(alloc: Global, at: usize) -> Result<Text, NoMemory>
+    ensures { IfOk result (λ t. t ≡ messages.report_line at) }
+{
+    stopped(alloc, report_text(alloc, at)?.bytes())
+}
+
+fn insight_text(alloc: Global, no: InsightNo) -> Result<Text, NoMemory>
+    ensures { IfOk result (λ t. t ≡ messages.insight_text no) }
+{
+    match no {
+        InsightNo::Order(job) => {
+            let mut buffer = Buffer::new();
+            let mut text = Text::from_slice(alloc, b"report: job ")?;
+            text.add(buffer.format(job).as_bytes())?;
+            Ok(text)
+        }
+        InsightNo::Sum => Text::from_slice(alloc, b"report: too much fuel"),
+        InsightNo::NoMemory => Ok(Text::new(alloc)),
+    }
+}
+
+/// Why a report isn't looked into.
+pub fn insight_line(alloc: Global, no: InsightNo) -> Result<Text, NoMemory>
+    ensures { IfOk result (λ t. t ≡ messages.insight_line no) }
+{
+    stopped(alloc, insight_text(alloc, no)?.bytes())
 }
 
 /// `-C` names no directory of the tree.

@@ -5,6 +5,7 @@ ghost use Rattle.em_tree.specs.Trees.{base_of};
 ghost use Rattle.em_program.specs.Course.{Follows, faults_after};
 ghost use Rattle.em_program.specs.Projects as projects;
 
+use crate::explain::explained;
 use crate::messages::{BAD_WORDS, NO_IMAGE, image_line};
 use crate::say::{stop, take};
 use crate::stop::Stop;
@@ -115,13 +116,15 @@ fn recalled<H: Host>(alloc: Global, order: &Order, host: &mut H) -> Result<Histo
     }
 }
 
-/// Where the words order to build. Linear in the image and in the history.
+/// Where the words order to build; a page and an explanation end the run before. Linear in the image
+/// and in the history.
 pub fn site_of<H: Host>(alloc: Global, words: &[Text], host: &mut H) -> Result<Site, Stop>
     ensures told { Follows (projects.site words.now) result (H.told host.old) (H.told host.new) }
     ensures faults { H.faults host.new ≡ faults_after result (H.faults host.old) }
     ensures is { IfOk result projects.IsSite }
 {
     let order = ordered(alloc, words, host)?;
+    explained(alloc, &order, host)?;
     let tree = tree_in(alloc, &order, host)?;
     let old = recalled(alloc, &order, host)?;
     let outcomes = Outcomes::new(alloc);

@@ -90,7 +90,8 @@ fn notes_in(alloc: Global, answer: Result<Finished, Stop>) -> Seq<Note>
 /// Does all that the program does, in this order: reads the words, the image, the history and the
 /// makefiles, plans, runs the jobs, says the closing text and replaces the image, the history and
 /// the report. A generated project is built beside the host: only a summary is said, and nothing is
-/// replaced.
+/// replaced. `--explain` says what a report tells, `--help` and `--version` print a page, and
+/// nothing else is done.
 ///
 /// Over a host that tells its files and what was printed, and with a status other than 3 and 7, the
 /// printed bytes grew by exactly what the serial run says, the image is the serial run's, and so is

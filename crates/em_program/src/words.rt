@@ -5,14 +5,14 @@ ghost use Rattle.std.specs.Vec.Iter.{into_iter_items};
 ghost use Rattle.em_cmdline.specs.Words.{HasRanges};
 ghost use Rattle.em_program.specs.Course.{Follows, faults_after};
 ghost use Rattle.em_program.specs.Words as words;
-ghost use Rattle.em_program.specs.Words.{words_of, unread, ordered};
+ghost use Rattle.em_program.specs.Words.{words_of, unread, ordered, read};
 
 use crate::messages::word_line;
 use crate::say::stop;
 use crate::stop::Stop;
 use crate::verdict::Verdict;
 use em_base::{NoMemory, Seq, Text};
-use em_cmdline::{Order, WordNo, read_words};
+use em_cmdline::{Order, WordNo, page_in, read_words};
 use em_host::Host;
 use std::alloc::Global;
 use std::env::Args;
@@ -78,9 +78,9 @@ fn aimed(alloc: Global, order: Order) -> Result<Order, NoMemory>
     Ok(aimed)
 }
 
-/// What the words order.
-pub fn ordered<H: Host>(alloc: Global, words: &[Text], host: &mut H) -> Result<Order, Stop>
-    ensures told { Follows (ordered words.now) result (H.told host.old) (H.told host.new) }
+/// What the words order, where they ask for no page.
+fn read<H: Host>(alloc: Global, words: &[Text], host: &mut H) -> Result<Order, Stop>
+    ensures told { Follows (read words.now) result (H.told host.old) (H.told host.new) }
     ensures faults { H.faults host.new ≡ faults_after result (H.faults host.old) }
     ensures ranges { IfOk result HasRanges }
 {
@@ -91,5 +91,17 @@ pub fn ordered<H: Host>(alloc: Global, words: &[Text], host: &mut H) -> Result<O
             let line = word_line(alloc, &no)?;
             stop(host, line.bytes(), Verdict::Faulty)
         }
+    }
+}
+
+/// What the words order; `--help` and `--version`, each alone, print a page, which ends the run.
+pub fn ordered<H: Host>(alloc: Global, words: &[Text], host: &mut H) -> Result<Order, Stop>
+    ensures told { Follows (ordered words.now) result (H.told host.old) (H.told host.new) }
+    ensures faults { H.faults host.new ≡ faults_after result (H.faults host.old) }
+    ensures ranges { IfOk result HasRanges }
+{
+    match page_in(words) {
+        Some(page) => stop(host, page.text(), Verdict::Done),
+        None => read(alloc, words, host),
     }
 }

@@ -8,6 +8,8 @@ mod builds;
 #[cfg(test)]
 mod damage;
 #[cfg(test)]
+mod explain;
+#[cfg(test)]
 mod files;
 #[cfg(test)]
 mod limits;

@@ -2,14 +2,14 @@
 --     begins           a front stands before its first job
 --     builds, breaks   all jobs were committed, and the committer broke off
 --     breaks_early     memory ran out before the first job
-use Rattle.std.proofs.Common.{◌≡◌, ◌+◌, ℕ, Bool, false, List, [], Option, None, Result, Ok, Err, refl, sym, subst, ◌∙◌, inl, arith}
+use Rattle.std.proofs.Common.{◌≡◌, ◌+◌, ℕ, Bool, false, List, [], Option, None, Result, Ok, Err, refl, sym, subst, ◌∙◌, arith}
 use Rattle.std.specs.Prelude.{All, IfSome, IsErrAnd, slice_get}
 use Rattle.em_host.specs.Outside.{Outside}
-use Rattle.em_host.proofs.Telling.{Tells-weaken, Tells-same, front_none}
+use Rattle.em_host.proofs.Telling.{Tells-weaken, Tells-same, makes_none}
 use Rattle.em_tree.specs.declared.outcome.Outcome.{Outcome}
 use Rattle.em_tree.specs.declared.state.State.{State}
 use Rattle.em_view.specs.declared.effect.Effect.{Effect}
-use Rattle.em_run.specs.Serial.{outputs_of, Ran, IsSerial}
+use Rattle.em_run.specs.Serial.{Ran, IsSerial}
 use Rattle.em_engine.specs.declared.note.Note.{Note}
 use Rattle.em_engine.specs.Fronts.{Standing, Stands, next_of, AreNumbered}
 use Rattle.em_engine.proofs.Fronting.{no_early, whole_run}
@@ -17,12 +17,12 @@ use Rattle.em_workers.specs.declared.builder.Built.{Built}
 use Rattle.em_workers.specs.declared.no.BuildNo.{BuildNo}
 use Rattle.em_workers.specs.declared.no.BuildNo.TheVariants as no
 use Rattle.em_workers.specs.Notes.{AreNotes}
-use Rattle.em_workers.specs.Printing.{prints, Says}
+use Rattle.em_workers.specs.Printing.{Said}
 use Rattle.em_workers.specs.Lending.{Lending}
 use Rattle.em_workers.specs.Commits.{Commits}
 use Rattle.em_workers.specs.Builds.{IsOnce, Builds}
 use Rattle.em_workers.proofs.Noting.{notes_are}
-use Rattle.em_workers.proofs.Saying.{same_no}
+use Rattle.em_workers.proofs.Saying.{said_lost}
 
 -- memory ran out before the first job
 pub breaks_early : {S : Type 0} (makes : S → State → Effect → ℕ → Type 0) (ends : S → Outcome → Bool) (start : State) (specs : List S) (workers : ℕ) (x : Option Outside) (r : Result Built BuildNo)
@@ -32,7 +32,7 @@ breaks_early makes ends start specs workers x (Err s) is = subst (λ (t : BuildN
   made = [];
   ran = tt;
   built = tt;
-  printed = Tells-same (Says {A = Built} [] (Err no.NoMemory)) x (λ z. inl (front_none [] z));
+  printed = Tells-same (Said {A = Built} [] (Err no.NoMemory)) x (λ z. said_lost [] z z (makes_none z));
 })
 
 module _ {S : Type 0} (job_of : S → ℕ) (eq : S → S → Bool) (makes : S → State → Effect → ℕ → Type 0) (ends : S → Outcome → Bool) (start : State) (specs : List S) where
@@ -55,7 +55,7 @@ module _ {S : Type 0} (job_of : S → ℕ) (eq : S → S → Bool) (makes : S �
         made = c.made;
         ran = ran_in (Err e) c;
         built = tt;
-        printed = Tells-weaken x y (λ l m f. same_no A Built (prints (outputs_of c.made)) e l m f) c.printed;
+        printed = Tells-weaken x y (λ l m f. f) c.printed;
       })
 
       pub builds : (o : A) (built : Built) → AreNumbered job_of specs → Commits job_of eq makes ends notes (Ok o) begun w a b x y → next_of w ≡ None → (workers ≡ 1 → All IsOnce notes)

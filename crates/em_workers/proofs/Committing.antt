@@ -3,13 +3,11 @@
 --     commits_lost, as_err      want of memory behind them, and an error that a `?` makes anew
 --     unlent           nothing was committed
 --     fewer            with each job committed fewer are left
-use Rattle.std.proofs.Common.{◌≡◌, ◌+◌, ◌-◌, ◌<◌, ℕ, zero, suc, Bool, true, List, [], ◌∷◌, ◌++◌, length, map, drop, Option, Some, None, Result, Ok, Err, refl, sym, ap, subst, ◌∙◌, inl, append-nil, append_assoc, length-append, arith}
+use Rattle.std.proofs.Common.{◌≡◌, ◌+◌, ◌-◌, ◌<◌, ℕ, zero, suc, Bool, true, List, [], ◌∷◌, ◌++◌, length, map, drop, Option, Some, None, Result, Ok, Err, refl, sym, ap, subst, ◌∙◌, append-nil, append_assoc, length-append, arith}
 use Rattle.std.specs.Prelude.{IfOk, IfErr, IfSome, OnOk, IsErrAnd, slice_get}
 use Rattle.std.proofs.lemmas.List.{drop-drop, map-append, length-map}
-use Rattle.std.proofs.lemmas.Grind.{flat_map-append}
-use Rattle.em_host.specs.declared.call.Call.{Call}
 use Rattle.em_host.specs.Outside.{Outside, Tells}
-use Rattle.em_host.proofs.Telling.{Tells-then, Tells-weaken, Tells-same, makes_none, front_none}
+use Rattle.em_host.proofs.Telling.{Tells-then, Tells-weaken, Tells-same, makes_none}
 use Rattle.em_tree.specs.declared.outcome.Outcome.{Outcome}
 use Rattle.em_tree.specs.declared.state.State.{State}
 use Rattle.em_tree.specs.Trees.{Changes}
@@ -26,19 +24,19 @@ use Rattle.em_workers.specs.declared.no.BuildNo.{BuildNo}
 use Rattle.em_workers.specs.declared.no.BuildNo.TheVariants as no
 use Rattle.em_workers.specs.Turns.{effect_of, IsCommitted, runs_for, IsNote}
 use Rattle.em_workers.specs.Notes.{AreTurns}
-use Rattle.em_workers.specs.Printing.{print, prints, Says, faults_after}
+use Rattle.em_workers.specs.Printing.{print, Says, Said, faults_after}
 use Rattle.em_workers.specs.Lending.{Lending, Both, Lends, Stops}
 use Rattle.em_workers.specs.Commits.{rest_of, note_in, Delivers, Serves, Commits}
 use Rattle.em_workers.proofs.Noting.{turns_then}
-use Rattle.em_workers.proofs.Saying.{says_then, cut, same_no, faults_left}
+use Rattle.em_workers.proofs.Saying.{said_one, said_then, said_lost, faults_left}
 use Rattle.em_workers.proofs.Lending.{Both-then, Both-weaken, Both-same, on_ok, serves_none, serves_one, serves_lost, serves_then}
 
 state_then : (s : State) (ms os : List Made) → state_after s (ms ++ os) ≡ state_after (state_after s ms) os
 state_then s [] os = refl
 state_then s (m ∷ ms) os = state_then (after m.effect s) ms os
 
-prints_then : (ms os : List Made) → prints (outputs_of (ms ++ os)) ≡ prints (outputs_of ms) ++ prints (outputs_of os)
-prints_then ms os = ap prints (map-append (λ (m : Made). m.effect.output) ms os) ∙ flat_map-append print (outputs_of ms) (outputs_of os)
+outputs_then : (ms os : List Made) → outputs_of (ms ++ os) ≡ outputs_of ms ++ outputs_of os
+outputs_then ms os = map-append (λ (m : Made). m.effect.output) ms os
 
 drop_at : {A : Type 0} (xs : List A) (n : ℕ) (x : A) → slice_get xs n ≡ Some x → (rest : List A) × (drop n xs ≡ x ∷ rest)
 drop_at [] n x is = absurd (cc)
@@ -58,7 +56,7 @@ next_left v next is = drop_at v.specs (length v.deltas) next (next_is v next is)
 module _ {S : Type 0} (job_of : S → ℕ) (eq : S → S → Bool) (makes : S → State → Effect → ℕ → Type 0) (ends : S → Outcome → Bool) where
   module _ {A : Type 0} (v : Standing S) (a : Option (Lending S)) (x : Option Outside) where
     unlent : (r : Result A BuildNo) (b : Option (Lending S)) → OnOk r (AreTurns job_of eq v.state v.deltas (rest_of v) [] [] [])
-        → Both (Serves job_of (rest_of v) [] [] r) a b → Tells (Says [] r) x x → Commits job_of eq makes ends [] r v v a b x x
+        → Both (Serves job_of (rest_of v) [] [] r) a b → Tells (Said [] r) x x → Commits job_of eq makes ends [] r v v a b x x
     unlent r b turns served printed = record {
       made = [];
       lent = [];
@@ -75,13 +73,13 @@ module _ {S : Type 0} (job_of : S → ℕ) (eq : S → S → Bool) (makes : S �
     pub commits_none : (r : A) → Commits job_of eq makes ends [] (Ok r) v v a a x x
     commits_none r = unlent (Ok r) a tt
         (Both-same (Serves job_of (rest_of v) [] [] (Ok r)) a (λ l. serves_none job_of (rest_of v) (Ok r) l))
-        (Tells-same (Says [] (Ok r)) x (λ y. makes_none y))
+        (Tells-same (Said [] (Ok r)) x (λ y. makes_none y))
 
     -- memory ran out before anything was committed
     pub commits_not : (b : Option (Lending S)) (notes : List Note) → Both (Serves job_of {A = A} (rest_of v) [] [] (Err no.NoMemory)) a b
         → Commits job_of eq makes ends {A = A} notes (Err no.NoMemory) v v a b x x
     commits_not b notes served =
-        let c = unlent (Err no.NoMemory) b tt served (Tells-same (Says {A = A} [] (Err no.NoMemory)) x (λ y. inl (front_none [] y))) in
+        let c = unlent (Err no.NoMemory) b tt served (Tells-same (Said {A = A} [] (Err no.NoMemory)) x (λ y. said_lost [] y y (makes_none y))) in
         record { made = c.made; lent = c.lent; start = c.start; specs = c.specs; state = c.state; deltas = c.deltas; stands = c.stands; turns = tt; served = c.served; printed = c.printed }
 
   pub ok_of : {A P : Type 0} (r : Result A BuildNo) → P → OnOk r P
@@ -106,7 +104,7 @@ module _ {S : Type 0} (job_of : S → ℕ) (eq : S → S → Bool) (makes : S �
           subst (λ (js : List S). AreTurns job_of eq v.state v.deltas js (lent ∷ []) (made_of c ∷ []) (note ∷ [])) (sym (next_left v next is).1) (n, tt))
           noted;
       served = served;
-      printed = Tells-weaken x y (λ l m f. subst (λ (calls : List Call). Says calls r l m) (sym (append-nil (print c.output))) f) printed;
+      printed = Tells-weaken x y (λ l m f. said_one c.output r l m f) printed;
     }
       where
         as_run : Parts S
@@ -143,7 +141,7 @@ module _ {S : Type 0} (job_of : S → ℕ) (eq : S → S → Bool) (makes : S �
         (λ l m n f g. serves_then job_of o (rest_of u) p.lent q.lent p.made q.made r l m n f (subst (λ (js : List S). Serves job_of js q.lent q.made r m n) left g))
         p.served q.served;
     printed = Tells-then x y z
-        (λ l m n f g. subst (λ (calls : List Call). Says calls r l n) (sym (prints_then p.made q.made)) (says_then (prints (outputs_of p.made)) (prints (outputs_of q.made)) r l m n f g))
+        (λ l m n f g. subst (λ (outs : List (List ℕ)). Said outs r l n) (sym (outputs_then p.made q.made)) (said_then (outputs_of p.made) (outputs_of q.made) r l m n f g))
         p.printed q.printed;
   }
     where
@@ -163,7 +161,7 @@ module _ {S : Type 0} (job_of : S → ℕ) (eq : S → S → Bool) (makes : S �
     stands = p.stands;
     turns = tt;
     served = Both-weaken a b (λ l m f. record { lent_is = f.lent_is; left = tt; more = f.more; unsettled = f.unsettled; all = f.all; settled = f.settled; whole = tt }) p.served;
-    printed = Tells-weaken x y (λ l m f. cut A (prints (outputs_of p.made)) l m f) p.printed;
+    printed = Tells-weaken x y (λ l m f. said_lost (outputs_of p.made) l m f) p.printed;
   }
 
   pub as_err : {A B : Type 0} (e : BuildNo) (ns os : List Note) (r : Result B BuildNo) (v w : Standing S) (a b : Option (Lending S)) (x y : Option Outside) → IsErrAnd r (λ s. s ≡ e)
@@ -179,7 +177,7 @@ module _ {S : Type 0} (job_of : S → ℕ) (eq : S → S → Bool) (makes : S �
     stands = p.stands;
     turns = tt;
     served = Both-weaken a b (λ l m f. record { lent_is = f.lent_is; left = tt; more = f.more; unsettled = f.unsettled; all = f.all; settled = f.settled; whole = tt }) p.served;
-    printed = Tells-weaken x y (λ l m f. same_no A B (prints (outputs_of p.made)) e l m f) p.printed;
+    printed = Tells-weaken x y (λ l m f. f) p.printed;
   })
 
   -- with a note more a job more is committed
@@ -302,19 +300,20 @@ module _ {S : Type 0} (job_of : S → ℕ) (eq : S → S → Bool) (makes : S �
       (as_err job_of eq makes ends no.NoMemory [] ns r v v a b x x is
       (commits_not job_of eq makes ends {A = Unit {0}} v a x b [] (Both-weaken a b (λ l m f. serves_lost job_of {A = Unit {0}} (rest_of v) no.NoMemory lent l m f) lends)))
 
-  -- a turn of a loop, and its end
+  -- a stretch of jobs behind others, the end of a loop
   module _ {A B : Type 0} (o : A) (p : B) (ns : List Note) (u v w : Standing S) (a b c : Option (Lending S)) (x y z : Option Outside) where
-    pub commits_more : (n : Note) → Commits job_of eq makes ends ns (Ok o) u v a b x y → Commits job_of eq makes ends (n ∷ []) (Ok p) v w b c y z → Commits job_of eq makes ends (ns ++ n ∷ []) (Ok o) u w a c x z
-    commits_more n first next = as_ok job_of eq makes ends u w a c x z p o (ns ++ n ∷ []) (commits_then job_of eq makes ends o ns (n ∷ []) (Ok p) u v w a b c x y z first next)
+    pub commits_both : {C : Type 0} (q : C) (os : List Note) → Commits job_of eq makes ends ns (Ok o) u v a b x y → Commits job_of eq makes ends os (Ok p) v w b c y z → Commits job_of eq makes ends (ns ++ os) (Ok q) u w a c x z
+    commits_both q os first next = as_ok job_of eq makes ends u w a c x z p q (ns ++ os) (commits_then job_of eq makes ends o ns os (Ok p) u v w a b c x y z first next)
+
+    pub commits_more : (os : List Note) → Commits job_of eq makes ends ns (Ok o) u v a b x y → Commits job_of eq makes ends os (Ok p) v w b c y z → Commits job_of eq makes ends (ns ++ os) (Ok o) u w a c x z
+    commits_more os first next = commits_both o os first next
 
     pub commits_end : {C : Type 0} (q : C) → Commits job_of eq makes ends ns (Ok o) u v a b x y → Commits job_of eq makes ends [] (Ok p) v w b c y z → Commits job_of eq makes ends ns (Ok q) u w a c x z
-    commits_end q first last = as_ok job_of eq makes ends u w a c x z p q ns
-        (subst (λ (ms : List Note). Commits job_of eq makes ends ms (Ok p) u w a c x z) (append-nil ns)
-        (commits_then job_of eq makes ends o ns [] (Ok p) u v w a b c x y z first last))
+    commits_end q first last = subst (λ (ms : List Note). Commits job_of eq makes ends ms (Ok q) u w a c x z) (append-nil ns) (commits_both q [] first last)
 
-    -- memory ran out behind a turn
-    pub commits_out : {C : Type 0} (r : Result C BuildNo) (ms : List Note) (n : Note) → IsErrAnd r (λ s. s ≡ no.NoMemory) → Commits job_of eq makes ends ns (Ok o) u v a b x y
-        → Commits job_of eq makes ends (n ∷ []) (Ok p) v w b c y z → Commits job_of eq makes ends ms r u w a c x z
-    commits_out r ms n is first next =
+    -- memory ran out behind them
+    pub commits_out : {C : Type 0} (r : Result C BuildNo) (ms os : List Note) → IsErrAnd r (λ s. s ≡ no.NoMemory) → Commits job_of eq makes ends ns (Ok o) u v a b x y
+        → Commits job_of eq makes ends os (Ok p) v w b c y z → Commits job_of eq makes ends ms r u w a c x z
+    commits_out r ms os is first next =
         as_err job_of eq makes ends no.NoMemory [] ms r u w a c x z is
-        (commits_lost job_of eq makes ends {A = A} o (ns ++ n ∷ []) [] u w a c x z (commits_more n first next))
+        (commits_lost job_of eq makes ends {A = A} o (ns ++ os) [] u w a c x z (commits_more os first next))

@@ -1,32 +1,75 @@
 -- What is said, one text after another.
 --     says_then       calls that went well before others
---     cut             want of memory behind calls that went well
+--     said_one, said_then, said_lost      one output, outputs behind others, and want of memory behind some
+--     said_says       outputs that were said, as calls
 --     as_said, faults_left      an error that a `?` makes anew
 --     said_nothing, said, not_said      one text: an empty one, one that was printed, and one that failed
-use Rattle.std.proofs.Common.{◌≡◌, ℕ, Bool, true, false, cond, ◌==◌, List, [], ◌∷◌, ◌++◌, length, Option, Result, Ok, Err, refl, sym, ap, subst, ◌∙◌, inl, inr, ⊎_elim, append-nil}
+use Rattle.std.proofs.Common.{◌≡◌, ℕ, Bool, true, false, cond, ◌==◌, List, [], ◌∷◌, ◌++◌, length, Option, Result, Ok, Err, refl, sym, ap, subst, ◌∙◌, inl, inr, ⊎_elim, append-nil, append_assoc, arith}
 use Rattle.std.specs.Prelude.{IsErrAnd}
+use Rattle.std.proofs.lemmas.Grind.{flat_map-append}
 use Rattle.em_host.specs.declared.call.Call.{Call}
 use Rattle.em_host.specs.declared.call.Call.TheVariants.{Print}
 use Rattle.em_host.specs.declared.no.HostNo.{HostNo}
 use Rattle.em_host.specs.declared.no.HostNo.TheVariants as host_no
 use Rattle.em_host.specs.Outside.{Outside, Tells, Prints}
 use Rattle.em_host.specs.Calls.{Makes, FailsIn}
-use Rattle.em_host.proofs.Telling.{Tells-weaken, Tells-same, makes_none, makes_then, front_then, fails_then, print_went}
+use Rattle.em_host.proofs.Telling.{Tells-weaken, Tells-same, makes_none, makes_then, front_none, front_then, fails_then, print_went}
 use Rattle.em_workers.specs.declared.no.BuildNo.{BuildNo}
 use Rattle.em_workers.specs.declared.no.BuildNo.TheVariants as no
-use Rattle.em_workers.specs.Printing.{print, Says, faults_after, build_no}
+use Rattle.em_workers.specs.Printing.{print, prints, Says, BrokeOff, Said, faults_after, build_no}
 
 pub says_then : {A : Type 0} (a b : List Call) (r : Result A BuildNo) (x y z : Outside) → Makes a x y → Says b r y z → Says (a ++ b) r x z
 says_then a b (Ok u) x y z p q = makes_then a b x y z p q
 says_then a b (Err no.Host) x y z p q = fails_then true a b x y z p q
 says_then a b (Err no.NoMemory) x y z p q = ⊎_elim (λ f. inl (front_then a b x y z p f)) (λ f. inr (f.0, fails_then f.0 a b x y z p f.1)) q
 
-pub cut : (A : Type 0) (calls : List Call) (x y : Outside) → Makes calls x y → Says {A = A} calls (Err no.NoMemory) x y
-cut A calls x y p = inl (record { made = calls; left = []; all = sym (append-nil calls); done = p })
-
 pub same_no : (A B : Type 0) (calls : List Call) (e : BuildNo) (x y : Outside) → Says {A = A} calls (Err e) x y → Says {A = B} calls (Err e) x y
 same_no A B calls no.Host x y p = p
 same_no A B calls no.NoMemory x y p = p
+
+prints_then : (a b : List (List ℕ)) → prints (a ++ b) ≡ prints a ++ prints b
+prints_then a b = flat_map-append print a b
+
+pub said_lost : (outs : List (List ℕ)) (x y : Outside) → Makes (prints outs) x y → BrokeOff outs no.NoMemory x y
+said_lost outs x y p = record {
+  front = outs;
+  last = [];
+  all = sym (append-nil outs);
+  few = omega arith;
+  between = y;
+  whole = p;
+  rest = inl (front_none [] y);
+}
+
+pub said_one : {A : Type 0} (text : List ℕ) (r : Result A BuildNo) (x y : Outside) → Says (print text) r x y → Said (text ∷ []) r x y
+said_one text (Ok a) x y p = subst (λ (calls : List Call). Makes calls x y) (sym (append-nil (print text))) p
+said_one {A} text (Err e) x y p = record {
+  front = [];
+  last = text ∷ [];
+  all = refl;
+  few = omega arith;
+  between = x;
+  whole = makes_none x;
+  rest = subst (λ (calls : List Call). Says {A = Unit {0}} calls (Err e) x y) (sym (append-nil (print text))) (same_no A (Unit {0}) (print text) e x y p);
+}
+
+pub said_then : {A : Type 0} (a b : List (List ℕ)) (r : Result A BuildNo) (x y z : Outside) → Makes (prints a) x y → Said b r y z → Said (a ++ b) r x z
+said_then a b (Ok u) x y z p q = subst (λ (calls : List Call). Makes calls x z) (sym (prints_then a b)) (makes_then (prints a) (prints b) x y z p q)
+said_then a b (Err e) x y z p q = record {
+  front = a ++ q.front;
+  last = q.last;
+  all = ap (λ (l : List (List ℕ)). a ++ l) q.all ∙ sym (append_assoc a q.front q.last);
+  few = q.few;
+  between = q.between;
+  whole = subst (λ (calls : List Call). Makes calls x q.between) (sym (prints_then a q.front)) (makes_then (prints a) (prints q.front) x y q.between p q.whole);
+  rest = q.rest;
+}
+
+pub said_says : {A : Type 0} (outs : List (List ℕ)) (r : Result A BuildNo) (x y : Outside) → Said outs r x y → Says (prints outs) r x y
+said_says outs (Ok a) x y p = p
+said_says {A} outs (Err e) x y p =
+    subst (λ (calls : List Call). Says {A = A} calls (Err e) x y) (sym (ap prints p.all ∙ prints_then p.front p.last))
+    (says_then {A = A} (prints p.front) (prints p.last) (Err e) x p.between y p.whole (same_no (Unit {0}) A (prints p.last) e p.between y p.rest))
 
 module _ (text : List ℕ) where
   alone : (length text == 0) ≡ false → print text ≡ Print text ∷ []

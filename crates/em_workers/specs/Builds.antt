@@ -11,7 +11,7 @@ use Rattle.em_engine.specs.declared.note.Note.{Note}
 use Rattle.em_workers.specs.declared.no.BuildNo.{BuildNo}
 use Rattle.em_workers.specs.declared.builder.Built.{Built}
 use Rattle.em_workers.specs.Notes.{AreNotes}
-use Rattle.em_workers.specs.Printing.{prints, Says}
+use Rattle.em_workers.specs.Printing.{Said}
 
 -- the job was run once
 abbrev pub IsOnce : Note → Type 0
@@ -30,4 +30,4 @@ module _ {S : Type 0} (makes : S → State → Effect → ℕ → Type 0) (ends 
     pub made : List Made
     pub ran : Ran makes ends start specs made
     pub built : IfOk result (IsBuilt start specs workers made)
-    pub printed : Tells (Says (prints (outputs_of made)) result) before after
+    pub printed : Tells (Said (outputs_of made) result) before after

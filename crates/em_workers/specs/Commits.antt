@@ -16,7 +16,7 @@ use Rattle.em_engine.specs.Fronts.{Standing, Stands}
 use Rattle.em_workers.specs.declared.no.BuildNo.{BuildNo}
 use Rattle.em_workers.specs.declared.settled.Settled.{Settled}
 use Rattle.em_workers.specs.Notes.{AreTurns}
-use Rattle.em_workers.specs.Printing.{prints, Says}
+use Rattle.em_workers.specs.Printing.{Said}
 use Rattle.em_workers.specs.Lending.{Lending, Both}
 
 abbrev pub given : {A : Type 0} → ℕ → List (Option A) → List (Option A)
@@ -75,5 +75,5 @@ module _ {S : Type 0} (job_of : S → ℕ) (eq : S → S → Bool) (makes : S �
     -- each note is that of what was lent
     pub turns : OnOk end (AreTurns job_of eq v.state v.deltas (rest_of v) lent made notes)
     pub served : Both (Serves job_of (rest_of v) lent made end) a b
-    -- on Ok each output was printed, in order, else a front of them
-    pub printed : Tells (Says (prints (outputs_of made)) end) x y
+    -- on Ok each output was printed, in order, else all of them but that of the last job, of which some was said
+    pub printed : Tells (Said (outputs_of made) end) x y

@@ -1,25 +1,21 @@
 //! The build.
-ghost use Rattle.std.specs.Prelude.{◌≡◌, ◌<◌, ◌≤◌, ◌^◌, ℕ, [], None, All, OnOk, length, slice_index_or};
-ghost use Rattle.std.specs.Thread.{IsSync};
-ghost use Rattle.em_engine.specs.Fronts.{AreNumbered, next_of};
+ghost use Rattle.std.specs.Prelude.{◌≡◌, ◌<◌, ◌≤◌, ◌^◌, ℕ, [], All, length, slice_index_or};
+ghost use Rattle.em_engine.specs.Fronts.{AreNumbered};
 ghost use Rattle.em_workers.specs.Builds.{Builds};
-ghost use Rattle.em_workers.specs.Commits.{Commits, notes_in};
 ghost use Rattle.em_workers.specs.Printing.{faults_after};
 
-use crate::commit::{commit_all, rerun_each};
+use crate::commit::rerun_each;
 use crate::gate::Gate;
-use crate::lender::SharedLender;
 use crate::no::BuildNo;
-use crate::worker::work;
+use crate::phases::commit_in_phases;
 use em_base::{NoMemory, Seq};
-use em_engine::{Board, Front, Note};
+use em_engine::{Front, Note};
 use em_host::Host;
 use em_run::{Spec, Work};
-use em_shared::Shared;
 use em_tree::State;
 use std::alloc::Global;
 use std::sync::Wait;
-use std::thread::{Threads, join, join_mut};
+use std::thread::Threads;
 
 /// What a build comes to.
 #[derive(Drop)]
@@ -30,97 +26,6 @@ pub struct Built {
     pub notes: Seq<Note>,
     /// The fuel of each job that was run, in order.
     pub fuel: Seq<u64>,
-}
-
-/// The committer beside workers.
-fn commit_beside<R: Wait, S: Spec, W: Work<S>, G: Gate, H: Host>(
-    rt: &R,
-    alloc: Global,
-    shared: &Shared<S>,
-    front: &mut Front<S>,
-    w: &W,
-    gate: &G,
-    host: &mut H,
-) -> Result<Seq<Note>, BuildNo>
-    ensures commits { Commits S.job_of S.eq S.makes S.ends_after
-        (notes_in result) result front.old front.new
-        None None (H.told host.old) (H.told host.new) }
-    ensures last { OnOk result (next_of front.new ≡ None) }
-    ensures faults { H.faults host.new ≡ faults_after result (H.faults host.old) }
-{
-    let mut lender = SharedLender::new(rt, shared);
-    commit_all(alloc, &mut lender, front, w, gate, host)
-}
-
-/// So many workers beside one another, with the numbers from `first` on.
-fn crew<R: Threads + Wait + Sync, S: Spec + Send + Sync, W: Work<S> + Sync, G: Gate + Sync>(
-    rt: &R,
-    alloc: Global,
-    shared: &Shared<S>,
-    specs: &[S],
-    first: u32,
-    count: u32,
-    w: &W,
-    gate: &G,
-) {
-    if count == 0 {
-        return;
-    }
-    if count == 1 {
-        work(rt, alloc, shared, specs, first, w, gate);
-        return;
-    }
-    let half = count / 2;
-    let rest = count - half;
-    let middle = first.saturating_add(half);
-    join(
-        rt,
-        ||
-            requires { IsSync R.row }
-        { crew(rt, alloc, shared, specs, first, half, w, gate) },
-        ||
-            requires { IsSync R.row }
-        { crew(rt, alloc, shared, specs, middle, rest, w, gate) },
-    );
-}
-
-/// The committer, with so many workers beside it.
-fn commit_with<
-    R: Threads + Wait + Sync,
-    S: Spec + Send + Sync,
-    W: Work<S> + Sync,
-    G: Gate + Sync,
-    H: Host,
->(
-    rt: &R,
-    alloc: Global,
-    shared: &Shared<S>,
-    specs: &[S],
-    count: u32,
-    front: &mut Front<S>,
-    w: &W,
-    gate: &G,
-    host: &mut H,
-) -> Result<Seq<Note>, BuildNo>
-    ensures commits { Commits S.job_of S.eq S.makes S.ends_after
-        (notes_in result) result front.old front.new
-        None None (H.told host.old) (H.told host.new) }
-    ensures last { OnOk result (next_of front.new ≡ None) }
-    ensures faults { H.faults host.new ≡ faults_after result (H.faults host.old) }
-{
-    let (_, notes) = join_mut(
-        rt,
-        &mut || crew(rt, alloc, shared, specs, 1, count, w, gate),
-        &mut || -> Result<Seq<Note>, BuildNo>
-            ensures commits { Commits S.job_of S.eq S.makes S.ends_after (notes_in result) result
-                front.entry.now front.exit.now None None (H.told host.entry.now)
-                (H.told host.exit.now) }
-            ensures last { OnOk result (next_of front.exit.now ≡ None) }
-            ensures faults { H.faults host.exit.now
-                ≡ faults_after result (H.faults host.entry.now) }
-        { commit_beside(rt, alloc, shared, front, w, gate, host) },
-    );
-    notes
 }
 
 /// Copies of the specs, for the workers.
@@ -184,14 +89,12 @@ fn build_beside<
     ensures faults { H.faults host.new ≡ faults_after result (H.faults host.old) }
 {
     let theirs = copies(alloc, specs.items())?;
-    let begun = start.copy(alloc)?;
-    let shared = Shared::new(Board::new(alloc, begun, waits)?);
     let mut front = Front::new(alloc, start, specs)?;
-    let notes = commit_with(
+    let notes = commit_in_phases(
         rt,
         alloc,
-        &shared,
         theirs.as_slice(),
+        waits.items(),
         workers - 1,
         &mut front,
         w,
@@ -209,11 +112,17 @@ fn build_beside<
 /// notes tell of each job in how many runs it came to be committed, and why in two; with one worker
 /// each is run once.
 ///
-/// An error comes only where a call on the host failed, or memory ran out; a front of the outputs
-/// was printed then.
+/// An error comes only where a call on the host failed, or memory ran out; then the outputs of the
+/// jobs that were committed were printed, but perhaps not all of the last one's.
+///
+/// More workers begin beside the committer. It goes on alone where the jobs that were committed took
+/// little fuel, and has workers begin again where jobs get long: so short jobs take no longer than
+/// with one worker. While a worker has the next job, and all others are busy, the committer runs
+/// another job.
 ///
 /// Besides the runs it takes steps for each job and each of its waits, a search for each change,
-/// and with more than one worker for each question as the board's versions take.
+/// and with more than one worker for each question as the board's versions take, and nine times at
+/// most steps for each job, wait and node of the tree.
 pub fn build<
     R: Threads + Wait + Sync,
     S: Spec + Send + Sync,

@@ -11,6 +11,7 @@ use crate::gate::Gate;
 use crate::lender::Lender;
 use crate::next::{Committed, rerun, turn};
 use crate::no::BuildNo;
+use crate::pace::Pace;
 use crate::printing::print;
 use em_base::{NoMemory, Seq};
 use em_engine::{Front, Note};
@@ -63,7 +64,7 @@ fn noted(delivered: Result<(), BuildNo>, note: Note) -> Result<Option<Note>, Bui
 }
 
 /// One note more.
-fn pushed(notes: Seq<Note>, note: Note) -> Result<Seq<Note>, NoMemory>
+pub(crate) fn pushed(notes: Seq<Note>, note: Note) -> Result<Seq<Note>, NoMemory>
     ensures { IfOk result (λ all. all ≡ notes ++ note ∷ []) }
 {
     let mut all = notes;
@@ -74,14 +75,15 @@ fn pushed(notes: Seq<Note>, note: Note) -> Result<Seq<Note>, NoMemory>
 }
 
 /// Commits the next job and tells how: what is lent of it, or else a run on the front's own state.
-/// None where there is no next job.
-fn commit_next<S: Spec, L: Lender<S>, W: Work<S>, G: Gate, H: Host>(
+/// Its fuel goes into the pace. None where there is no next job.
+pub(crate) fn commit_next<S: Spec, L: Lender<S>, W: Work<S>, G: Gate, H: Host>(
     alloc: Global,
     lender: &mut L,
     front: &mut Front<S>,
     w: &W,
     gate: &G,
     host: &mut H,
+    pace: &mut Pace,
 ) -> Result<Option<Note>, BuildNo>
     ensures commits { Commits S.job_of S.eq S.makes S.ends_after
         (note_in result) result front.old front.new
@@ -95,6 +97,7 @@ fn commit_next<S: Spec, L: Lender<S>, W: Work<S>, G: Gate, H: Host>(
     let job = next.job();
     let lent = lender.lend(job);
     let (committed, note) = turn(alloc, front, lent, w, gate)?;
+    pace.note(committed.fuel);
     let delivered = deliver(lender, job, committed, host);
     noted(delivered, note)
 }
@@ -115,7 +118,8 @@ fn commit_each<S: Spec, L: Lender<S>, W: Work<S>, G: Gate, H: Host>(
     ensures faults { H.faults host.new ≡ faults_after result (H.faults host.old) }
 {
     let mut notes = Seq::new(alloc);
-    while let Some(note) = commit_next(alloc, lender, front, w, gate, host)? {
+    let mut pace = Pace::new(0);
+    while let Some(note) = commit_next(alloc, lender, front, w, gate, host, &mut pace)? {
         notes = pushed(notes, note)?;
     }
     Ok(notes)
@@ -147,13 +151,15 @@ pub fn commit_all<S: Spec, L: Lender<S>, W: Work<S>, G: Gate, H: Host>(
     notes
 }
 
-/// Runs the next job, commits it and says what it said. None where there is no next job.
-fn rerun_next<S: Spec, W: Work<S>, G: Gate, H: Host>(
+/// Runs the next job, commits it and says what it said. Its fuel goes into the pace. None where
+/// there is no next job.
+pub(crate) fn rerun_next<S: Spec, W: Work<S>, G: Gate, H: Host>(
     alloc: Global,
     front: &mut Front<S>,
     w: &W,
     gate: &G,
     host: &mut H,
+    pace: &mut Pace,
 ) -> Result<Option<Note>, BuildNo>
     ensures commits { Commits S.job_of S.eq S.makes S.ends_after
         (note_in result) result front.old front.new
@@ -167,6 +173,7 @@ fn rerun_next<S: Spec, W: Work<S>, G: Gate, H: Host>(
     };
     let job = next.job();
     let committed = rerun(alloc, front, w, gate)?;
+    pace.note(committed.fuel);
     print(host, committed.output.bytes())?;
     Ok(Some(Note {
         job,
@@ -192,7 +199,8 @@ pub(crate) fn rerun_each<S: Spec, W: Work<S>, G: Gate, H: Host>(
     ensures faults { H.faults host.new ≡ faults_after result (H.faults host.old) }
 {
     let mut notes = Seq::new(alloc);
-    while let Some(note) = rerun_next(alloc, front, w, gate, host)? {
+    let mut pace = Pace::new(0);
+    while let Some(note) = rerun_next(alloc, front, w, gate, host, &mut pace)? {
         notes = pushed(notes, note)?;
     }
     Ok(notes)

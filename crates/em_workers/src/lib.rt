@@ -4,11 +4,15 @@
 
 mod builder;
 mod commit;
+mod counted;
 mod gate;
+mod helping;
 mod laws;
 mod lender;
 mod next;
 mod no;
+mod pace;
+mod phases;
 mod printing;
 mod settled;
 mod worker;

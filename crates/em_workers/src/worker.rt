@@ -1,10 +1,13 @@
 //! The workers.
+ghost use Rattle.std.specs.Thread.{IsSync};
+
 use crate::gate::{Gate, GatedView};
 use em_engine::Claim;
 use em_run::{Run, Spec, Work};
 use em_shared::{Held, Shared, SharedView};
 use std::alloc::Global;
 use std::sync::Wait;
+use std::thread::{Threads, join};
 
 /// Publishes a run, and gives its job up where that wants memory.
 fn publish<R: Wait, S: Spec>(rt: &R, shared: &Shared<S>, job: u32, run: Run<S>) {
@@ -17,7 +20,7 @@ fn publish<R: Wait, S: Spec>(rt: &R, shared: &Shared<S>, job: u32, run: Run<S>) 
 
 /// Runs a claimed job over the board's answers and publishes the run. Where the run or its
 /// publication wants memory it gives the job up.
-fn run_claimed<R: Wait, S: Spec, W: Work<S>, G: Gate>(
+pub(crate) fn run_claimed<R: Wait, S: Spec, W: Work<S>, G: Gate>(
     rt: &R,
     alloc: Global,
     shared: &Shared<S>,
@@ -56,4 +59,32 @@ pub fn work<R: Wait, S: Spec, W: Work<S>, G: Gate>(
         };
         run_claimed(rt, alloc, shared, spec, job, worker, w, gate);
     }
+}
+
+/// So many workers beside one another, with the numbers from `first` on.
+pub(crate) fn crew<
+    R: Threads + Wait + Sync,
+    S: Spec + Send + Sync,
+    W: Work<S> + Sync,
+    G: Gate + Sync,
+>(rt: &R, alloc: Global, shared: &Shared<S>, specs: &[S], first: u32, count: u32, w: &W, gate: &G) {
+    if count == 0 {
+        return;
+    }
+    if count == 1 {
+        work(rt, alloc, shared, specs, first, w, gate);
+        return;
+    }
+    let half = count / 2;
+    let rest = count - half;
+    let middle = first.saturating_add(half);
+    join(
+        rt,
+        ||
+            requires { IsSync R.row }
+        { crew(rt, alloc, shared, specs, first, half, w, gate) },
+        ||
+            requires { IsSync R.row }
+        { crew(rt, alloc, shared, specs, middle, rest, w, gate) },
+    );
 }

@@ -6,7 +6,7 @@ use Rattle.em_insight.specs.Chains.{Certifies, IsNamed}
 use Rattle.em_insight.specs.Links.{IsLead, IsWalk, Linked}
 use Rattle.em_insight.proofs.Linking.{before_below, sound}
 use Rattle.em_insight.proofs.Walking.{certified, named}
-use Rattle.em_insight.proofs.Finding.{path_is}
+use Rattle.em_insight.proofs.Finding.{path_is, path_weighs}
 use Rattle.em_insight.proofs.heaviest.longest.Goals as goal
 
 -- all that the parts found, of the report's lines
@@ -57,3 +57,7 @@ returns-clause-named c =
 pub returns-clause-path : goal.returns-clause-path
 returns-clause-path c =
     path_is c.args.report.now.lines (record { jobs = c.from_vec.result; fuel = c.last_of-last.result.weight; ends = c.from_vec-2.result }) (returns-clause-certified c) (returns-clause-named c)
+
+pub returns-clause-fuel : goal.returns-clause-fuel
+returns-clause-fuel c =
+    path_weighs c.args.report.now.lines (record { jobs = c.from_vec.result; fuel = c.last_of-last.result.weight; ends = c.from_vec-2.result }) (returns-clause-certified c) (returns-clause-named c)

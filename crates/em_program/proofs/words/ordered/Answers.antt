@@ -1,5 +1,8 @@
-use Rattle.em_program.proofs.Following.{finish}
+use Rattle.std.proofs.Common.{sym, ◌∙◌}
 use Rattle.em_program.proofs.words.ordered.Goals as goal
 
-pub returns-in_ok-aimed-in-Ok-clause-told : goal.returns-in_ok-aimed-in-Ok-clause-told
-returns-in_ok-aimed-in-Ok-clause-told g c = rw (c.in-Ok.ensures.ok.0, c.in_ok-aimed-in-Ok.ensures.aimed, c.in-Ok.ensures.ok.1) finish
+pub returns-in-Some-clause-told : goal.returns-in-Some-clause-told
+returns-in-Some-clause-told g c = rw (sym c.page_in.ensures ∙ c.in-Some.is) (rw c.text.ensures at c.stop.ensures.told)
+
+pub returns-in-None-clause-told : goal.returns-in-None-clause-told
+returns-in-None-clause-told g c = rw (sym c.page_in.ensures ∙ c.in-None.is) c.read.ensures.told

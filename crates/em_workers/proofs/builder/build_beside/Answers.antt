@@ -6,12 +6,6 @@ use Rattle.em_workers.proofs.builder.build_beside.Goals as goal
 pub returns-in_err-theirs-clause-builds : goal.returns-in_err-theirs-clause-builds
 returns-in_err-theirs-clause-builds g c = breaks_early _ _ _ _ _ _ _ c.from_residual.ensures.1
 
-pub returns-in_err-begun-clause-builds : goal.returns-in_err-begun-clause-builds
-returns-in_err-begun-clause-builds g c = breaks_early _ _ _ _ _ _ _ c.from_residual-in_err-begun.ensures.1
-
-pub returns-in_err-new-clause-builds : goal.returns-in_err-new-clause-builds
-returns-in_err-new-clause-builds g c = breaks_early _ _ _ _ _ _ _ c.from_residual-in_err-new.ensures.1
-
 pub returns-in_err-front-clause-builds : goal.returns-in_err-front-clause-builds
 returns-in_err-front-clause-builds g c = breaks_early _ _ _ _ _ _ _ c.from_residual-in_err-front.ensures.1
 

@@ -1,4 +1,4 @@
-use Rattle.em_workers.proofs.builder.+crew+fn-crew-join+arg2+fn-crew-join+arg3.Given as goal
+use Rattle.em_workers.proofs.worker.+crew+fn-crew-join+arg2+fn-crew-join+arg3.Given as goal
 
 abbrev pub decreases-crew : goal.decreases-crew
 decreases-crew g l = l.count
