@@ -1,7 +1,7 @@
 //! Gates that hold threads.
 use em_workers::Gate;
 use std::alloc::{AllocError, Global};
-use std::sync::atomic::{AtomicBool, AtomicU32, Ordering};
+use std::sync::atomic::{AtomicBool, Ordering};
 use std::thread::yield_now;
 
 /// How often a thread looks for what another one is to do.
@@ -144,68 +144,6 @@ impl<'a> Gate for Late<'a> {
     fn before(&self, _worker: u32, job: u32, step: u32) {
         if job == 1 && step == 0 && !is_raised(self.flag) {
             self.missed.store(true, Ordering::SeqCst);
-        }
-    }
-}
-
-/// Watches which jobs workers run in a build of the mixed jobs, by how many jobs were printed so
-/// far. Holds the asks of the committer behind the jobs with which workers are begun again until a
-/// worker asks.
-#[derive(Drop)]
-pub(super) struct Watch<'a> {
-    prints: &'a AtomicU32,
-    /// Whether a worker asked where workers had been begun again.
-    again: AtomicBool,
-    /// Whether a worker asked where the committer was alone.
-    strayed: AtomicBool,
-    /// Whether the committer was held in vain.
-    missed: AtomicBool,
-}
-
-impl<'a> Watch<'a> {
-    pub(super) fn new(prints: &'a AtomicU32) -> Watch<'a> {
-        Watch {
-            prints,
-            again: AtomicBool::new(false),
-            strayed: AtomicBool::new(false),
-            missed: AtomicBool::new(false),
-        }
-    }
-
-    /// What it saw of the workers.
-    pub(super) fn seen(&self) -> &'static str {
-        if self.strayed.load(Ordering::SeqCst) {
-            return "strayed";
-        }
-        if self.missed.load(Ordering::SeqCst) || !self.again.load(Ordering::SeqCst) {
-            return "not begun again";
-        }
-        "begun again"
-    }
-
-    fn hold(&self) {
-        if !self.missed.load(Ordering::SeqCst) && !is_raised(&self.again) {
-            self.missed.store(true, Ordering::SeqCst);
-        }
-    }
-
-    /// A worker asks where so many jobs were printed.
-    fn mark(&self, prints: u32) {
-        match prints {
-            17..=29 | 80.. => self.strayed.store(true, Ordering::SeqCst),
-            30..=78 => self.again.store(true, Ordering::SeqCst),
-            _ => {}
-        }
-    }
-}
-
-impl<'a> Gate for Watch<'a> {
-    fn before(&self, worker: u32, _job: u32, _step: u32) {
-        let prints = self.prints.load(Ordering::SeqCst);
-        if worker > 0 {
-            self.mark(prints);
-        } else if prints > 40 {
-            self.hold();
         }
     }
 }

@@ -1,7 +1,7 @@
-//! Hosts that tell when something is printed.
+//! A host that tells when something is printed.
 use em_host::{Host, HostNo};
 use std::alloc::Global;
-use std::sync::atomic::{AtomicBool, AtomicU32, Ordering};
+use std::sync::atomic::{AtomicBool, Ordering};
 
 /// Raises a flag when something is printed, and keeps nothing.
 #[derive(Drop)]
@@ -26,33 +26,6 @@ impl<'a> Host for Bell<'a> {
 
     fn print(&mut self, _bytes: &[u8]) -> Result<(), HostNo> {
         self.rung.store(true, Ordering::SeqCst);
-        Ok(())
-    }
-}
-
-/// Counts how often something is printed, and keeps nothing.
-#[derive(Drop)]
-pub(super) struct Tally<'a> {
-    pub(super) prints: &'a AtomicU32,
-}
-
-impl<'a> Host for Tally<'a> {
-    ghost use Rattle.std.specs.Prelude.{None};
-
-    ghost told = { λ _. None };
-
-    ghost faults = { λ _. 0 };
-
-    fn take(&mut self, _alloc: Global, _name: &[u8]) -> Result<Option<Vec<u8>>, HostNo> {
-        Ok(None)
-    }
-
-    fn replace(&mut self, _alloc: Global, _name: &[u8], _bytes: &[u8]) -> Result<(), HostNo> {
-        Ok(())
-    }
-
-    fn print(&mut self, _bytes: &[u8]) -> Result<(), HostNo> {
-        self.prints.fetch_add(1, Ordering::SeqCst);
         Ok(())
     }
 }

@@ -8,10 +8,6 @@ mod gates;
 #[cfg(test)]
 mod hosts;
 #[cfg(test)]
-mod phases;
-#[cfg(test)]
 mod shows;
-#[cfg(test)]
-mod slow;
 #[cfg(test)]
 mod waking;
