@@ -101,9 +101,9 @@ fn order(alloc: Global, found: &ArgMatches<'_>) -> Result<Order, NoMemory>
 
 /// Reads the words after the program's name. Each option may stand once, before or after the other
 /// words; `--` ends the options. Of the other words those with `=` are assignments, which are split
-/// at their first `=` and never expanded, and the rest are goals. An order has an image, the size of
-/// a project or a report to explain, one of them alone; image, history and report differ. The error
-/// is the first of `WordNo` that applies, or `NoMemory`.
+/// at their first `=` and never expanded, and the rest are goals. An order has an image, the size
+/// of a project or a report to explain, one of them alone; image, history and report differ. The
+/// error is the first of `WordNo` that applies, or `NoMemory`.
 #[tactic(auto, unfolding(crate::specs::Words::refusal, crate::specs::Words::order_of))]
 pub fn read_words(alloc: Global, words: &[Text]) -> Result<Order, WordNo>
     ensures ok { IfOk result (λ o. (refusal words.now ≡ None) × (o ≡ order_of words.now)) }

@@ -9,7 +9,8 @@ use std::io::{Read, Write};
 /// How many reads, or writes, one call makes at most. One that needs more fails.
 const MOST_TURNS: u64 = 4_294_967_296;
 
-/// How many bytes are read of a file at most: one more than the longest text that any reader takes.
+/// How many bytes are read of a file at most: one more than the longest image. What is longer, as a
+/// report can be, is cut there.
 pub(crate) const MOST_BYTES: usize = 67_108_865;
 
 /// How many bytes one read asks for.

@@ -24,8 +24,9 @@ use std::rt::{Clock, Files};
 ///
 /// A file is replaced by a new file in the same folder that is brought to the disk and then renamed
 /// over it, so the old one stands whole until the new one does. Then the system is told to bring
-/// the folder to the disk too, so that after Ok a crash leaves the new one. The new file has the
-/// permissions of the old one, or those that the system gives to new files.
+/// the folder to the disk too, so that after Ok a crash leaves the new one; where the system can't
+/// do that for a folder, it may leave the old one. The new file has the permissions of the old one,
+/// or those that the system gives to new files.
 ///
 /// A file isn't replaced that was first taken or replaced under another name, nor one that changed
 /// since it was last taken or replaced. That is looked at while the folder is locked, so of several

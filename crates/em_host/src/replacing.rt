@@ -35,7 +35,8 @@ fn regular(found: Metadata) -> Result<Metadata, Stop> {
 /// The bytes of a regular file, no more than `MOST_BYTES`, or None where the system says that there
 /// is no such file.
 ///
-/// What is no regular file is never opened, since that could wait, as for a FIFO's other end.
+/// What is seen to be no regular file isn't opened, since that could wait, as for a FIFO's other
+/// end; a FIFO that takes the file's place between the look and the opening may still wait.
 pub(crate) fn take_file<R: Files>(
     rt: &R,
     alloc: Global,

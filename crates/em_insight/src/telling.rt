@@ -35,9 +35,9 @@ fn targets(alloc: Global, lines: &[ReportLine], jobs: &[u32]) -> Result<Text, No
 }
 
 /// What a report tells of the build's speed, in three lines: the critical path with its units and
-/// the targets of its jobs, the units of all jobs, and the span of the schedule that list scheduling
-/// gives so many agents. The errors are those of `InsightNo`. Takes what `longest` and `schedule`
-/// do.
+/// the targets of its jobs, the units of all jobs, and the span of the schedule that list
+/// scheduling gives so many agents. The errors are those of `InsightNo`. Takes what `longest` and
+/// `schedule` do.
 pub fn explanation(alloc: Global, report: &Report, agents: u32) -> Result<Text, InsightNo>
     requires some { 1 ≤ agents }
     requires few { agents ≤ 64 }

@@ -116,8 +116,8 @@ fn recalled<H: Host>(alloc: Global, order: &Order, host: &mut H) -> Result<Histo
     }
 }
 
-/// Where the words order to build; a page and an explanation end the run before. Linear in the image
-/// and in the history.
+/// Where the words order to build; a page and an explanation end the run before. Linear in the
+/// image and in the history.
 pub fn site_of<H: Host>(alloc: Global, words: &[Text], host: &mut H) -> Result<Site, Stop>
     ensures told { Follows (projects.site words.now) result (H.told host.old) (H.told host.new) }
     ensures faults { H.faults host.new ≡ faults_after result (H.faults host.old) }

@@ -5,7 +5,7 @@ ghost use Rattle.em_program.specs.Closing.{code_of};
 /// How a build ended that neither the host nor want of memory broke off.
 #[derive(Clone, Copy, Debug, PartialEq, Eq)]
 pub enum Verdict {
-    /// The goals are made.
+    /// The goals are made, or what the words asked for was printed.
     Done,
     /// It was only asked (`-q`), and something is to be made.
     Outdated,

@@ -115,9 +115,9 @@ fn build_beside<
 /// An error comes only where a call on the host failed, or memory ran out; then the outputs of the
 /// jobs that were committed were printed, but perhaps not all of the last one's.
 ///
-/// More workers begin beside the committer. It goes on alone where the jobs that were committed took
-/// little fuel, and has workers begin again where jobs get long: so short jobs take no longer than
-/// with one worker. While a worker has the next job, and all others are busy, the committer runs
+/// More workers begin beside the committer. It goes on alone where the jobs that were committed
+/// took little fuel, since such jobs gain nothing from workers, and has workers begin again where
+/// jobs get long. While a worker has the next job, and all others are busy, the committer runs
 /// another job.
 ///
 /// Besides the runs it takes steps for each job and each of its waits, a search for each change,
