@@ -10,7 +10,7 @@
 --                           the outcomes alone; the posts of the others are those of ps
 --     IsRaised v f w        w is v with its floor at f
 --     IsAt b f v            v is what b has posted, with its floor at f
-use Rattle.std.specs.Prelude.{◌≡◌, ◌+◌, ℕ, Bool, not, List, [], ◌∷◌, Option, Some, None, map, option_map, nat_lt, if◌then◌else◌}
+use Rattle.std.specs.Prelude.{◌≡◌, ◌+◌, ℕ, Bool, not, List, Option, map, option_map, nat_lt, if◌then◌else◌}
 use Rattle.std.specs.List.{cons_option, sum_by}
 use Rattle.std.specs.FinMap.{get, entries, empty, len, retain_keys}
 use Rattle.em_tree.specs.declared.node.Node.{Node}

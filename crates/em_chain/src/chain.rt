@@ -116,6 +116,7 @@ impl Chain {
         ensures at { IsOpen job self.now result.at result.at }
         ensures before { result.before ≡ job_before self.now result.at }
         ensures on { steps.old ≤ steps.new }
+        ensures some { low < high → counted steps.old ≤ steps.new }
         ensures few { 2 ^ (steps.new - steps.old) ≤ max 1 (2 * (high - low)) }
     {
         let _held = &self.held;
@@ -152,6 +153,7 @@ impl Chain {
     pub(crate) fn last(&self, job: u32, steps: &mut Steps) -> Option<(u32, &Option<Node>)>
         ensures last { option_map (λ e. (e.0, e.1.now)) result ≡ last_below job self.now }
         ensures on { steps.old ≤ steps.new }
+        ensures some { 0 < length self.now → counted steps.old ≤ steps.new }
         ensures few { 2 ^ (steps.new - steps.old) ≤ 2 * length self.now + 1 }
     {
         let spot = self.search(job, 0, self.held.len(), None, steps);

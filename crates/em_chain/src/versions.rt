@@ -7,7 +7,7 @@ ghost use Rattle.std.specs.List.{AllByRecursion};
 ghost use Rattle.em_path.specs.Paths.{parent_text};
 ghost use Rattle.em_tree.specs.Names.{IsNameList, names_of};
 ghost use Rattle.em_tree.specs.Trees.{Table, kind_of, stamp_of, content_of};
-ghost use Rattle.em_chain.specs.Chains.{last_below};
+ghost use Rattle.em_chain.specs.Chains.{counted, last_below};
 ghost use Rattle.em_chain.specs.Floors.{chain_over, change_over, last_over, table_over, outcome_over, looked_over, entries_of, IsRaised};
 ghost use Rattle.em_chain.specs.Listing.{IsListing, changed_at};
 
@@ -165,12 +165,14 @@ impl Versions {
     }
 
     /// The greatest job below the given one whose post named the path, of those that are merged the
-    /// one that the path keeps; `None` exactly where there is none. It reads at most about as many
-    /// jobs as the logarithm of how many the path's chain has, each of which is one of the steps.
+    /// one that the path keeps; `None` exactly where there is none. It reads one job at least where
+    /// the path's chain has any, and at most about as many as the logarithm of how many it has; each
+    /// is one of the steps.
     pub fn last(&self, job: u32, p: &Path, steps: &mut Steps) -> Option<u32>
         requires { self.now.floor ≤ job }
         ensures last { result ≡ last_over self.now job p.now }
         ensures on { steps.old ≤ steps.new }
+        ensures some { 0 < length (chain_over self.now p.now) → counted steps.old ≤ steps.new }
         ensures few { 2 ^ (steps.new - steps.old) ≤ 2 * length (chain_over self.now p.now) + 1 }
     {
         match self.found(job, p, steps) {
@@ -184,6 +186,7 @@ impl Versions {
         ensures found { option_map (λ e. (e.0, e.1.now)) result
             ≡ last_below job (chain_over self.now p.now) }
         ensures on { steps.old ≤ steps.new }
+        ensures some { 0 < length (chain_over self.now p.now) → counted steps.old ≤ steps.new }
         ensures few { 2 ^ (steps.new - steps.old) ≤ 2 * length (chain_over self.now p.now) + 1 }
     {
         match self.lines.chain(p) {

@@ -1,4 +1,4 @@
-use Rattle.std.proofs.Common.{◌+◌, ◌-◌, ◌/◌, ◌∙◌, ap, sym, Some, ℕ, arith}
+use Rattle.std.proofs.Common.{◌+◌, ◌-◌, ◌/◌, ◌≤◌, ◌∙◌, ap, subst, sym, Some, ℕ, arith}
 use Rattle.em_chain.proofs.Pairs.{open_right, open_left, before_next, few_next, counted_bounds}
 use Rattle.em_chain.proofs.chain.Chain.+search.Goals as goal
 
@@ -37,3 +37,9 @@ returns-else-found-job-clause-few t c =
     let b = counted_bounds c.args.steps.now in
     few_next c.args.steps.now c.job_at-found.new.steps c.search-else-found-job.new.steps (c.args.low + (c.args.high - c.args.low) / 2 - c.args.low) (c.args.high - c.args.low)
     (omega (arith, b.0, c.job_at-found.ensures.step)) (omega (arith, b.1, c.job_at-found.ensures.step)) c.search-else-found-job.ensures.on (omega arith) (omega arith) c.search-else-found-job.ensures.few
+
+pub returns-then-found-job-clause-some : goal.returns-then-found-job-clause-some
+returns-then-found-job-clause-some t c some = subst (λ (n : ℕ). n ≤ c.search.new.steps) c.job_at-found.ensures.step c.search.ensures.on
+
+pub returns-else-found-job-clause-some : goal.returns-else-found-job-clause-some
+returns-else-found-job-clause-some t c some = subst (λ (n : ℕ). n ≤ c.search-else-found-job.new.steps) c.job_at-found.ensures.step c.search-else-found-job.ensures.on
