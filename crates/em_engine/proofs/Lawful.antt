@@ -97,7 +97,7 @@ module _ (start : State) (waits : List (List ℕ)) where
   posts_after r (event.Settle k d o ∷ es) = posts_after (after r (event.Settle k d o)) es
   posts_after r (event.Stop ∷ es) = posts_after (after r event.Stop) es
 
-  may_there : (r : Replay) (es : List Event) (e : Event) (fs : List Event) → IsLegal start waits r (es ++ e ∷ fs) → May start waits (replay r es) e
+  pub may_there : (r : Replay) (es : List Event) (e : Event) (fs : List Event) → IsLegal start waits r (es ++ e ∷ fs) → May start waits (replay r es) e
   may_there r [] e fs legal = legal.0
   may_there r (x ∷ es) e fs legal = may_there (after r x) es e fs legal.1
 

@@ -6,3 +6,5 @@ pub mod Steps
 pub mod Fronting
 pub mod Finding
 pub mod Lawful
+pub mod Events
+pub mod Tying

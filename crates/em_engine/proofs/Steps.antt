@@ -314,6 +314,23 @@ asks h j e was more len' cap' b runs right at put room =
     }
 
 -- where an ask fails, what was asked stays
+-- only the room for the journal is another
+pub reserved : {S : _} (h : Held S) (len' cap' : ℕ) → IsBoard h → len' + h.owed ≤ cap' → IsBoard (record h { len = len'; cap = cap' })
+reserved h len' cap' b room = record {
+  replayed = b.replayed;
+  versions = b.versions;
+  legal = b.legal;
+  staged = b.staged;
+  owed_is = b.owed_is;
+  room = room;
+  small = b.small;
+  phases_len = b.phases_len;
+  asked_len = b.asked_len;
+  asked_is = b.asked_is;
+  below = b.below;
+  lower = b.lower;
+}
+
 pub unasked : {S : _} (h : Held S) (j : ℕ) (was new : List Entry) (len' cap' : ℕ) → IsBoard h → was ≡ get_or h.asked j was → new ≡ was → len' + h.owed ≤ cap'
     → IsBoard (record h { asked = set h.asked j new; len = len'; cap = cap' })
 unasked h j was new len' cap' b at is room =

@@ -2,13 +2,16 @@
 --     stage_of p           what the journal says of a job in this phase
 --     Seen                 what contracts see: the start, what each job waits for, the journal, the phases
 --     told b               what the journal comes to
+--     AreTied phases ps    each run that was posted is one of its job, and what it makes is posted
 --     Held, IsBoard        the fields, and what holds of them: the journal is legal, the phases and what is posted are its replay,
 --                          where the posts of the settled jobs are merged, and there is room for the events that may still come
 use Rattle.std.specs.Prelude.{◌≡◌, ◌<◌, ◌≤◌, ◌+◌, ◌^◌, ℕ, List, [], Option, Some, None, Bool, true, false, All, slice_get, slice_index_or, map, length}
+use Rattle.std.specs.FinMap.{get}
 use Rattle.em_tree.specs.declared.state.State.{State}
 use Rattle.em_tree.specs.declared.question.Entry.{Entry}
 use Rattle.em_chain.specs.Posts.{Posts, Floored}
 use Rattle.em_chain.specs.Floors.{IsAt}
+use Rattle.em_run.specs.declared.run.Parts.{Parts}
 use Rattle.em_engine.specs.declared.event.Event.{Event}
 use Rattle.em_engine.specs.declared.event.Phase.{Phase}
 use Rattle.em_engine.specs.declared.event.Phase.TheVariants as phase
@@ -47,6 +50,13 @@ told b = replay (first (length b.waits)) b.journal
 
 abbrev pub stages : {S : _} → Seen S → List Stage
 stages b = map stage_of b.phases
+
+pub record IsTied {S : Type 0} (job_of : S → ℕ) (ps : Posts) (j : ℕ) (r : Parts S) : Type 0 where
+  pub job : job_of r.spec ≡ j
+  pub post : get ps j ≡ Some (record { delta = r.delta; outcome = r.outcome })
+
+abbrev pub AreTied : {S : Type 0} → (S → ℕ) → List (Phase S) → Posts → Type 0
+AreTied job_of phases ps = (j : ℕ) (r : Parts _) → slice_get phases j ≡ Some (phase.Posted r) → IsTied job_of ps j r
 
 pub record Held (S : Type 0) : Type 0 where
   pub start : State

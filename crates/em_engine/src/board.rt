@@ -5,7 +5,7 @@ ghost use Rattle.em_engine.specs.declared.event.Phase.TheVariants as phase;
 ghost use Rattle.em_engine.specs.declared.ready.Stage.TheVariants as stage;
 ghost use Rattle.em_engine.specs.Stages.{CanClaim};
 ghost use Rattle.em_engine.specs.Journal.{IsLegal, first, weight_of, asked_of};
-ghost use Rattle.em_engine.specs.Boards.{Seen, stage_of, told, stages, is_kept};
+ghost use Rattle.em_engine.specs.Boards.{Seen, AreTied, stage_of, told, stages, is_kept};
 ghost use Rattle.em_engine.specs.Calls.{entry, noted, moved, put, answer_now, can_take, can_settle, left_by, Claims, Takes};
 
 use crate::event::{Event, Phase, Taken};
@@ -19,10 +19,10 @@ use std::marker::Model;
 use std::mem;
 
 /// Jobs, what was posted of them, and the journal of all that happened. Its type keeps that the
-/// journal is legal, that what is posted and the phases are its replay, but for what was taken, and
-/// that there is room for the events of all later calls but asks. So claims, `give_up`, `take` and
-/// `stop` take no memory. What the settled jobs have posted is merged: no claimed job is one of
-/// them.
+/// journal is legal, that what is posted and the phases are its replay, but for what was taken, that
+/// each run that was posted is one of its job and what it makes is posted, and that there is room
+/// for the events of all later calls but asks. So claims, `give_up`, `take` and `stop` take no
+/// memory. What the settled jobs have posted is merged: no claimed job is one of them.
 #[derive(Drop)]
 pub struct Board<S: Spec> {
     alloc: Global,
@@ -37,12 +37,13 @@ pub struct Board<S: Spec> {
 }
 
 impl<S: Spec> Model for Board<S> {
-    ghost use Rattle.std.specs.Prelude.{vec_len, vec_capacity};
+    ghost use Rattle.std.specs.Prelude.{length, vec_len, vec_capacity};
     ghost use Rattle.std.specs.Coded.{codes};
     ghost use Rattle.em_tree.specs.contracts.state.State as state;
     ghost use Rattle.em_run.specs.Codes.{parts_code};
     ghost use Rattle.em_engine.specs.contracts.event.Event as event;
-    ghost use Rattle.em_engine.specs.Boards.{Seen, IsBoard};
+    ghost use Rattle.em_engine.specs.Boards.{Seen, IsBoard, AreTied};
+    ghost use Rattle.em_engine.specs.Journal.{first, replay};
 
     ghost Value = { Seen S };
 
@@ -69,7 +70,9 @@ impl<S: Spec> Model for Board<S> {
       journal = b.journal.items;
       len = vec_len b.journal;
       cap = vec_capacity b.journal;
-    }) };
+    })
+        × AreTied S.job_of b.phases.items
+        (replay (first (length b.ready.waits)) b.journal.items).posts };
 }
 
 impl<S: Spec> Board<S> {
@@ -131,6 +134,7 @@ impl<S: Spec> Board<S> {
         ensures legal { IsLegal self.now.start self.now.waits
             (first (length self.now.waits)) self.now.journal }
         ensures told { (told self.now).stages ≡ stages self.now }
+        ensures tied { AreTied S.job_of self.now.phases (told self.now).posts }
     {
         self.journal.as_slice()
     }

@@ -17,8 +17,8 @@ use std::marker::Model;
 use std::mem;
 
 /// The jobs in order, of which the first ones are committed. Its type keeps that they have run so
-/// in the serial run from the start, and that the front stands where they leave it: its state,
-/// whether the run has ended, and the fuel and the delta of each.
+/// in the serial run from the start, that the front stands where they leave it: its state, whether
+/// the run has ended, and the fuel and the delta of each, and that the jobs are numbered from 0 on.
 #[derive(Drop)]
 pub struct Front<S: Spec> {
     alloc: Global,
@@ -35,7 +35,7 @@ pub struct Front<S: Spec> {
 impl<S: Spec> Model for Front<S> {
     ghost use Rattle.std.specs.Prelude.{◌≡◌, ℕ, List};
     ghost use Rattle.std.specs.FinMap.{get};
-    ghost use Rattle.em_engine.specs.Fronts.{Standing, IsStanding, named_last};
+    ghost use Rattle.em_engine.specs.Fronts.{Standing, IsStanding, AreNumbered, named_last};
     ghost use Rattle.em_engine.specs.Changed.{flat};
 
     ghost Value = { Standing S };
@@ -61,7 +61,8 @@ impl<S: Spec> Model for Front<S> {
       fuel = f.fuel.items;
       deltas = f.deltas.items;
     })
-        × ((p : List ℕ) → flat (get f.changed p) ≡ named_last f.deltas.items p) };
+        × ((p : List ℕ) → flat (get f.changed p) ≡ named_last f.deltas.items p)
+        × AreNumbered S.job_of f.specs };
 }
 
 impl<S: Spec> Front<S> {
@@ -100,9 +101,12 @@ impl<S: Spec> Front<S> {
         &self.state
     }
 
-    /// The spec of the next job; `None` exactly where all are committed or the run has ended.
+    /// The spec of the next job; `None` exactly where all are committed or the run has ended. Its
+    /// number is how many jobs are committed.
     pub fn next(&self) -> Option<&S>
-        ensures { option_copied result ≡ next_of self.now }
+        ensures next { option_copied result ≡ next_of self.now }
+        ensures numbered { IfSome (next_of self.now)
+            (λ next. S.job_of next ≡ length self.now.deltas) }
     {
         if self.ended {
             return None;

@@ -2,8 +2,8 @@
 --     begins           a front stands before its first job
 --     builds, breaks   all jobs were committed, and the committer broke off
 --     breaks_early     memory ran out before the first job
-use Rattle.std.proofs.Common.{◌≡◌, ◌+◌, ℕ, Bool, false, List, [], Option, None, Result, Ok, Err, refl, sym, subst, ◌∙◌, arith}
-use Rattle.std.specs.Prelude.{All, IfSome, IsErrAnd, slice_get}
+use Rattle.std.proofs.Common.{◌≡◌, ℕ, Bool, false, List, [], Option, None, Result, Ok, Err, refl, sym, subst, ◌∙◌}
+use Rattle.std.specs.Prelude.{All, IsErrAnd}
 use Rattle.em_host.specs.Outside.{Outside}
 use Rattle.em_host.proofs.Telling.{Tells-weaken, Tells-same, makes_none}
 use Rattle.em_tree.specs.declared.outcome.Outcome.{Outcome}
@@ -11,7 +11,7 @@ use Rattle.em_tree.specs.declared.state.State.{State}
 use Rattle.em_view.specs.declared.effect.Effect.{Effect}
 use Rattle.em_run.specs.Serial.{Ran, IsSerial}
 use Rattle.em_engine.specs.declared.note.Note.{Note}
-use Rattle.em_engine.specs.Fronts.{Standing, Stands, next_of, AreNumbered}
+use Rattle.em_engine.specs.Fronts.{Standing, Stands, next_of}
 use Rattle.em_engine.proofs.Fronting.{no_early, whole_run}
 use Rattle.em_workers.specs.declared.builder.Built.{Built}
 use Rattle.em_workers.specs.declared.no.BuildNo.{BuildNo}
@@ -21,7 +21,6 @@ use Rattle.em_workers.specs.Printing.{Said}
 use Rattle.em_workers.specs.Lending.{Lending}
 use Rattle.em_workers.specs.Commits.{Commits}
 use Rattle.em_workers.specs.Builds.{IsOnce, Builds}
-use Rattle.em_workers.proofs.Noting.{notes_are}
 use Rattle.em_workers.proofs.Saying.{said_lost}
 
 -- memory ran out before the first job
@@ -58,9 +57,9 @@ module _ {S : Type 0} (job_of : S → ℕ) (eq : S → S → Bool) (makes : S �
         printed = Tells-weaken x y (λ l m f. f) c.printed;
       })
 
-      pub builds : (o : A) (built : Built) → AreNumbered job_of specs → Commits job_of eq makes ends notes (Ok o) begun w a b x y → next_of w ≡ None → (workers ≡ 1 → All IsOnce notes)
+      pub builds : (o : A) (built : Built) → Commits job_of eq makes ends notes (Ok o) begun w a b x y → next_of w ≡ None → (workers ≡ 1 → All IsOnce notes)
           → built.state ≡ w.state → built.fuel ≡ w.fuel → built.notes ≡ notes → Builds makes ends start specs workers (Ok built) x y
-      builds o built numbered c none once state fuel noted = record {
+      builds o built c none once state fuel noted = record {
         made = c.made;
         ran = ran_in (Ok o) c;
         built = record {
@@ -69,11 +68,8 @@ module _ {S : Type 0} (job_of : S → ℕ) (eq : S → S → Bool) (makes : S �
               (subst (λ (s : State). IsSerial makes ends s w.specs c.made) c.start (whole_run makes ends w c.made (c.stands [] begins) none));
           state = state ∙ c.state;
           fuel = fuel ∙ (c.stands [] begins).fuel_is;
-          notes = subst (λ (ns : List Note). AreNotes start [] c.made ns) (sym noted) (notes_are job_of eq start [] specs c.lent c.made notes from_zero c.turns);
+          notes = subst (λ (ns : List Note). AreNotes start [] c.made ns) (sym noted) c.noted;
           alone = λ one. subst (λ (ns : List Note). All IsOnce ns) (sym noted) (once one);
         };
         printed = Tells-weaken x y (λ l m f. f) c.printed;
       }
-        where
-          from_zero : (i : ℕ) → IfSome (slice_get specs i) (λ j. job_of j ≡ 0 + i)
-          from_zero i = subst (λ (k : ℕ). IfSome (slice_get specs i) (λ j. job_of j ≡ k)) (let e : i ≡ 0 + i = omega arith in e) (numbered i)

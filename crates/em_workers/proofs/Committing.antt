@@ -23,13 +23,13 @@ use Rattle.em_workers.specs.declared.next.Committed.{Committed}
 use Rattle.em_workers.specs.declared.no.BuildNo.{BuildNo}
 use Rattle.em_workers.specs.declared.no.BuildNo.TheVariants as no
 use Rattle.em_workers.specs.Turns.{effect_of, IsCommitted, runs_for, IsNote}
-use Rattle.em_workers.specs.Notes.{AreTurns}
+use Rattle.em_workers.specs.Notes.{AreNotes, AreTurns}
 use Rattle.em_workers.specs.Printing.{print, Says, Said, faults_after}
 use Rattle.em_workers.specs.Lending.{Lending, Both, Lends, Stops}
 use Rattle.em_workers.specs.Commits.{rest_of, note_in, Delivers, Serves, Commits}
-use Rattle.em_workers.proofs.Noting.{turns_then}
+use Rattle.em_workers.proofs.Noting.{note_is, notes_then, turns_then}
 use Rattle.em_workers.proofs.Saying.{said_one, said_then, said_lost, faults_left}
-use Rattle.em_workers.proofs.Lending.{Both-then, Both-weaken, Both-same, on_ok, serves_none, serves_one, serves_lost, serves_then}
+use Rattle.em_workers.proofs.Lending.{Both-then, Both-weaken, Both-same, on_ok, serves_none, serves_one, serves_lost, serves_err, serves_ok, serves_stopped, serves_then}
 
 state_then : (s : State) (ms os : List Made) → state_after s (ms ++ os) ≡ state_after (state_after s ms) os
 state_then s [] os = refl
@@ -55,9 +55,9 @@ next_left v next is = drop_at v.specs (length v.deltas) next (next_is v next is)
 
 module _ {S : Type 0} (job_of : S → ℕ) (eq : S → S → Bool) (makes : S → State → Effect → ℕ → Type 0) (ends : S → Outcome → Bool) where
   module _ {A : Type 0} (v : Standing S) (a : Option (Lending S)) (x : Option Outside) where
-    unlent : (r : Result A BuildNo) (b : Option (Lending S)) → OnOk r (AreTurns job_of eq v.state v.deltas (rest_of v) [] [] [])
+    unlent : (r : Result A BuildNo) (b : Option (Lending S)) → OnOk r (AreNotes v.state v.deltas [] []) → OnOk r (AreTurns job_of eq v.state v.deltas (rest_of v) [] [] [])
         → Both (Serves job_of (rest_of v) [] [] r) a b → Tells (Said [] r) x x → Commits job_of eq makes ends [] r v v a b x x
-    unlent r b turns served printed = record {
+    unlent r b noted turns served printed = record {
       made = [];
       lent = [];
       start = refl;
@@ -65,13 +65,14 @@ module _ {S : Type 0} (job_of : S → ℕ) (eq : S → S → Bool) (makes : S �
       state = refl;
       deltas = sym (append-nil v.deltas);
       stands = λ before s. subst (Stands makes ends v) (sym (append-nil before)) s;
+      noted = noted;
       turns = turns;
       served = served;
       printed = printed;
     }
 
     pub commits_none : (r : A) → Commits job_of eq makes ends [] (Ok r) v v a a x x
-    commits_none r = unlent (Ok r) a tt
+    commits_none r = unlent (Ok r) a tt tt
         (Both-same (Serves job_of (rest_of v) [] [] (Ok r)) a (λ l. serves_none job_of (rest_of v) (Ok r) l))
         (Tells-same (Said [] (Ok r)) x (λ y. makes_none y))
 
@@ -79,19 +80,19 @@ module _ {S : Type 0} (job_of : S → ℕ) (eq : S → S → Bool) (makes : S �
     pub commits_not : (b : Option (Lending S)) (notes : List Note) → Both (Serves job_of {A = A} (rest_of v) [] [] (Err no.NoMemory)) a b
         → Commits job_of eq makes ends {A = A} notes (Err no.NoMemory) v v a b x x
     commits_not b notes served =
-        let c = unlent (Err no.NoMemory) b tt served (Tells-same (Said {A = A} [] (Err no.NoMemory)) x (λ y. said_lost [] y y (makes_none y))) in
-        record { made = c.made; lent = c.lent; start = c.start; specs = c.specs; state = c.state; deltas = c.deltas; stands = c.stands; turns = tt; served = c.served; printed = c.printed }
+        let c = unlent (Err no.NoMemory) b tt tt served (Tells-same (Said {A = A} [] (Err no.NoMemory)) x (λ y. said_lost [] y y (makes_none y))) in
+        record { made = c.made; lent = c.lent; start = c.start; specs = c.specs; state = c.state; deltas = c.deltas; stands = c.stands; noted = tt; turns = tt; served = c.served; printed = c.printed }
 
   pub ok_of : {A P : Type 0} (r : Result A BuildNo) → P → OnOk r P
   ok_of (Ok a) p = p
   ok_of (Err e) p = tt
 
   module _ {A : Type 0} (v w : Standing S) (next : S) (c : Committed) (lent : Option (Taken S)) (note : Note) (r : Result A BuildNo) where
-    pub commits_one : (a b : Option (Lending S)) (x y : Option Outside) → next_of v ≡ Some next → IsCommitted makes ends v w next c
+    pub commits_one : (a b : Option (Lending S)) (x y : Option Outside) → next_of v ≡ Some next → job_of next ≡ length v.deltas → IsCommitted makes ends v w next c
         → OnOk r (IsNote job_of eq v.state v.deltas next lent note)
         → Both (Serves job_of (rest_of v) (lent ∷ []) (made_of c ∷ []) r) a b → Tells (Says (print c.output) r) x y
         → Commits job_of eq makes ends (note ∷ []) r v w a b x y
-    commits_one a b x y is done noted served printed = record {
+    commits_one a b x y is place done noted served printed = record {
       made = made_of c ∷ [];
       lent = lent ∷ [];
       start = ap (λ (u : Standing S). u.start) done.stands;
@@ -99,6 +100,7 @@ module _ {S : Type 0} (job_of : S → ℕ) (eq : S → S → Bool) (makes : S �
       state = ap (λ (u : Standing S). u.state) done.stands;
       deltas = ap (λ (u : Standing S). u.deltas) done.stands;
       stands = λ before s. subst (λ (u : Standing S). Stands makes ends u (before ++ made_of c ∷ [])) (sym done.stands) (stands_more makes ends v before as_run next s is done.made refl);
+      noted = on_ok r (λ (n : IsNote job_of eq v.state v.deltas next lent note). (note_is job_of eq v.state v.deltas next lent note place n, tt)) noted;
       turns = on_ok r
           (λ (n : IsNote job_of eq v.state v.deltas next lent note).
           subst (λ (js : List S). AreTurns job_of eq v.state v.deltas js (lent ∷ []) (made_of c ∷ []) (note ∷ [])) (sym (next_left v next is).1) (n, tt))
@@ -130,6 +132,12 @@ module _ {S : Type 0} (job_of : S → ℕ) (eq : S → S → Bool) (makes : S �
         ∙ append_assoc u.deltas (map (λ (m : Made). m.effect.changes) p.made) (map (λ (m : Made). m.effect.changes) q.made)
         ∙ ap (λ (ds : List Changes). u.deltas ++ ds) (sym (map-append (λ (m : Made). m.effect.changes) p.made q.made));
     stands = λ before s. subst (Stands makes ends w) (append_assoc before p.made q.made) (q.stands (before ++ p.made) (p.stands before s));
+    noted = on_ok r
+        (λ (h : AreNotes v.state v.deltas q.made os).
+        notes_then u.state u.deltas p.made q.made ns os p.noted
+        (subst (λ (ds : List Changes). AreNotes (state_after u.state p.made) ds q.made os) p.deltas
+        (subst (λ (s : State). AreNotes s v.deltas q.made os) p.state h)))
+        q.noted;
     turns = on_ok r
         (λ (h : AreTurns job_of eq v.state v.deltas (rest_of v) q.lent q.made os).
         turns_then job_of eq u.state u.deltas (rest_of u) p.lent q.lent p.made q.made ns os p.turns
@@ -159,8 +167,9 @@ module _ {S : Type 0} (job_of : S → ℕ) (eq : S → S → Bool) (makes : S �
     state = p.state;
     deltas = p.deltas;
     stands = p.stands;
+    noted = tt;
     turns = tt;
-    served = Both-weaken a b (λ l m f. record { lent_is = f.lent_is; left = tt; more = f.more; unsettled = f.unsettled; all = f.all; settled = f.settled; whole = tt }) p.served;
+    served = Both-weaken a b (λ l m f. serves_err job_of (rest_of v) p.lent p.made l m (Ok o) no.NoMemory f) p.served;
     printed = Tells-weaken x y (λ l m f. said_lost (outputs_of p.made) l m f) p.printed;
   }
 
@@ -175,8 +184,9 @@ module _ {S : Type 0} (job_of : S → ℕ) (eq : S → S → Bool) (makes : S �
     state = p.state;
     deltas = p.deltas;
     stands = p.stands;
+    noted = tt;
     turns = tt;
-    served = Both-weaken a b (λ l m f. record { lent_is = f.lent_is; left = tt; more = f.more; unsettled = f.unsettled; all = f.all; settled = f.settled; whole = tt }) p.served;
+    served = Both-weaken a b (λ l m f. serves_err job_of (rest_of v) p.lent p.made l m (Err e) e f) p.served;
     printed = Tells-weaken x y (λ l m f. f) p.printed;
   })
 
@@ -213,8 +223,9 @@ module _ {S : Type 0} (job_of : S → ℕ) (eq : S → S → Bool) (makes : S �
       state = p.state;
       deltas = p.deltas;
       stands = p.stands;
+      noted = p.noted;
       turns = p.turns;
-      served = Both-weaken a b (λ l m f. record { lent_is = f.lent_is; left = f.left; more = f.more; unsettled = f.unsettled; all = f.all; settled = f.settled; whole = f.whole }) p.served;
+      served = Both-weaken a b (λ l m f. serves_ok job_of (rest_of v) p.lent p.made l m o q f) p.served;
       printed = Tells-weaken x y (λ l m f. f) p.printed;
     }
 
@@ -237,17 +248,9 @@ module _ {S : Type 0} (job_of : S → ℕ) (eq : S → S → Bool) (makes : S �
     state = p.state;
     deltas = p.deltas;
     stands = p.stands;
+    noted = p.noted;
     turns = p.turns;
-    served = Both-then a b c
-        (λ l m n f g. record {
-          lent_is = f.lent_is;
-          left = on_ok r (λ (h : m.lends ≡ drop (length p.made) l.lends). ap (λ (k : Lending S). k.lends) g ∙ h) f.left;
-          more = f.more;
-          unsettled = f.unsettled;
-          all = f.all;
-          settled = ap (λ (k : Lending S). k.settled) g ∙ f.settled;
-          whole = f.whole;
-        })
+    served = Both-then a b c (λ l m n f g. serves_stopped job_of r (rest_of v) p.lent p.made l m n f g)
         p.served stops;
     printed = p.printed;
   }
@@ -272,33 +275,43 @@ module _ {S : Type 0} (job_of : S → ℕ) (eq : S → S → Bool) (makes : S �
       (done : IfSome (next_of v) (λ n. IsCommitted makes ends v w n c)) where
     -- one job, of which something may have been lent
     pub commits_next : (job : ℕ) (lent : Option (Taken S)) (r : Result (Unit {0}) BuildNo) (a b e : Option (Lending S)) (x y : Option Outside) → job ≡ job_of next
+        → IfSome (next_of v) (λ n. job_of n ≡ length v.deltas)
         → IfSome (next_of v) (λ n. IsNote job_of eq v.state v.deltas n lent note)
-        → Both (Lends lent) a b → Both (Delivers {A = Unit {0}} (record { job = job; delta = c.delta; outcome = c.outcome }) r) b e → Tells (Says (print c.output) r) x y
+        → Both (Lends job lent) a b → Both (Delivers {A = Unit {0}} (record { job = job; delta = c.delta; outcome = c.outcome }) r) b e → Tells (Says (print c.output) r) x y
         → Commits job_of eq makes ends (note ∷ []) r v w a e x y
-    commits_next job lent r a b e x y same noted lends delivers printed =
+    commits_next job lent r a b e x y same place noted lends delivers printed =
         let left = next_left v next (sym is) in
-        commits_one job_of eq makes ends v w next c lent note r a e x y (sym is) (at_some (next_of v) next (λ n. IsCommitted makes ends v w n c) is done)
+        commits_one job_of eq makes ends v w next c lent note r a e x y (sym is) (at_some (next_of v) next (λ n. job_of n ≡ length v.deltas) is place) (at_some (next_of v) next (λ n. IsCommitted makes ends v w n c) is done)
         (ok_of job_of eq makes ends r (at_some (next_of v) next (λ n. IsNote job_of eq v.state v.deltas n lent note) is noted))
         (Both-then a b e
-        (λ l m n f g. serves_one job_of (rest_of v) next left.0 (made_of c) r lent l m n left.1 f
+        (λ l m n f g. serves_one job_of (rest_of v) next left.0 (made_of c) r job lent l m n left.1 same f
         (subst (λ (k : ℕ). Delivers {A = Unit {0}} (record { job = k; delta = c.delta; outcome = c.outcome }) r m n) same g))
         lends delivers)
         printed
 
     -- one job, of which nothing is lent
-    pub commits_alone : {A : Type 0} (r : Result A BuildNo) (x y : Option Outside) → note.job ≡ job_of next → note.runs ≡ 1 → note.cause ≡ None → Tells (Says (print c.output) r) x y
+    pub commits_alone : {A : Type 0} (r : Result A BuildNo) (x y : Option Outside) → note.job ≡ job_of next → IfSome (next_of v) (λ n. job_of n ≡ length v.deltas) → note.runs ≡ 1 → note.cause ≡ None → Tells (Says (print c.output) r) x y
         → Commits job_of eq makes ends (note ∷ []) r v w None None x y
-    commits_alone r x y same once none printed =
-        commits_one job_of eq makes ends v w next c None note r None None x y (sym is) (at_some (next_of v) next (λ n. IsCommitted makes ends v w n c) is done)
+    commits_alone r x y same place once none printed =
+        commits_one job_of eq makes ends v w next c None note r None None x y (sym is) (at_some (next_of v) next (λ n. job_of n ≡ length v.deltas) is place) (at_some (next_of v) next (λ n. IsCommitted makes ends v w n c) is done)
         (ok_of job_of eq makes ends r (record { job = same; runs = once ∙ ap runs_for (sym none); cause = none })) tt printed
 
   -- memory ran out over the next job, of which something may have been lent
-  pub commits_want : {B : Type 0} (r : Result B BuildNo) (ns : List Note) (v w : Standing S) (lent : Option (Taken S)) (a b : Option (Lending S)) (x : Option Outside) → IsErrAnd r (λ s. s ≡ no.NoMemory) → w ≡ v
-      → Both (Lends lent) a b → Commits job_of eq makes ends ns r v w a b x x
-  commits_want r ns v w lent a b x is same lends =
+  pub commits_want : {B : Type 0} (r : Result B BuildNo) (ns : List Note) (v w : Standing S) (next : S) (job : ℕ) (lent : Option (Taken S)) (a b : Option (Lending S)) (x : Option Outside)
+      → IsErrAnd r (λ s. s ≡ no.NoMemory) → w ≡ v → Some next ≡ next_of v → job ≡ job_of next → Both (Lends job lent) a b → Commits job_of eq makes ends ns r v w a b x x
+  commits_want r ns v w next job lent a b x is same at number lends =
+      let left = next_left v next (sym at) in
       subst (λ (u : Standing S). Commits job_of eq makes ends ns r v u a b x x) (sym same)
       (as_err job_of eq makes ends no.NoMemory [] ns r v v a b x x is
-      (commits_not job_of eq makes ends {A = Unit {0}} v a x b [] (Both-weaken a b (λ l m f. serves_lost job_of {A = Unit {0}} (rest_of v) no.NoMemory lent l m f) lends)))
+      (commits_not job_of eq makes ends {A = Unit {0}} v a x b [] (Both-weaken a b (λ l m f. serves_lost job_of {A = Unit {0}} (rest_of v) no.NoMemory next left.0 job lent l m left.1 number f) lends)))
+
+  -- memory ran out before anything was asked for
+  pub commits_idle : {B : Type 0} (r : Result B BuildNo) (ns : List Note) (v w : Standing S) (a : Option (Lending S)) (x : Option Outside) → IsErrAnd r (λ s. s ≡ no.NoMemory) → w ≡ v
+      → Commits job_of eq makes ends ns r v w a a x x
+  commits_idle r ns v w a x is same =
+      subst (λ (u : Standing S). Commits job_of eq makes ends ns r v u a a x x) (sym same)
+      (as_err job_of eq makes ends no.NoMemory [] ns r v v a a x x is
+      (commits_not job_of eq makes ends {A = Unit {0}} v a x a [] (Both-same (Serves job_of {A = Unit {0}} (rest_of v) [] [] (Err no.NoMemory)) a (λ l. serves_none job_of (rest_of v) (Err no.NoMemory) l))))
 
   -- a stretch of jobs behind others, the end of a loop
   module _ {A B : Type 0} (o : A) (p : B) (ns : List Note) (u v w : Standing S) (a b c : Option (Lending S)) (x y z : Option Outside) where

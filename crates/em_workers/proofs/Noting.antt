@@ -1,6 +1,7 @@
 -- Notes: that what they say is so, and those of some jobs behind others.
 --     notes_are       the notes of what was lent tell causes that are so
---     turns_then      jobs behind others
+--     note_is         the same of one job
+--     turns_then, notes_then      jobs behind others
 use Rattle.std.proofs.Common.{◌≡◌, ℕ, suc, ◌+◌, Bool, List, [], ◌∷◌, ◌++◌, length, map, drop, Option, Some, None, refl, sym, subst, ◌∙◌, append-nil, append_assoc, length-append, add-zero, arith}
 use Rattle.std.specs.Prelude.{IfSome, IsSomeAnd, slice_get, option_map}
 use Rattle.em_tree.specs.declared.question.Entry.{Entry}
@@ -16,8 +17,8 @@ use Rattle.em_engine.specs.declared.note.Note.{Note}
 use Rattle.em_engine.specs.declared.note.Verdict.{Verdict}
 use Rattle.em_engine.specs.declared.note.Verdict.TheVariants as found
 use Rattle.em_engine.specs.Verdicts.{IsVerdict, AgreesAt}
-use Rattle.em_workers.specs.Turns.{differ, cause_of, Finds}
-use Rattle.em_workers.specs.Notes.{IsCause, AreNotes, AreTurns}
+use Rattle.em_workers.specs.Turns.{differ, cause_of, Finds, IsNote}
+use Rattle.em_workers.specs.Notes.{IsCause, IsNoteOf, AreNotes, AreTurns}
 
 differs : (s : State) (ds : List Changes) (i : ℕ) (o : Option Entry) → IsSomeAnd o (λ e. ¬ AgreesAt s e) → IfSome (option_map (differ s ds i) o) (IsCause s ds)
 differs s ds i None wrong = absurd wrong
@@ -36,7 +37,20 @@ module _ {S : Type 0} (eq : S → S → Bool) (s : State) (ds : List Changes) (n
   cause_is (Some (taken.Run r asked)) why is = subst (λ (w : Option Cause). IfSome w (IsCause s ds)) (sym is.why_is) (found_cause r asked is.verdict is.is)
   cause_is (Some taken.NotYet) why is = absurd is
 
+pub notes_then : (s : State) (ds : List Changes) (ms os : List Made) (ns ps : List Note) → AreNotes s ds ms ns → AreNotes (state_after s ms) (ds ++ map (λ m. m.effect.changes) ms) os ps → AreNotes s ds (ms ++ os) (ns ++ ps)
+notes_then s ds [] os [] ps t u = subst (λ (es : List Changes). AreNotes s es os ps) (append-nil ds) u
+notes_then s ds [] os (n ∷ ns) ps t u = absurd t
+notes_then s ds (m ∷ ms) os [] ps t u = absurd t
+notes_then s ds (m ∷ ms) os (n ∷ ns) ps t u = (
+  t.0,
+  notes_then (after m.effect s) (ds ++ m.effect.changes ∷ []) ms os ns ps t.1
+      (subst (λ (es : List Changes). AreNotes (state_after (after m.effect s) ms) es os ps) (sym (append_assoc ds (m.effect.changes ∷ []) (map (λ m. m.effect.changes) ms))) u),
+)
+
 module _ {S : Type 0} (job_of : S → ℕ) (eq : S → S → Bool) where
+  pub note_is : (s : State) (ds : List Changes) (next : S) (lent : Option (Taken S)) (n : Note) → job_of next ≡ length ds → IsNote job_of eq s ds next lent n → IsNoteOf s ds n
+  note_is s ds next lent n place t = record { job = t.job ∙ place; runs = t.runs; cause = cause_is eq s ds next lent n.cause t.cause }
+
   -- the jobs have the numbers from n on
   abbrev pub Numbered : ℕ → List S → Type 0
   Numbered n js = (i : ℕ) → IfSome (slice_get js i) (λ j. job_of j ≡ n + i)
@@ -52,7 +66,7 @@ module _ {S : Type 0} (job_of : S → ℕ) (eq : S → S → Bool) where
   notes_are s ds (j ∷ js) (l ∷ ls) [] ns h t = absurd t
   notes_are s ds (j ∷ js) (l ∷ ls) (m ∷ ms) [] h t = absurd t
   notes_are s ds (j ∷ js) (l ∷ ls) (m ∷ ms) (n ∷ ns) h t = (
-    record { job = t.0.job ∙ h 0 ∙ add-zero (length ds); runs = t.0.runs; cause = cause_is eq s ds j l n.cause t.0.cause },
+    note_is s ds j l n (h 0 ∙ add-zero (length ds)) t.0,
     notes_are (after m.effect s) (ds ++ m.effect.changes ∷ []) js ls ms ns (subst (λ (k : ℕ). Numbered k js) (sym (length-append ds (m.effect.changes ∷ []))) (numbered_rest (length ds) j js h)) t.1,
   )
 

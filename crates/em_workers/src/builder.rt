@@ -1,5 +1,6 @@
 //! The build.
-ghost use Rattle.std.specs.Prelude.{◌≡◌, ◌<◌, ◌≤◌, ◌^◌, ℕ, [], All, length, slice_index_or};
+ghost use Rattle.std.specs.Prelude.{◌≡◌, ◌<◌, ◌≤◌, ◌^◌, ℕ, [], true, All, IfOk, length, slice_index_or};
+ghost use Rattle.std.specs.List.{AllZip};
 ghost use Rattle.em_engine.specs.Fronts.{AreNumbered};
 ghost use Rattle.em_workers.specs.Builds.{Builds};
 ghost use Rattle.em_workers.specs.Printing.{faults_after};
@@ -28,8 +29,11 @@ pub struct Built {
     pub fuel: Seq<u64>,
 }
 
-/// Copies of the specs, for the workers.
-fn copies<S: Spec>(alloc: Global, specs: &[S]) -> Result<Vec<S>, NoMemory> {
+/// Copies of the specs, for the workers: as many, and each equal to the one at its place.
+fn copies<S: Spec>(alloc: Global, specs: &[S]) -> Result<Vec<S>, NoMemory>
+    ensures { IfOk result
+        (λ all. AllZip (λ spec copy. S.eq copy spec ≡ true) specs.now all.items) }
+{
     let mut all = Vec::with_capacity(alloc, specs.len())?;
     for spec in specs {
         all.push(spec.copy(alloc)?)?;

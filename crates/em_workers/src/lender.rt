@@ -1,8 +1,8 @@
 //! The committer's side of a board.
-ghost use Rattle.std.specs.Prelude.{◌≡◌, ◌++◌, ◌∷◌, [], false, Option, All, IfSome, OnOk, OnErr, drop};
+ghost use Rattle.std.specs.Prelude.{◌≡◌, ◌++◌, ◌∷◌, [], None, false, true, Option, All, IfSome, OnOk, OnErr, drop};
 ghost use Rattle.std.specs.Vec.Iter.{into_iter_items};
 ghost use Rattle.em_shared.specs.Waited.{IsLent};
-ghost use Rattle.em_workers.specs.Lending.{Lending, Both, first_of, Lends, Settles, Stops};
+ghost use Rattle.em_workers.specs.Lending.{Lending, Both, first_of, is_behind, Lends, Settles, Stops};
 
 use crate::settled::Settled;
 use em_base::NoMemory;
@@ -18,14 +18,14 @@ use std::vec::IntoIter;
 /// The committer's side of a board: it lends what a worker has left of a job, and is told what was
 /// committed.
 pub trait Lender<S: Spec>: Drop {
-    /// What the coming calls give, what was settled and whether it was stopped, where it tells
-    /// that.
+    /// What the coming calls give, which jobs were asked for, what was settled and whether it was
+    /// stopped, where it tells that.
     ghost told: { Self → Option (Lending S) };
 
     /// What a worker has left of the next job; None where the committer is to run it.
     fn lend(&mut self, job: u32) -> Option<Taken<S>>
         ensures lent { IfSome result IsLent }
-        ensures told { Both (Lends result) (told self.old) (told self.new) };
+        ensures told { Both (Lends job result) (told self.old) (told self.new) };
 
     /// Settles the next job.
     fn settle(&mut self, job: u32, delta: Delta, outcome: Outcome) -> Result<(), SettleNo>
@@ -42,6 +42,8 @@ pub trait Lender<S: Spec>: Drop {
 #[derive(Drop)]
 pub struct ScriptLender<S: Spec> {
     lends: IntoIter<Option<Taken<S>>>,
+    last: Option<u32>,
+    in_order: bool,
     settled: Vec<Settled>,
     stopped: bool,
 }
@@ -62,6 +64,7 @@ impl<S: Spec> Model for ScriptLender<S> {
 
     ghost view = { λ l. record {
       lends = into_iter_items l.lends;
+      asked = record { last = l.last; in_order = l.in_order };
       settled = l.settled.items;
       stopped = l.stopped;
     } };
@@ -73,10 +76,17 @@ impl<S: Spec> ScriptLender<S> {
     /// Lends these, in order, and then nothing.
     pub fn new(alloc: Global, lends: Vec<Option<Taken<S>>>) -> ScriptLender<S>
         requires { All (λ o. IfSome o IsLent) lends.items }
-        ensures { result ≡ record { lends = lends.items; settled = []; stopped = false } }
+        ensures { result ≡ record {
+          lends = lends.items;
+          asked = record { last = None; in_order = true };
+          settled = [];
+          stopped = false;
+        } }
     {
         ScriptLender {
             lends: lends.into_iter(),
+            last: None,
+            in_order: true,
             settled: Vec::new(alloc),
             stopped: false,
         }
@@ -102,7 +112,9 @@ impl<S: Spec> Lender<S> for ScriptLender<S> {
 
     ghost told = { λ l. Some l };
 
-    fn lend(&mut self, _job: u32) -> Option<Taken<S>> {
+    fn lend(&mut self, job: u32) -> Option<Taken<S>> {
+        self.in_order = self.in_order && is_behind(self.last, job);
+        self.last = Some(job);
         first_of(&mut self.lends)
     }
 
@@ -118,6 +130,16 @@ impl<S: Spec> Lender<S> for ScriptLender<S> {
 
     fn stop(&mut self) {
         self.stopped = true;
+    }
+}
+
+/// Whether the job is the one behind this one.
+fn is_behind(last: Option<u32>, job: u32) -> bool
+    ensures { result ≡ is_behind last job }
+{
+    match last {
+        None => true,
+        Some(last) => u64::from(job) == u64::from(last) + 1,
     }
 }
 

@@ -1,6 +1,7 @@
 //! The phases of a build with workers: the committer goes on beside them while jobs are long, and
 //! alone while jobs are short.
-ghost use Rattle.std.specs.Prelude.{◌≡◌, ◌<◌, ◌^◌, ◌++◌, ℕ, [], None, All, IfOk, OnOk, length, slice_index_or, true};
+ghost use Rattle.std.specs.Prelude.{◌≡◌, ◌<◌, ◌^◌, ◌++◌, ℕ, [], None, All, IfOk, OnOk, length, replicate, slice_index_or, true};
+ghost use Rattle.em_engine.specs.declared.event.Phase.TheVariants as phase;
 ghost use Rattle.em_engine.specs.Fronts.{next_of};
 ghost use Rattle.em_workers.specs.Commits.{Commits, note_in, notes_in};
 ghost use Rattle.em_workers.specs.Lending.{Both};
@@ -259,6 +260,26 @@ fn copied(alloc: Global, waits: &[Seq<u32>]) -> Result<Seq<Seq<u32>>, NoMemory>
     Ok(all)
 }
 
+/// A board of jobs that are free, which begins at the front's state.
+fn board_at<S: Spec>(
+    alloc: Global,
+    front: &Front<S>,
+    waits: &[Seq<u32>],
+) -> Result<Board<S>, NoMemory>
+    requires few { length waits.now < 2 ^ 32 }
+    requires lower { (j : ℕ) → All (λ k. k < j) (slice_index_or waits.now j []) }
+    ensures { IfOk result (λ b. b ≡ record {
+      start = front.now.state;
+      waits = waits.now;
+      journal = [];
+      phases = replicate (length waits.now) phase.Free;
+    }) }
+{
+    let begun = front.state().copy(alloc)?;
+    let waits = copied(alloc, waits)?;
+    Board::new(alloc, begun, waits)
+}
+
 /// A board for the jobs that are left: it begins at the front's state, and the jobs that are
 /// committed count as settled.
 fn board_for_rest<R: Wait, S: Spec>(
@@ -270,8 +291,7 @@ fn board_for_rest<R: Wait, S: Spec>(
     requires few { length waits.now < 2 ^ 32 }
     requires lower { (j : ℕ) → All (λ k. k < j) (slice_index_or waits.now j []) }
 {
-    let begun = front.state().copy(alloc)?;
-    let shared = Shared::new(Board::new(alloc, begun, copied(alloc, waits)?)?);
+    let shared = Shared::new(board_at(alloc, front, waits)?);
     for (job, outcome) in (0..=u32::MAX).zip(front.state().outcomes.items()) {
         settle_committed(rt, alloc, &shared, job, outcome)?;
     }

@@ -11,5 +11,5 @@ returns-in_err-notes-clause-builds g c =
 
 pub returns-clause-builds : goal.returns-clause-builds
 returns-clause-builds g c =
-    builds _ _ _ _ _ _ _ _ _ _ _ _ _ _ _ c.requires.numbered (rw c.in_ok-front.ensures at c.in_ok-notes.ensures.commits) c.in_ok-notes.ensures.last (λ one. c.in_ok-notes.ensures.once)
+    builds _ _ _ _ _ _ _ _ _ _ _ _ _ _ _ (rw c.in_ok-front.ensures at c.in_ok-notes.ensures.commits) c.in_ok-notes.ensures.last (λ one. c.in_ok-notes.ensures.once)
     c.close-state.ensures.state (c.from_vec-fuel.ensures ∙ c.close-state.ensures.fuel) refl

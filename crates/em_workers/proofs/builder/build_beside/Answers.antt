@@ -15,7 +15,7 @@ returns-in_err-notes-clause-builds g c =
 
 pub returns-clause-builds : goal.returns-clause-builds
 returns-clause-builds g c =
-    builds _ _ _ _ _ _ _ _ _ _ _ _ _ _ _ c.requires.numbered (rw c.in_ok-front.ensures at c.in_ok-notes.ensures.commits) c.in_ok-notes.ensures.last
+    builds _ _ _ _ _ _ _ _ _ _ _ _ _ _ _ (rw c.in_ok-front.ensures at c.in_ok-notes.ensures.commits) c.in_ok-notes.ensures.last
     (λ one. absurd (let many = c.requires.workers in omega (arith, one, many)))
     c.close-state.ensures.state (c.from_vec-fuel.ensures ∙ c.close-state.ensures.fuel) refl
 

@@ -1,12 +1,12 @@
 use Rattle.std.proofs.Common.{None, refl}
-use Rattle.em_workers.proofs.Committing.{commits_none, commits_want, commits_then, commits_both, commits_out, as_err}
+use Rattle.em_workers.proofs.Committing.{commits_none, commits_idle, commits_then, commits_both, commits_out, as_err}
 use Rattle.em_workers.proofs.phases.commit_round.Goals as goal
 
 pub returns-then-is_none-clause-commits : goal.returns-then-is_none-clause-commits
 returns-then-is_none-clause-commits g c = rw c.new.ensures (commits_none _ _ _ _ _ None _ _)
 
 pub returns-in_err-shared-clause-commits : goal.returns-in_err-shared-clause-commits
-returns-in_err-shared-clause-commits g c = commits_want _ _ _ _ _ _ _ _ None None None _ c.from_residual.ensures.1 refl (tt {0})
+returns-in_err-shared-clause-commits g c = commits_idle _ _ _ _ _ _ _ _ None _ c.from_residual.ensures.1 refl
 
 pub returns-in_err-notes-clause-commits : goal.returns-in_err-notes-clause-commits
 returns-in_err-notes-clause-commits g c = as_err _ _ _ _ _ _ _ _ _ _ _ _ _ _ c.from_residual-in_err-notes.ensures.1 c.in_err-notes.ensures.commits

@@ -11,9 +11,9 @@ begin-requires-clause-can g c =
     let L : Seen g.row.S.Denot → Type 0 = λ b. c.args.job < length b.phases in
     let N : Seen g.row.S.Denot → Type 0 = λ b. c.args.job ≡ (told b).settled in
     let lt = subst L (sym c.self.view_is) c.requires.job in
-    let next = subst N (sym c.self.view_is) c.requires.next ∙ ap (λ (r : Replay). r.settled) c.self.invariant.replayed in
+    let next = subst N (sym c.self.view_is) c.requires.next ∙ ap (λ (r : Replay). r.settled) c.self.invariant.0.replayed in
     let at = read_at c.self.inside.phases.items c.args.job c.index.result.now lt c.index.ensures ∙ ap (λ (p : Phase g.row.S.Denot). Some p) c.in-Free.is in
-    rw (← c.self.view_is) (front_can _ c.self.invariant c.args.job next at)
+    rw (← c.self.view_is) (front_can _ c.self.invariant.0 c.args.job next at)
 
 pub returns-clause-free : goal.returns-clause-free
 returns-clause-free g c =

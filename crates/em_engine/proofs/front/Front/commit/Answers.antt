@@ -21,4 +21,5 @@ invariant_of-self-2 g c =
           ∙ ap (λ (k : ℕ). cond (is_among p (keys c.args.run.delta)) (Some k) (flat (get c.make_room.new.changed p))) job
           ∙ ap (λ (o : Option ℕ). cond (is_among p (keys c.args.run.delta)) (Some (length c.self.inside.deltas.items)) o) (c.make_room.ensures.same p ∙ c.self.invariant.1 p)
           ∙ sym (named_more c.self.inside.deltas.items c.args.run.delta p),
+      c.self.invariant.2,
     )
