@@ -99,6 +99,7 @@ module _ (start : State) (waits : List (List ℕ)) where
       by_event : All (λ x. ends j x ≡ false) es → ((slice_get r.stages j ≡ Some stage.Claimed) × (ends j e ≡ false)) ⊎ (e ≡ event.Claim j) → Runs j r (e ∷ es)
       by_event none (inl (at, not)) = inl (at, All-cons (λ x. ends j x ≡ false) e es not none)
       by_event none (inr is) = inr (record { before = []; behind = es; all = ap (λ (x : Event). x ∷ es) is; none = none })
+
       by_rest : Runs j (after r e) es → Runs j r (e ∷ es)
       by_rest (inl (at, none)) = by_event none (claimed_by j r e legal.0 at)
       by_rest (inr was) = inr (record { before = e ∷ was.before; behind = was.behind; all = ap (λ (xs : List Event). e ∷ xs) was.all; none = was.none })
@@ -131,6 +132,7 @@ module _ (start : State) (waits : List (List ℕ)) where
       by_event : IsTrue (is_over (slice_get r.stages j)) ⊎ (ends j e ≡ true) → IsTrue (is_over (slice_get r.stages j)) ⊎ HasEnded j (e ∷ es)
       by_event (inl was) = inl was
       by_event (inr is) = inr (record { before = []; end = e; behind = es; all = refl; is = is })
+
       by_rest : IsTrue (is_over (slice_get (after r e).stages j)) ⊎ HasEnded j es → IsTrue (is_over (slice_get r.stages j)) ⊎ HasEnded j (e ∷ es)
       by_rest (inl at) = by_event (over_by j r e legal.0 at)
       by_rest (inr was) = inr (record { before = e ∷ was.before; end = was.end; behind = was.behind; all = ap (λ (xs : List Event). e ∷ xs) was.all; is = was.is })

@@ -78,6 +78,7 @@ module _ {S : Type 0} (job_of : S → ℕ) where
       run_in : Parts S → Phase S → Parts S
       run_in r (phase.Posted t) = t
       run_in r _ = r
+
       same_run : {ps : Posts} (s r : Parts S) → phase.Posted s ≡ phase.Posted r → IsTied job_of ps j r → IsTied job_of ps j s
       same_run {ps} s r e t = subst (λ (x : Parts S). IsTied job_of ps j x) (sym (ap (run_in r) e)) t
 

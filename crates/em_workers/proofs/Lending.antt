@@ -191,6 +191,7 @@ module _ {S : Type 0} (job_of : S → ℕ) where
     where
       left : y.lends ≡ drop (length ms) x.lends
       left = p.left ∙ ap (λ (n : ℕ). drop n x.lends) p.exact
+
       by_few : (q.asks ≡ length os) ⊎ (q.asks ≡ length os + 1) → (length ms + q.asks ≡ length (ms ++ os)) ⊎ (length ms + q.asks ≡ length (ms ++ os) + 1)
       by_few (inl e) = inl (omega (arith, e, length-append ms os))
       by_few (inr e) = inr (omega (arith, e, length-append ms os))
