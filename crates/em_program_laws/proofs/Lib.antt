@@ -1,0 +1,6 @@
+mod Courses
+mod Parts
+mod Leaving
+mod Replacing
+mod Heading
+mod Showing
