@@ -33,8 +33,8 @@ pub fn law_rm()
         → get (tree_seen s (removed s w d force recursive n name p).1) p ≡ None }
 {}
 
-/// A file that `cp` has copied without a fault has the source's bytes, and all else has the kind and
-/// the bytes that it had. Of stamps the law says nothing.
+/// A file that `cp` has copied without a fault has the source's bytes, and all else has the kind
+/// and the bytes that it had. Of stamps the law says nothing.
 pub fn law_cp()
     ensures bytes { (s : State) (w : Workspace) (d : Done) (from to p q : List ℕ) (r : _)
         → (copied s w d from to p q).0 ≡ Ok r
