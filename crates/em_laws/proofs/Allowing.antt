@@ -155,8 +155,10 @@ module _ (s : State) (w : Workspace) where
       (n.0, dir_above t (parent_text p) n.1, n.2)
 
   pub put_ok : (p bytes : List ℕ) → ((put p bytes (snapshot s) w).0 ≡ Ok tt) ↔ (MayPut t p (length bytes) × HasFuel (length bytes) w)
-  put_ok p bytes = (λ e. (let r = (ended (put p bytes (snapshot s) w) tt (put_ends s w p bytes) e).0 in (raw_put p bytes r.0, enough (length bytes) w.fuel r.1)),
-      λ h. comes_unit (put p bytes (snapshot s) w) (put_ends s w p bytes) (put_raw p bytes h.0, enough_back (length bytes) w.fuel h.1))
+  put_ok p bytes = (
+    λ e. (let r = (ended (put p bytes (snapshot s) w) tt (put_ends s w p bytes) e).0 in (raw_put p bytes r.0, enough (length bytes) w.fuel r.1)),
+    λ h. comes_unit (put p bytes (snapshot s) w) (put_ends s w p bytes) (put_raw p bytes h.0, enough_back (length bytes) w.fuel h.1),
+  )
 
   pub put_changed : (p bytes : List ℕ) → (put p bytes (snapshot s) w).0 ≡ Ok tt → Changed s w p (Some (File bytes (next s w))) (stamped (kind_of (get t p)) (parent_text p)) (blocks (length bytes)) (put p bytes (snapshot s) w).1
   put_changed p bytes e = (ended (put p bytes (snapshot s) w) tt (put_ends s w p bytes) e).1
@@ -178,8 +180,10 @@ module _ (s : State) (w : Workspace) where
   -- ---- place
 
   pub place_ok : (p bytes : List ℕ) (stamp : ℕ) → ((place p bytes stamp (snapshot s) w).0 ≡ Ok tt) ↔ (MayPut t p (length bytes) × HasFuel (length bytes) w)
-  place_ok p bytes stamp = (λ e. (let r = (ended (place p bytes stamp (snapshot s) w) tt (place_ends s w p bytes stamp) e).0 in (raw_put p bytes r.0, enough (length bytes) w.fuel r.1)),
-      λ h. comes_unit (place p bytes stamp (snapshot s) w) (place_ends s w p bytes stamp) (put_raw p bytes h.0, enough_back (length bytes) w.fuel h.1))
+  place_ok p bytes stamp = (
+    λ e. (let r = (ended (place p bytes stamp (snapshot s) w) tt (place_ends s w p bytes stamp) e).0 in (raw_put p bytes r.0, enough (length bytes) w.fuel r.1)),
+    λ h. comes_unit (place p bytes stamp (snapshot s) w) (place_ends s w p bytes stamp) (put_raw p bytes h.0, enough_back (length bytes) w.fuel h.1),
+  )
 
   pub place_changed : (p bytes : List ℕ) (stamp : ℕ) → (place p bytes stamp (snapshot s) w).0 ≡ Ok tt → Changed s w p (Some (File bytes stamp)) (parent_text p) (blocks (length bytes)) (place p bytes stamp (snapshot s) w).1
   place_changed p bytes stamp e = (ended (place p bytes stamp (snapshot s) w) tt (place_ends s w p bytes stamp) e).1
@@ -203,8 +207,10 @@ module _ (s : State) (w : Workspace) where
   raw_make p free = let n = dir_none (kind_of (get t p)) (option_map (λ q. kind_of (get t q)) (parent_text p)) free in (n.0, dir_above t (parent_text p) n.1)
 
   pub make_ok : (p : List ℕ) → ((make_dir p (snapshot s) w).0 ≡ Ok tt) ↔ (MayMake t p × HasFuel 0 w)
-  make_ok p = (λ e. (let r = (ended (make_dir p (snapshot s) w) tt (make_ends s w p) e).0 in (raw_make p r.0, one w.fuel r.1)),
-      λ h. comes_unit (make_dir p (snapshot s) w) (make_ends s w p) (make_raw p h.0, one_back w.fuel h.1))
+  make_ok p = (
+    λ e. (let r = (ended (make_dir p (snapshot s) w) tt (make_ends s w p) e).0 in (raw_make p r.0, one w.fuel r.1)),
+    λ h. comes_unit (make_dir p (snapshot s) w) (make_ends s w p) (make_raw p h.0, one_back w.fuel h.1),
+  )
 
   pub make_changed : (p : List ℕ) → (make_dir p (snapshot s) w).0 ≡ Ok tt → Changed s w p (Some (Dir (next s w))) (parent_text p) 0 (make_dir p (snapshot s) w).1
   make_changed p e = (ended (make_dir p (snapshot s) w) tt (make_ends s w p) e).1
@@ -246,8 +252,10 @@ module _ (s : State) (w : Workspace) where
       ∙ ap (λ (ks : List (List ℕ)). names_refusal (Some (filter_map last_of ks))) (sym (none_below p bare))
 
   pub remove_ok : (p : List ℕ) → AreWhole s w → ((remove p (snapshot s) w).0 ≡ Ok tt) ↔ (MayRemove t p × HasFuel 0 w)
-  remove_ok p whole = (λ e. (let r = (ended (remove p (snapshot s) w) tt (remove_ends s w p) e).0 in ((r.1, r.0, bare_by p (kind_of (get t p)) whole r refl), one w.fuel r.3)),
-      λ h. comes_unit (remove p (snapshot s) w) (remove_ends s w p) (h.0.1, h.0.0, bare_names p whole h.0.2, one_back w.fuel h.1))
+  remove_ok p whole = (
+    λ e. (let r = (ended (remove p (snapshot s) w) tt (remove_ends s w p) e).0 in ((r.1, r.0, bare_by p (kind_of (get t p)) whole r refl), one w.fuel r.3)),
+    λ h. comes_unit (remove p (snapshot s) w) (remove_ends s w p) (h.0.1, h.0.0, bare_names p whole h.0.2, one_back w.fuel h.1),
+  )
 
   pub remove_taken : (p : List ℕ) → (remove p (snapshot s) w).0 ≡ Ok tt → IsTaken s w p tt (remove p (snapshot s) w).1
   remove_taken p e = (ended (remove p (snapshot s) w) tt (remove_ends s w p) e).1
@@ -265,8 +273,10 @@ module _ (s : State) (w : Workspace) where
   -- ---- touch
 
   pub touch_ok : (p : List ℕ) → ((touch p (snapshot s) w).0 ≡ Ok tt) ↔ (MayTouch t p × HasFuel 0 w)
-  touch_ok p = (λ e. (let r = (ended (touch p (snapshot s) w) tt (touch_ends s w p) e).0 in (r.0, one w.fuel r.1)),
-      λ h. comes_unit (touch p (snapshot s) w) (touch_ends s w p) (h.0, one_back w.fuel h.1))
+  touch_ok p = (
+    λ e. (let r = (ended (touch p (snapshot s) w) tt (touch_ends s w p) e).0 in (r.0, one w.fuel r.1)),
+    λ h. comes_unit (touch p (snapshot s) w) (touch_ends s w p) (h.0, one_back w.fuel h.1),
+  )
 
   pub touch_made : (p : List ℕ) → (touch p (snapshot s) w).0 ≡ Ok tt → IsTouched s w p tt (touch p (snapshot s) w).1
   touch_made p e = (ended (touch p (snapshot s) w) tt (touch_ends s w p) e).1
