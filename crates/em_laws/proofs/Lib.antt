@@ -16,3 +16,7 @@ mod Listing
 mod Copying
 mod Ending
 mod Commanding
+mod Calling
+mod Answering
+mod Allowing
+mod Numbering

@@ -8,3 +8,4 @@ pub mod Joined
 pub mod Expanded
 pub mod Nodes
 pub mod Files
+pub mod Calls

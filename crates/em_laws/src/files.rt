@@ -33,8 +33,8 @@ pub fn law_rm()
         → get (tree_seen s (removed s w d force recursive n name p).1) p ≡ None }
 {}
 
-/// A file that `cp` has copied without a fault has the source's bytes, and nothing else has changed
-/// but the stamp of its directory.
+/// A file that `cp` has copied without a fault has the source's bytes, and all else has the kind
+/// and the bytes that it had. Of stamps the law says nothing.
 pub fn law_cp()
     ensures bytes { (s : State) (w : Workspace) (d : Done) (from to p q : List ℕ) (r : _)
         → (copied s w d from to p q).0 ≡ Ok r
@@ -46,7 +46,7 @@ pub fn law_cp()
 {}
 
 /// A file that `mv` has moved without a fault is at its new place, with its bytes and its stamp,
-/// and no longer at the old one; nothing else has changed but the stamps of the two directories.
+/// and no longer at the old one; all else has the kind and the bytes that it had.
 pub fn law_mv()
     ensures bytes { (s : State) (w : Workspace) (d : Done) (from to p q : List ℕ) (r : _)
         → IsTree (tree_seen s w) → p ≢ q → (moved s w d from to p q).0 ≡ Ok r
@@ -66,8 +66,9 @@ pub fn law_mv()
 {}
 
 /// What `touch` has touched without a fault is an empty file where nothing was, and else keeps its
-/// kind and its bytes; its stamp is above all stamps. Nothing else changes but stamps; with `-c`
-/// what is absent stays so.
+/// kind and its bytes. Where no stamp was above the number of the last change, its stamp is above
+/// all that were there. All else has the kind and the bytes that it had; with `-c` what is absent
+/// stays so.
 pub fn law_touch()
     ensures made { (s : State) (w : Workspace) (d : Done) (name p : List ℕ) (r : _)
         → (touched s w d true name p).0 ≡ Ok r → kind_of (get (tree_seen s w) p) ≡ kinds.Absent
@@ -88,8 +89,8 @@ pub fn law_touch()
         → tree_seen s (touched s w d false name p).1 ≡ tree_seen s w }
 {}
 
-/// What `rmdir` has removed without a fault was a directory that held nothing, and isn't there;
-/// nothing else changes but stamps.
+/// What `rmdir` has removed without a fault was a directory that held nothing, and isn't there; all
+/// else has the kind and the bytes that it had.
 pub fn law_rmdir()
     ensures empty { (s : State) (w : Workspace) (d : Done) (name p : List ℕ) (r : _)
         → AreWhole s w → (unmade s w d name p).0 ≡ Ok r
@@ -104,8 +105,9 @@ pub fn law_rmdir()
 
 /// Where the command `cp -r` has had no fault, and its source isn't below the target, all that
 /// stood at the source and below it stands at the target and below it, beside what stood only
-/// there, and nothing else has changed but stamps. In a directory the target is what has the
-/// source's last name, or, of a source that was named with a `.` at the end, the directory itself.
+/// there, with its kind and its bytes, and all else has the kind and the bytes that it had. In a
+/// directory the target is what has the source's last name, or, of a source that was named with a
+/// `.` at the end, the directory itself.
 pub fn law_cp_tree()
     ensures { (s : State) (w : Workspace) (cwd from to : List ℕ) (d : Done) → AreWhole s w
         → IsPath cwd → (utility (codes "cp" ∷ codes "-r" ∷ codes "--" ∷ from ∷ to ∷ []) cwd
@@ -117,7 +119,7 @@ pub fn law_cp_tree()
 {}
 
 /// Where `mkdir -p` has had no fault, its operand is a directory, and so is each path above it;
-/// what was there is as it was, and nothing else has come.
+/// what was there has the kind and the bytes that it had, and nothing else has come.
 pub fn law_mkdir_all()
     ensures dirs { (s : State) (w : Workspace) (d : Done) (name p : List ℕ) (r : _)
         → IsTree (tree_seen s w) → IsPath p → (made_all s w d name p).0 ≡ Ok r
