@@ -1,13 +1,14 @@
 -- Recipes: the automatic variables by name, names without doubles, marks, commands.
-use Rattle.std.proofs.Common.{◌≡◌, ◌≢◌, ◌∙◌, ℕ, zero, suc, ◌+◌, ◌-◌, ◌==◌, ◌⊎◌, ◌&&◌, ◌||◌, Bool, true, false, not, cond, eqb, List, [], ◌∷◌, ◌++◌, length, take, drop, reverse, map, get_or, All, Contains, Option, Some, None, codes, inl, inr, arith, refl, sym, ap, subst, append_assoc, append-nil, one-add}
+use Rattle.std.proofs.Common.{◌≡◌, ◌≢◌, ◌∙◌, ℕ, zero, suc, ◌+◌, ◌-◌, ◌<◌, ◌==◌, ◌⊎◌, ◌&&◌, ◌||◌, Bool, true, false, not, cond, eqb, List, [], ◌∷◌, ◌++◌, length, take, drop, reverse, map, get_or, All, Contains, Option, Some, None, codes, inl, inr, arith, refl, sym, ap, subst, append_assoc, append-nil, one-add}
 use Rattle.std.specs.Prelude.{nat_lt}
-use Rattle.std.specs.List.{AllByRecursion, filter, list_all, list_any, prefix_len, suffix_len}
+use Rattle.std.specs.List.{AllByRecursion, filter, list_all, list_any, after_last, prefix_len, suffix_len}
 use Rattle.std.specs.Str.{bytes_eq}
 use Rattle.std.proofs.lemmas.Bool.{eqb-true, eq-eqb, ne_eqb, lt-ltb}
 use Rattle.std.proofs.lemmas.List.{take_at, drop_at, length-append, reverse-append, length-reverse, map-append}
 use Rattle.std.proofs.lemmas.List.Elements.{recursion_from_All, filter-append, Contains-get_or}
 use Rattle.std.proofs.lemmas.List.Folds.{list_all-append, list_any_at, list_any_none}
 use Rattle.std.proofs.lemmas.Slice.Eq.{bytes_eq-Decides}
+use Rattle.em_base.specs.Blanks.{is_blank}
 use Rattle.em_base.proofs.Lemmas.{by_cases, prefix_until}
 use Rattle.em_wordlist.specs.Words.{words_of, joined}
 use Rattle.em_namefn.specs.Names.{file_of}
