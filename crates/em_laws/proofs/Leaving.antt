@@ -92,8 +92,12 @@ module _ (s : State) where
         let whole = one.2 ∙ here in
         let put_ok = at_ok b.name (put q z.0) z.1 mid r (sym (ap (λ (o : Ran (Unit {0})). o.0) whole) ∙ e) in
         record {
-          bytes = z.0; had = sym (content_says s w p (Some z.0) read); mid = mid; asked = (content_cost s w p (Some z.0) read).2;
-          done = put_ok; left = ap (λ (o : Ran (Unit {0})). o.1) whole ∙ at_left b.name (put q z.0) z.1 mid;
+          bytes = z.0;
+          had = sym (content_says s w p (Some z.0) read);
+          mid = mid;
+          asked = (content_cost s w p (Some z.0) read).2;
+          done = put_ok;
+          left = ap (λ (o : Ran (Unit {0})). o.1) whole ∙ at_left b.name (put q z.0) z.1 mid;
         }
 
     same_bytes : (a b : List ℕ) (o : Option (List ℕ)) → o ≡ Some a → o ≡ Some b → a ≡ b
@@ -162,10 +166,16 @@ module _ (s : State) where
         let gone = at_ok a.name (remove p) x.1 w3 r (sym (ap (λ (o : Ran (Unit {0})). o.0) whole3) ∙ e) in
         let t = same_tree w w1 asked1 in
         record {
-          bytes = z.0; stamp = y.0; had = sym (content_says s w p (Some z.0) read);
+          bytes = z.0;
+          stamp = y.0;
+          had = sym (content_says s w p (Some z.0) read);
           was = sym (stamp_says s w1 p (Some y.0) told ∙ ap (λ (u : Table). stamp_of (get u p)) t);
-          mid = w2; same = same_tree w1 w2 asked2 ∙ t; number = same_next w1 w2 asked2 ∙ same_next w w1 asked1;
-          done = placed; gone = gone; left = ap (λ (o : Ran (Unit {0})). o.1) whole3 ∙ at_left a.name (remove p) x.1 w3;
+          mid = w2;
+          same = same_tree w1 w2 asked2 ∙ t;
+          number = same_next w1 w2 asked2 ∙ same_next w w1 asked1;
+          done = placed;
+          gone = gone;
+          left = ap (λ (o : Ran (Unit {0})). o.1) whole3 ∙ at_left a.name (remove p) x.1 w3;
         }
 
     pub mv_tree : (bytes : List ℕ) (stamp : ℕ) (old new : List ℕ) → get (tree_seen s w) p ≡ Some (File bytes stamp) → parent_text p ≡ Some old → parent_text q ≡ Some new
@@ -201,7 +211,9 @@ module _ (s : State) where
       let mid = (kind_at p (snapshot s) w).1 in
       let told = at_ok name (kind_at p) d w z one.1 in
       record {
-        mid = mid; done = z.1; asked = (kind_cost s w p z.0 told).2;
+        mid = mid;
+        done = z.1;
+        asked = (kind_cost s w p z.0 told).2;
         goes = one.2 ∙ ap (λ (u : Workspace). k z.0 z.1 (snapshot s) u) (at_left name (kind_at p) d w) ∙ ap (λ (x : Kind). k x z.1 (snapshot s) mid) (kind_says s w p z.0 told);
       }
 

@@ -244,9 +244,10 @@ module _ (s : State) (low : IsTree s.tree) where
   taken_spares p above d x n (whole, paths) up there bare is =
       let some = some_there s d (node_there s d p) there in
       let path = whole.paths p some in
-      let dir = whole.paths above (dir_some (node_there s d above) (whole.parents p above some up)) in
-      (subst Good (sym is) (tree_remove s.tree d p above n whole up some bare, paths_becomes p None (Some above) n d paths path dir),
-      λ k apart. ap (λ (c : Changes). node_there s c k) is ∙ elsewhere_else s.tree d p None above n k (λ e. apart.0 (under_self p k path e)) (λ e. apart.1 (up ∙ ap Some (sym e))))
+      let dir = whole.paths above (dir_some (node_there s d above) (whole.parents p above some up)) in (
+        subst Good (sym is) (tree_remove s.tree d p above n whole up some bare, paths_becomes p None (Some above) n d paths path dir),
+        λ k apart. ap (λ (c : Changes). node_there s c k) is ∙ elsewhere_else s.tree d p None above n k (λ e. apart.0 (under_self p k path e)) (λ e. apart.1 (up ∙ ap Some (sym e))),
+      )
 
   remove_spares : (p : List ℕ) (w : Workspace) → Spares p w.changes (remove p (snapshot s) w).1.changes
   remove_spares p w good = elim (remove_ends s w p).it as (λ _. Good (remove p (snapshot s) w).1.changes × ((k : List ℕ) → Apart p k → node_there s (remove p (snapshot s) w).1.changes k ≡ node_there s w.changes k)) [
@@ -278,10 +279,14 @@ module _ (s : State) (low : IsTree s.tree) where
   -- what stands apart from a path stands apart from what is in it
   child_apart : (ps : Names) (c k : List ℕ) → AllC ps → IsComponent c → Apart (path_text ps) k → Apart (path_text (ps ++ c ∷ [])) k
   child_apart ps c k all name apart =
-      let whole = allc_both ps (c ∷ []) all (name, tt) in
-      (λ h. apart.0 (c ∷ h.0, All-from_recursion IsComponent (c ∷ h.0) (name, recursion_from_All IsComponent h.0 h.1),
-      h.2 ∙ ap (λ (us : Names). path_text (us ++ h.0)) (spells (ps ++ c ∷ []) whole) ∙ ap path_text (one_more ps c h.0) ∙ ap (λ (us : Names). path_text (us ++ c ∷ h.0)) (sym (spells ps all))),
-      λ up. apart.0 ([], All-from_recursion IsComponent [] tt, (let same : path_text ps ≡ k = (let z : Some (path_text ps) ≡ Some k = sym (parent_path ps c whole) ∙ up in cc) in sym same ∙ ap path_text (sym (append-nil ps)) ∙ ap (λ (us : Names). path_text (us ++ [])) (sym (spells ps all)))))
+      let whole = allc_both ps (c ∷ []) all (name, tt) in (
+        λ h. apart.0 (
+          c ∷ h.0,
+          All-from_recursion IsComponent (c ∷ h.0) (name, recursion_from_All IsComponent h.0 h.1),
+          h.2 ∙ ap (λ (us : Names). path_text (us ++ h.0)) (spells (ps ++ c ∷ []) whole) ∙ ap path_text (one_more ps c h.0) ∙ ap (λ (us : Names). path_text (us ++ c ∷ h.0)) (sym (spells ps all)),
+        ),
+        λ up. apart.0 ([], All-from_recursion IsComponent [] tt, (let same : path_text ps ≡ k = (let z : Some (path_text ps) ≡ Some k = sym (parent_path ps c whole) ∙ up in cc) in sym same ∙ ap path_text (sym (append-nil ps)) ∙ ap (λ (us : Names). path_text (us ++ [])) (sym (spells ps all)))),
+      )
 
   child_spares : (p q : List ℕ) (ps : Names) (c : List ℕ) → p ≡ path_text ps → q ≡ path_text (ps ++ c ∷ []) → AllC ps → IsComponent c → (d x : Changes) → Spares q d x → Spares p d x
   child_spares p q ps c is be all name d x h good =
