@@ -83,11 +83,11 @@ diverge_found (x ∷ xs) (y ∷ ys) h g = same_key_or x y (Diverge (x ∷ xs) (y
 abbrev pub AllC : Names → Type 0
 AllC cs = AllByRecursion IsComponent cs
 
-allc_both : (xs ys : Names) → AllC xs → AllC ys → AllC (xs ++ ys)
+pub allc_both : (xs ys : Names) → AllC xs → AllC ys → AllC (xs ++ ys)
 allc_both [] ys a b = b
 allc_both (x ∷ xs) ys a b = (a.0, allc_both xs ys a.1 b)
 
-allc_front : (xs ys : Names) → AllC (xs ++ ys) → AllC xs
+pub allc_front : (xs ys : Names) → AllC (xs ++ ys) → AllC xs
 allc_front [] ys a = tt
 allc_front (x ∷ xs) ys a = (a.0, allc_front xs ys a.1)
 
@@ -95,13 +95,13 @@ allc_back : (xs ys : Names) → AllC (xs ++ ys) → AllC ys
 allc_back [] ys a = a
 allc_back (x ∷ xs) ys a = allc_back xs ys a.1
 
-spells : (cs : Names) → AllC cs → components (path_text cs) ≡ cs
+pub spells : (cs : Names) → AllC cs → components (path_text cs) ≡ cs
 spells cs a = components-path_text cs (All-from_recursion IsComponent cs a)
 
 spell_apart : (xs ys : Names) → AllC xs → AllC ys → Diverge xs ys → path_text xs ≢ path_text ys
 spell_apart xs ys a b h e = diverge_apart xs ys h (sym (spells xs a) ∙ ap components e ∙ spells ys b)
 
-one_more : (xs : Names) (x : List ℕ) (ys : Names) → (xs ++ x ∷ []) ++ ys ≡ xs ++ x ∷ ys
+pub one_more : (xs : Names) (x : List ℕ) (ys : Names) → (xs ++ x ∷ []) ++ ys ≡ xs ++ x ∷ ys
 one_more xs x ys = append_assoc xs (x ∷ []) ys
 
 -- ---- what stands above and below
@@ -110,7 +110,7 @@ parent_push : (xs : Names) (x : List ℕ) → parent_of (xs ++ x ∷ []) ≡ Som
 parent_push [] x = refl
 parent_push (y ∷ ys) x = ap (λ (zs : Names). Some (path_text zs)) (let n : length (ys ++ x ∷ []) ≡ length (y ∷ ys) = omega (arith, length_push ys x) in ap (λ k. take k (y ∷ ys ++ x ∷ [])) n ∙ take_at (y ∷ ys) (x ∷ []) (length (y ∷ ys)) refl)
 
-parent_path : (xs : Names) (x : List ℕ) → AllC (xs ++ x ∷ []) → parent_text (path_text (xs ++ x ∷ [])) ≡ Some (path_text xs)
+pub parent_path : (xs : Names) (x : List ℕ) → AllC (xs ++ x ∷ []) → parent_text (path_text (xs ++ x ∷ [])) ≡ Some (path_text xs)
 parent_path xs x a = ap parent_of (spells (xs ++ x ∷ []) a) ∙ parent_push xs x
 
 last_push : (xs : Names) (x : List ℕ) → slice_get (xs ++ x ∷ []) (length xs) ≡ Some x
@@ -120,15 +120,15 @@ last_push (y ∷ ys) x = last_push ys x
 last_path : (xs : Names) (x : List ℕ) → AllC (xs ++ x ∷ []) → last_of (path_text (xs ++ x ∷ [])) ≡ Some x
 last_path xs x a = ap (λ (cs : Names). slice_get cs (length cs - 1)) (spells (xs ++ x ∷ []) a) ∙ ap (slice_get (xs ++ x ∷ [])) (let n : length (xs ++ x ∷ []) - 1 ≡ length xs = omega (arith, length_push xs x) in n) ∙ last_push xs x
 
-dir_some : (a : Option Node) → kind_of a ≡ kind.Dir → IsSome a
+pub dir_some : (a : Option Node) → kind_of a ≡ kind.Dir → IsSome a
 dir_some None e = absurd cc
 dir_some (Some n) e = refl
 
-kind_some : (a : Option Node) → kind_of a ≢ kind.Absent → IsSome a
+pub kind_some : (a : Option Node) → kind_of a ≢ kind.Absent → IsSome a
 kind_some None h = absurd (h refl)
 kind_some (Some n) h = refl
 
-some_kind : (a : Option Node) → IsSome a → kind_of a ≢ kind.Absent
+pub some_kind : (a : Option Node) → IsSome a → kind_of a ≢ kind.Absent
 some_kind None h e = cc
 some_kind (Some (File body stamp)) h e = cc
 some_kind (Some (Dir stamp)) h e = cc
@@ -140,7 +140,7 @@ module _ (t : Table) (h : IsTree t) where
   dir_above : (front : Names) (x : List ℕ) → AllC (front ++ x ∷ []) → Stands (front ++ x ∷ []) → kind_of (get t (path_text front)) ≡ kind.Dir
   dir_above front x a i = h.parents (path_text (front ++ x ∷ [])) (path_text front) i (parent_path front x a)
 
-  stands_above : (rel front : Names) → AllC (front ++ rel) → Stands (front ++ rel) → Stands front
+  pub stands_above : (rel front : Names) → AllC (front ++ rel) → Stands (front ++ rel) → Stands front
   stands_above [] front a i = subst Stands (append-nil front) i
   stands_above (x ∷ xs) front a i =
       let all = subst AllC (sym (one_more front x xs)) a in

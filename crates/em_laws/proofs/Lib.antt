@@ -20,3 +20,5 @@ mod Calling
 mod Answering
 mod Allowing
 mod Numbering
+mod Leaving
+mod Sparing

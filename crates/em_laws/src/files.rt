@@ -1,15 +1,34 @@
 //! What the file utilities do to the tree that a job sees, on a state: each function's contract is
 //! the law, and its body is empty.
-ghost use Rattle.std.specs.Prelude.{◌≡◌, ◌≢◌, ◌⊎◌, ◌<◌, ℕ, true, false, List, [], ◌∷◌, codes, Ok, Some, None};
-ghost use Rattle.std.specs.FinMap.{get};
+ghost use Rattle.std.specs.Prelude.{
+  ◌≡◌,
+  ◌≢◌,
+  ◌⊎◌,
+  ◌<◌,
+  ℕ,
+  ◌+◌,
+  true,
+  false,
+  List,
+  [],
+  ◌∷◌,
+  codes,
+  Ok,
+  Some,
+  None,
+};
+ghost use Rattle.std.specs.FinMap as finite;
+ghost use Rattle.std.specs.FinMap.{get, insert};
 ghost use Rattle.em_path.specs.Paths.{IsPath, parent_text};
 ghost use Rattle.em_path.specs.Reading.{resolved_text};
 ghost use Rattle.em_tree.specs.declared.node.Kind.TheVariants as kinds;
+ghost use Rattle.em_tree.specs.declared.node.Node.TheVariants as nodes;
 ghost use Rattle.em_tree.specs.declared.state.State.{State};
 ghost use Rattle.em_tree.specs.Trees.{IsTree, kind_of, stamp_of, content_of};
 ghost use Rattle.em_view.specs.declared.done.Done.{Done};
 ghost use Rattle.em_view.specs.Actions.{Workspace, snapshot};
 ghost use Rattle.em_fileutil.specs.Utilities.{utility};
+ghost use Rattle.em_laws.specs.Calls.{next_number, with_stamp};
 ghost use Rattle.em_laws.specs.Files.{
   removed,
   copied,
@@ -24,29 +43,50 @@ ghost use Rattle.em_laws.specs.Files.{
   target,
   IsCopied,
 };
-ghost use Rattle.em_laws.specs.Nodes.{tree_seen, AreAlike, OthersStay};
+ghost use Rattle.em_laws.specs.Nodes.{tree_seen, AreAlike};
 
-/// What `rm` has removed without a fault isn't there, whatever it was.
+/// What `rm` has removed without a fault isn't there, whatever it was, and nothing is below it.
+/// Whatever faults it has, it changes nothing but what it was to remove and what is below that, and
+/// the directory above, which may get a stamp.
 pub fn law_rm()
-    ensures { (s : State) (w : Workspace) (d : Done) (force recursive : _) (n : ℕ)
+    ensures gone { (s : State) (w : Workspace) (d : Done) (force recursive : _) (n : ℕ)
         (name p : List ℕ) (r : _) → (removed s w d force recursive n name p).0 ≡ Ok r
         → get (tree_seen s (removed s w d force recursive n name p).1) p ≡ None }
+    ensures below { (s : State) (w : Workspace) (d : Done) (force recursive : _) (n : ℕ)
+        (name p : List ℕ) (r : _) (k : List ℕ) → AreWhole s w → IsPath p
+        → (removed s w d force recursive n name p).0 ≡ Ok r → IsUnder p k
+        → get (tree_seen s (removed s w d force recursive n name p).1) k ≡ None }
+    ensures others { (s : State) (w : Workspace) (d : Done) (force recursive : _) (n : ℕ)
+        (name p k : List ℕ) → AreWhole s w → IsPath p → ¬ IsUnder p k → parent_text p ≢ Some k
+        → get (tree_seen s (removed s w d force recursive n name p).1) k
+        ≡ get (tree_seen s w) k }
 {}
 
-/// A file that `cp` has copied without a fault has the source's bytes, and all else has the kind
-/// and the bytes that it had. Of stamps the law says nothing.
+/// A file that `cp` has copied without a fault has the source's bytes, and the number of the change
+/// as its stamp, which its directory gets, too, where the name is new. Nothing else has changed.
 pub fn law_cp()
     ensures bytes { (s : State) (w : Workspace) (d : Done) (from to p q : List ℕ) (r : _)
         → (copied s w d from to p q).0 ≡ Ok r
         → content_of (get (tree_seen s (copied s w d from to p q).1) q)
         ≡ content_of (get (tree_seen s w) p) }
-    ensures others { (s : State) (w : Workspace) (d : Done) (from to p q : List ℕ) (r : _)
-        → (copied s w d from to p q).0 ≡ Ok r
-        → OthersStay q (tree_seen s w) (tree_seen s (copied s w d from to p q).1) }
+    ensures new { (s : State) (w : Workspace) (d : Done) (from to p q : List ℕ) (r : _)
+        (bytes dir : List ℕ) → (copied s w d from to p q).0 ≡ Ok r
+        → content_of (get (tree_seen s w) p) ≡ Some bytes
+        → kind_of (get (tree_seen s w) q) ≡ kinds.Absent → parent_text q ≡ Some dir
+        → tree_seen s (copied s w d from to p q).1
+        ≡ insert (insert (tree_seen s w) q (nodes.File bytes (next_number w))) dir
+        (nodes.Dir (next_number w)) }
+    ensures over { (s : State) (w : Workspace) (d : Done) (from to p q : List ℕ) (r : _)
+        (bytes : List ℕ) → (copied s w d from to p q).0 ≡ Ok r
+        → content_of (get (tree_seen s w) p) ≡ Some bytes
+        → kind_of (get (tree_seen s w) q) ≢ kinds.Absent
+        → tree_seen s (copied s w d from to p q).1
+        ≡ insert (tree_seen s w) q (nodes.File bytes (next_number w)) }
 {}
 
 /// A file that `mv` has moved without a fault is at its new place, with its bytes and its stamp,
-/// and no longer at the old one; all else has the kind and the bytes that it had.
+/// and no longer at the old one. The directory of its new place has the number of the first change,
+/// that of its old place the number of the second one, and nothing else has changed.
 pub fn law_mv()
     ensures bytes { (s : State) (w : Workspace) (d : Done) (from to p q : List ℕ) (r : _)
         → IsTree (tree_seen s w) → p ≢ q → (moved s w d from to p q).0 ≡ Ok r
@@ -59,38 +99,39 @@ pub fn law_mv()
     ensures gone { (s : State) (w : Workspace) (d : Done) (from to p q : List ℕ) (r : _)
         → IsTree (tree_seen s w) → p ≢ q → (moved s w d from to p q).0 ≡ Ok r
         → get (tree_seen s (moved s w d from to p q).1) p ≡ None }
-    ensures others { (s : State) (w : Workspace) (d : Done) (from to p q : List ℕ) (r : _)
-        (k : List ℕ) → IsTree (tree_seen s w) → p ≢ q → (moved s w d from to p q).0 ≡ Ok r
-        → k ≢ p → k ≢ q → AreAlike (get (tree_seen s w) k)
-        (get (tree_seen s (moved s w d from to p q).1) k) }
+    ensures tree { (s : State) (w : Workspace) (d : Done) (from to p q : List ℕ) (r : _)
+        (bytes : List ℕ) (stamp : ℕ) (old new : List ℕ) → (moved s w d from to p q).0 ≡ Ok r
+        → get (tree_seen s w) p ≡ Some (nodes.File bytes stamp) → parent_text p ≡ Some old
+        → parent_text q ≡ Some new → tree_seen s (moved s w d from to p q).1
+        ≡ insert (finite.remove (insert (insert (tree_seen s w) q (nodes.File bytes stamp)) new
+        (nodes.Dir (next_number w))) p) old (nodes.Dir (next_number w + 1)) }
 {}
 
-/// What `touch` has touched without a fault is an empty file where nothing was, and else keeps its
-/// kind and its bytes. Where no stamp was above the number of the last change, its stamp is above
-/// all that were there. All else has the kind and the bytes that it had; with `-c` what is absent
-/// stays so.
+/// What `touch` has touched without a fault is an empty file where nothing was, whose directory
+/// gets the same stamp, and else the same node with the number of the change as its stamp, which is
+/// above all stamps. Nothing else changes; with `-c` what is absent stays so.
 pub fn law_touch()
-    ensures made { (s : State) (w : Workspace) (d : Done) (name p : List ℕ) (r : _)
-        → (touched s w d true name p).0 ≡ Ok r → kind_of (get (tree_seen s w) p) ≡ kinds.Absent
-        → content_of (get (tree_seen s (touched s w d true name p).1) p) ≡ Some [] }
-    ensures kept { (s : State) (w : Workspace) (d : Done) (create : _) (name p : List ℕ) (r : _)
-        → (touched s w d create name p).0 ≡ Ok r → kind_of (get (tree_seen s w) p) ≢ kinds.Absent
-        → AreAlike (get (tree_seen s w) p) (get (tree_seen s (touched s w d create name p).1) p) }
     ensures newest { (s : State) (w : Workspace) (d : Done) (create : _) (name p : List ℕ) (r : _)
         → AreOld s w → (touched s w d create name p).0 ≡ Ok r
         → (create ≡ true) ⊎ (kind_of (get (tree_seen s w) p) ≢ kinds.Absent) → (t : ℕ)
         × (stamp_of (get (tree_seen s (touched s w d create name p).1) p) ≡ Some t)
         × ((q : List ℕ) (n : ℕ) → stamp_of (get (tree_seen s w) q) ≡ Some n → n < t) }
-    ensures others { (s : State) (w : Workspace) (d : Done) (create : _) (name p : List ℕ) (r : _)
-        → (touched s w d create name p).0 ≡ Ok r
-        → OthersStay p (tree_seen s w) (tree_seen s (touched s w d create name p).1) }
     ensures none { (s : State) (w : Workspace) (d : Done) (name p : List ℕ) (r : _)
         → (touched s w d false name p).0 ≡ Ok r → kind_of (get (tree_seen s w) p) ≡ kinds.Absent
         → tree_seen s (touched s w d false name p).1 ≡ tree_seen s w }
+    ensures new { (s : State) (w : Workspace) (d : Done) (name p : List ℕ) (r : _) (dir : List ℕ)
+        → (touched s w d true name p).0 ≡ Ok r → kind_of (get (tree_seen s w) p) ≡ kinds.Absent
+        → parent_text p ≡ Some dir → tree_seen s (touched s w d true name p).1
+        ≡ insert (insert (tree_seen s w) p (nodes.File [] (next_number w))) dir
+        (nodes.Dir (next_number w)) }
+    ensures over { (s : State) (w : Workspace) (d : Done) (create : _) (name p : List ℕ) (r : _)
+        (node : _) → (touched s w d create name p).0 ≡ Ok r → get (tree_seen s w) p ≡ Some node
+        → tree_seen s (touched s w d create name p).1
+        ≡ insert (tree_seen s w) p (with_stamp (next_number w) node) }
 {}
 
-/// What `rmdir` has removed without a fault was a directory that held nothing, and isn't there; all
-/// else has the kind and the bytes that it had.
+/// What `rmdir` has removed without a fault was a directory that held nothing, and isn't there; the
+/// directory above has the number of the change, and nothing else changes.
 pub fn law_rmdir()
     ensures empty { (s : State) (w : Workspace) (d : Done) (name p : List ℕ) (r : _)
         → AreWhole s w → (unmade s w d name p).0 ≡ Ok r
@@ -98,9 +139,10 @@ pub fn law_rmdir()
         × ((q : List ℕ) → parent_text q ≡ Some p → get (tree_seen s w) q ≡ None) }
     ensures gone { (s : State) (w : Workspace) (d : Done) (name p : List ℕ) (r : _)
         → (unmade s w d name p).0 ≡ Ok r → get (tree_seen s (unmade s w d name p).1) p ≡ None }
-    ensures others { (s : State) (w : Workspace) (d : Done) (name p : List ℕ) (r : _)
-        → IsTree (tree_seen s w) → (unmade s w d name p).0 ≡ Ok r
-        → OthersStay p (tree_seen s w) (tree_seen s (unmade s w d name p).1) }
+    ensures tree { (s : State) (w : Workspace) (d : Done) (name p : List ℕ) (r : _)
+        (dir : List ℕ) → (unmade s w d name p).0 ≡ Ok r → parent_text p ≡ Some dir
+        → tree_seen s (unmade s w d name p).1
+        ≡ insert (finite.remove (tree_seen s w) p) dir (nodes.Dir (next_number w)) }
 {}
 
 /// Where the command `cp -r` has had no fault, and its source isn't below the target, all that
@@ -119,7 +161,9 @@ pub fn law_cp_tree()
 {}
 
 /// Where `mkdir -p` has had no fault, its operand is a directory, and so is each path above it;
-/// what was there has the kind and the bytes that it had, and nothing else has come.
+/// what was there is still there, and nothing else has come. Whatever faults it has, a node stays
+/// as it was, its stamp too, unless it or what stands right in it is a directory on the way that
+/// wasn't there.
 pub fn law_mkdir_all()
     ensures dirs { (s : State) (w : Workspace) (d : Done) (name p : List ℕ) (r : _)
         → IsTree (tree_seen s w) → IsPath p → (made_all s w d name p).0 ≡ Ok r
@@ -129,4 +173,8 @@ pub fn law_mkdir_all()
         → IsTree (tree_seen s w) → IsPath p → (made_all s w d name p).0 ≡ Ok r
         → (k : List ℕ) → (kind_of (get (tree_seen s w) k) ≢ kinds.Absent) ⊎ (¬ IsOver p k)
         → AreAlike (get (tree_seen s w) k) (get (tree_seen s (made_all s w d name p).1) k) }
+    ensures same { (s : State) (w : Workspace) (d : Done) (name p k : List ℕ) → IsPath p
+        → ((q : List ℕ) → IsOver p q → (q ≡ k) ⊎ (parent_text q ≡ Some k)
+        → kind_of (get (tree_seen s w) q) ≢ kinds.Absent)
+        → get (tree_seen s (made_all s w d name p).1) k ≡ get (tree_seen s w) k }
 {}

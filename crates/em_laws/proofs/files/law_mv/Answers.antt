@@ -1,4 +1,5 @@
-use Rattle.em_laws.proofs.Filing.{mv_bytes, mv_gone, mv_others, mv_stamp}
+use Rattle.em_laws.proofs.Filing.{mv_bytes, mv_gone, mv_stamp}
+use Rattle.em_laws.proofs.Leaving.{mv_tree_law}
 use Rattle.em_laws.proofs.files.law_mv.Goals as goal
 
 pub returns-clause-bytes : goal.returns-clause-bytes
@@ -10,5 +11,5 @@ returns-clause-stamp c = mv_stamp
 pub returns-clause-gone : goal.returns-clause-gone
 returns-clause-gone c = mv_gone
 
-pub returns-clause-others : goal.returns-clause-others
-returns-clause-others c = mv_others
+pub returns-clause-tree : goal.returns-clause-tree
+returns-clause-tree c = mv_tree_law
