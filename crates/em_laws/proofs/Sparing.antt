@@ -89,15 +89,15 @@ module _ (s : State) where
     unfolding own
     goes_gives r x w = self w.changes
 
-    goes_refuse : {A : Type 0} (e : OperandNo) → Goes T (steps.refuse {A = A} e)
+    goes_refuse : (e : OperandNo) → Goes T (steps.refuse {A = Unit {0}} e)
     unfolding steps.refuse
     goes_refuse e x w = self w.changes
 
-    goes_done : Goes T (steps.done {E = OperandNo} tt)
+    goes_done : Goes T (steps.done {E = OperandNo} (tt {0}))
     unfolding steps.done
     goes_done x w = self w.changes
 
-    goes_ran : Goes T (steps.done {E = ExecNo} tt)
+    goes_ran : Goes T (steps.done {E = ExecNo} (tt {0}))
     unfolding steps.done
     goes_ran x w = self w.changes
 
@@ -175,7 +175,7 @@ module _ (s : State) where
       (goes_kind (λ d y. y ≡ d) (λ d. refl) name q) (λ k. by_kind k)
     where
       by_kind : (k : Kind) → Goes (Makes q) (make_by name q k)
-      by_kind kind.Absent x w = make_makes q w
+      by_kind kind.Absent = λ x w. make_makes q w
       by_kind kind.File = goes_refuse (Makes q) (makes_self q) (Fault name (reason.File file.NotDir))
       by_kind kind.Dir = goes_done (Makes q) (makes_self q)
 
