@@ -324,6 +324,7 @@ filled c = nat_lt 0 (length c.text)
 
 kept_append : (front : Marks) (xs ys : List (List ℕ)) → kept front (xs ++ ys) ≡ kept front xs ++ kept front ys
 kept_append front xs ys = ap (filter filled) (map-append (command front) xs ys) ∙ filter-append filled (map (command front) xs) (map (command front) ys)
+
 pub commands_parted : (written a b : List ℕ) → ¬ EndsWith 92 a → commands_of written (a ++ 10 ∷ b) ≡ commands_of written a ++ commands_of written b
 unfolding commands_of split
 commands_parted written a b h = ap (kept (marks written)) (lines_parted [] false a b (open_end a h)) ∙ kept_append (marks written) (lines_from [] false a) (lines_from [] false b)

@@ -1,5 +1,5 @@
 //! The committer's side of a board.
-ghost use Rattle.std.specs.Prelude.{◌≡◌, ◌++◌, ◌∷◌, [], None, false, true, Option, All, IfSome, OnOk, OnErr, drop};
+ghost use Rattle.std.specs.Prelude.{◌≡◌, ◌&&◌, ◌++◌, ◌∷◌, [], None, false, true, Option, All, IfSome, OnOk, OnErr, drop};
 ghost use Rattle.std.specs.Vec.Iter.{into_iter_items};
 ghost use Rattle.em_shared.specs.Waited.{IsLent};
 ghost use Rattle.em_workers.specs.Lending.{Lending, Both, first_of, is_behind, Lends, Settles, Stops};
@@ -113,7 +113,7 @@ impl<S: Spec> Lender<S> for ScriptLender<S> {
     ghost told = { λ l. Some l };
 
     fn lend(&mut self, job: u32) -> Option<Taken<S>> {
-        self.in_order = self.in_order && is_behind(self.last, job);
+        self.in_order = goes_on(self.in_order, self.last, job);
         self.last = Some(job);
         first_of(&mut self.lends)
     }
@@ -141,6 +141,13 @@ fn is_behind(last: Option<u32>, job: u32) -> bool
         None => true,
         Some(last) => u64::from(job) == u64::from(last) + 1,
     }
+}
+
+/// Whether the jobs asked for are in order with this one, too.
+fn goes_on(in_order: bool, last: Option<u32>, job: u32) -> bool
+    ensures { result ≡ (in_order && is_behind last job) }
+{
+    in_order && is_behind(last, job)
 }
 
 /// Takes the first item out. None also where there is none left.
