@@ -13,7 +13,7 @@ use Rattle.em_host.specs.Outside.{Files}
 use Rattle.em_host.specs.Calls.{printed_by}
 use Rattle.em_tree.specs.declared.outcome.Outcome.{Outcome}
 use Rattle.em_tree.specs.declared.state.State.{State}
-use Rattle.em_image.specs.declared.not_so.ImageNo.{ImageNo}
+use Rattle.em_image.specs.declared.no.ImageNo.{ImageNo}
 use Rattle.em_cmdline.specs.declared.order.HistoryMode.{HistoryMode}
 use Rattle.em_cmdline.specs.declared.order.HistoryMode.TheVariants as mode
 use Rattle.em_cmdline.specs.declared.order.Order.{Order}

@@ -4,3 +4,4 @@ mod Leaving
 mod Replacing
 mod Heading
 mod Showing
+mod Sound

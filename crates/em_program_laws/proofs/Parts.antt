@@ -16,7 +16,7 @@ use Rattle.em_tree.specs.declared.node.Kind.TheVariants as kind
 use Rattle.em_tree.specs.declared.state.State.{State}
 use Rattle.em_image.specs.Image.{limits}
 use Rattle.em_image.specs.Reading as image
-use Rattle.em_image.specs.declared.not_so.ImageNo.{ImageNo}
+use Rattle.em_image.specs.declared.no.ImageNo.{ImageNo}
 use Rattle.em_gen.specs.Generated as generated
 use Rattle.em_history.specs.Histories.{Pair}
 use Rattle.em_cmdline.specs.declared.order.HistoryMode.{HistoryMode}
@@ -26,15 +26,15 @@ use Rattle.em_cmdline.specs.declared.order.WordNo.{WordNo}
 use Rattle.em_cmdline.specs.declared.page.Page.{Page}
 use Rattle.em_cmdline.specs.Words.{refusal, order_of}
 use Rattle.em_cmdline.specs.Pages.{page_in, text_of}
-use Rattle.em_insight.specs.declared.not_so.InsightNo.{InsightNo}
+use Rattle.em_insight.specs.declared.no.InsightNo.{InsightNo}
 use Rattle.em_insight.specs.Jobs as insight
 use Rattle.em_insight.specs.Telling.{explanation}
 use Rattle.em_report.specs.declared.report.Report.{Report}
 use Rattle.em_report.specs.declared.report.ReportLine.{ReportLine}
 use Rattle.em_report.specs.Reading as report
 use Rattle.em_rules.specs.declared.book.Book.{Book}
-use Rattle.em_reading.specs.declared.not_so.ReadNo.{ReadNo}
-use Rattle.em_plan.specs.declared.not_so.PlanNo.{PlanNo}
+use Rattle.em_reading.specs.declared.no.ReadNo.{ReadNo}
+use Rattle.em_plan.specs.declared.no.PlanNo.{PlanNo}
 use Rattle.em_plan.specs.declared.planned.Plan.{Plan}
 use Rattle.em_program.specs.declared.project.Project.{Project}
 use Rattle.em_program.specs.declared.site.Site.{Site}

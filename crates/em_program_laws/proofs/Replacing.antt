@@ -11,15 +11,15 @@ use Rattle.em_base.proofs.Lemmas.{by_cases}
 use Rattle.em_host.specs.Outside.{Files}
 use Rattle.em_tree.specs.declared.state.State.{State}
 use Rattle.em_image.specs.Image.{limits, broken, image_text, text_unless}
-use Rattle.em_image.specs.declared.not_so.ImageNo.{ImageNo}
-use Rattle.em_image.specs.declared.not_so.ImageNo.TheVariants.{Limit}
-use Rattle.em_image.specs.declared.not_so.Which.{Which}
+use Rattle.em_image.specs.declared.no.ImageNo.{ImageNo}
+use Rattle.em_image.specs.declared.no.ImageNo.TheVariants.{Limit}
+use Rattle.em_image.specs.declared.no.Which.{Which}
 use Rattle.em_cmdline.specs.declared.order.HistoryMode.TheVariants as mode
 use Rattle.em_cmdline.specs.declared.order.WordNo.{WordNo}
 use Rattle.em_cmdline.specs.declared.order.WordNo.TheVariants.{Unknown}
 use Rattle.em_cmdline.specs.Pages.{page_in}
 use Rattle.em_cmdline.specs.Words.{Differ, HasNames, HasSource, is_one, refusal, order_of, unreadable, causes, first_some, found as rows_of, when}
-use Rattle.em_cmdline.proofs.Sound.{has_names, has_source}
+use Rattle.em_program_laws.proofs.Sound.{has_names, has_source}
 use Rattle.em_run.specs.Serial.{Made, state_after, IsSerial}
 use Rattle.em_job.specs.Effects.{Makes}
 use Rattle.em_engine.specs.declared.note.Note.{Note}
