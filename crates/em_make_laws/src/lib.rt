@@ -1,4 +1,4 @@
-//! Laws: what definitions of recipes and of jobs mean, in words of GNU make.
+//! Laws: what definitions of recipes mean, in words of GNU make.
 #![tactic(auto)]
 
 pub mod recipes;
