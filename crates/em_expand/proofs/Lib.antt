@@ -1,5 +1,6 @@
 mod Dollars
 mod Layering
 mod Making
+pub mod Sparing
 mod Splits
 mod Undefined

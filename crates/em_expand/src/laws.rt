@@ -40,3 +40,10 @@ pub fn law_layers()
     ensures shared { (vars : Entries) (own : List (List ℕ × List ℕ)) (n : List ℕ)
         → own_text own n ≡ None → value_of (with_own vars own) n ≡ value_of vars n }
 {}
+
+/// An expansion changes no file, however it ends.
+pub fn law_spares()
+    ensures { (vars : Entries) (cwd : List ℕ) (place : Place) (text : List ℕ)
+        → (s : Spoken) (o : Oracle) (w : Workspace)
+        → (expansion vars cwd place text s o w).1.changes ≡ w.changes }
+{}

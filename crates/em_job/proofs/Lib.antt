@@ -4,3 +4,5 @@ mod Reading
 mod Ended
 mod Numbered
 mod OneEffect
+mod Idling
+mod Keeping

@@ -10,5 +10,6 @@ pub mod Deciding
 pub mod Preparing
 pub mod Carrying
 pub mod Effects
+pub mod Ends
 pub mod Making
 pub mod Equal

@@ -1,6 +1,38 @@
-//! A law of the definitions: its contract is the law.
-ghost use Rattle.em_job.specs.Effects.{Makes};
+//! Laws of the definitions: each function's contract is the law, and its body is empty but where it
+//! cites another law.
+ghost use Rattle.std.specs.Prelude.{
+  ◌≡◌,
+  ◌≢◌,
+  [],
+  ℕ,
+  true,
+  false,
+  List,
+  Option,
+  Some,
+  None,
+  Ok,
+  slice_get,
+};
+ghost use Rattle.std.specs.FinMap.{empty};
+ghost use Rattle.em_base.specs.declared.place.Place.{Place};
+ghost use Rattle.em_expand.specs.declared.spoken.Spoken.{Spoken};
+ghost use Rattle.em_job.specs.Carrying.{delete};
+ghost use Rattle.em_job.specs.Deciding.{path_of};
+ghost use Rattle.em_job.specs.Effects.{Makes, begin, lines_on};
+ghost use Rattle.em_cmdline.specs.declared.order.Order.{Order};
+ghost use Rattle.em_job.specs.Ends.{is_idle, is_silent, AreUnforced, node_at};
+ghost use Rattle.em_job.specs.Making.{jobs_of};
+ghost use Rattle.em_plan.specs.declared.planned.PlanJob.{PlanJob};
+ghost use Rattle.em_rules.specs.declared.book.Book.{Book};
 ghost use Rattle.em_run.specs.Serial.{IsOne};
+ghost use Rattle.em_task.specs.declared.job.Job.{Job};
+ghost use Rattle.em_tree.specs.Trees.{kind_of, stamp_of};
+ghost use Rattle.em_tree.specs.declared.node.Kind.TheVariants.{File};
+ghost use Rattle.em_tree.specs.declared.outcome.Outcome.TheVariants.{Made};
+ghost use Rattle.em_tree.specs.declared.state.State.{State};
+ghost use Rattle.em_view.specs.Actions.{Oracle, Workspace, snapshot};
+ghost use Rattle.em_view.specs.declared.effect.Effect.{Effect};
 
 use em_script::laws::law_one_meaning;
 
@@ -10,3 +42,61 @@ pub fn law_one_effect()
 {
     law_one_meaning();
 }
+
+/// A job that ends without beginning its recipe changes nothing: its target is up to date, or
+/// counts as updated, a prerequisite wasn't made, or nothing makes it. But for the last it says
+/// nothing.
+pub fn law_idle()
+    ensures changes { (j : Job) (s : State) (e : Effect) (n : ℕ)
+        → Makes j s e n → is_idle e.outcome ≡ true → e.changes ≡ empty }
+    ensures says { (j : Job) (s : State) (e : Effect) (n : ℕ)
+        → Makes j s e n → is_silent e.outcome ≡ true → e.output ≡ [] }
+{}
+
+/// Under `-q` a job changes nothing, however it ends.
+pub fn law_question()
+    ensures { (j : Job) (s : State) (e : Effect) (n : ℕ)
+        → Makes j s e n → j.flags.question ≡ true → e.changes ≡ empty }
+{}
+
+/// Under `-n` a job changes nothing, if none of its lines is marked `+`.
+pub fn law_dry()
+    ensures { (j : Job) (s : State) (e : Effect) (n : ℕ)
+        → Makes j s e n → j.flags.dry ≡ true → AreUnforced (lines_on j s) → e.changes ≡ empty }
+{}
+
+/// A job without a recipe changes nothing, and its target isn't made.
+pub fn law_recipe()
+    ensures changes { (j : Job) (s : State) (e : Effect) (n : ℕ)
+        → Makes j s e n → j.plan.recipe ≡ None → e.changes ≡ empty }
+    ensures made { (j : Job) (s : State) (e : Effect) (n : ℕ)
+        → Makes j s e n → j.plan.recipe ≡ None → e.outcome ≢ Made }
+{}
+
+/// Where a line of its recipe failed, a job's target is deleted under `.DELETE_ON_ERROR` alone, and
+/// never a phony one, nor a directory, nor a file whose stamp is the one from before the recipe.
+pub fn law_deleted()
+    ensures by_order { (j : Job) (before : Option ℕ) (p : Place) (said : Spoken) (o : Oracle)
+        (w : Workspace) → j.delete_on_error ≡ false
+        → delete j before p said o w ≡ (Ok (tt, said), w) }
+    ensures phony { (j : Job) (before : Option ℕ) (p : Place) (said : Spoken) (o : Oracle)
+        (w : Workspace) → j.plan.phony ≡ true
+        → delete j before p said o w ≡ (Ok (tt, said), w) }
+    ensures directory { (j : Job) (before : Option ℕ) (p : Place) (said : Spoken) (s : State)
+        (w : Workspace) (path : List ℕ) → path_of j.cwd j.plan.target ≡ Some path
+        → kind_of (node_at s w path) ≢ File
+        → (delete j before p said (snapshot s) w).1.changes ≡ w.changes }
+    ensures unchanged { (j : Job) (before : Option ℕ) (p : Place) (said : Spoken) (s : State)
+        (w : Workspace) (path : List ℕ) → path_of j.cwd j.plan.target ≡ Some path
+        → stamp_of (node_at s w path) ≡ before
+        → (delete j before p said (snapshot s) w).1.changes ≡ w.changes }
+{}
+
+/// Each job of a build begins with the number at which it stands, and with the base and the fuel of
+/// all: so the numbers of its changes, which are made of base and job number, are its own.
+pub fn law_numbered()
+    ensures { (book : Book) (order : Order) (base i : ℕ) (plans : List PlanJob) (j : Job)
+        → slice_get (jobs_of book order base plans) i ≡ Some j
+        → (begin j).job ≡ i × (begin j).base ≡ base × (begin j).fuel ≡ order.fuel
+        × (begin j).count ≡ 0 }
+{}
