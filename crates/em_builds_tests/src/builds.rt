@@ -52,11 +52,13 @@ static TEN: [(&str, &str); 10] = [
     ("/i", "/j"),
 ];
 
-/// What the ten jobs come to.
+/// What the ten jobs come to. The change of job j has the number 100 + j * 2^20 + 1, and the root
+/// that of the last one.
 static TEN_BUILT: &str = "/a/a/b/a/b/c/a/b/c/d/a/b/c/d/e/a/b/c/d/e/f/a/b/c/d/e/f/g\
     /a/b/c/d/e/f/g/h/a/b/c/d/e/f/g/h/i/a/b/c/d/e/f/g/h/i/j \
-    /a=/a /b=/a/b /c=/a/b/c /d=/a/b/c/d /e=/a/b/c/d/e /f=/a/b/c/d/e/f /g=/a/b/c/d/e/f/g \
-    /h=/a/b/c/d/e/f/g/h /i=/a/b/c/d/e/f/g/h/i /j=/a/b/c/d/e/f/g/h/i/j \
+    /@9437285 /a=/a@101 /b=/a/b@1048677 /c=/a/b/c@2097253 /d=/a/b/c/d@3145829 \
+    /e=/a/b/c/d/e@4194405 /f=/a/b/c/d/e/f@5242981 /g=/a/b/c/d/e/f/g@6291557 \
+    /h=/a/b/c/d/e/f/g/h@7340133 /i=/a/b/c/d/e/f/g/h/i@8388709 /j=/a/b/c/d/e/f/g/h/i/j@9437285 \
     made made made made made made made made made made \
     3 4 4 4 4 4 4 4 4 4 ";
 
@@ -224,7 +226,7 @@ fn workers_run_two_jobs_at_a_time(rt: HostRuntime) -> Result<(), Fail> {
     meet(&rt, rt.alloc(), &mut log)?;
     assert_eq!(rt;
         log.as_str(),
-        "/a/b /a=/a /b=/b made made 3 3 0 in 1; 1 in 1; met"
+        "/a/b /@1048677 /a=/a@101 /b=/b@1048677 made made 3 3 0 in 1; 1 in 1; met"
     );
     Ok(())
 }
@@ -235,7 +237,7 @@ fn one_worker_runs_two_jobs(rt: HostRuntime) -> Result<(), Fail> {
     show_noted(&rt, rt.alloc(), &TWO, (1, false), &OpenGate, &mut log)?;
     assert_eq!(rt;
         log.as_str(),
-        "/a/b /a=/a /b=/b made made 3 3 0 in 1; 1 in 1; "
+        "/a/b /@1048677 /a=/a@101 /b=/b@1048677 made made 3 3 0 in 1; 1 in 1; "
     );
     Ok(())
 }
@@ -256,25 +258,46 @@ fn each_worker_is_a_thread(rt: HostRuntime) -> Result<(), Fail> {
     call_roll(&rt, rt.alloc(), &mut log)?;
     assert_eq!(rt;
         log.as_str(),
-        "/a/b/c/d/e /a=/a /b=/b /c=/c /d=/d /e=/e made made made made made 3 3 3 3 3 \
-         0 in 1; 1 in 1; 2 in 1; 3 in 1; 4 in 1; met"
+        "/a/b/c/d/e /@4194405 /a=/a@101 /b=/b@1048677 /c=/c@2097253 /d=/d@3145829 /e=/e@4194405 \
+         made made made made made 3 3 3 3 3 0 in 1; 1 in 1; 2 in 1; 3 in 1; 4 in 1; met"
     );
     Ok(())
 }
 
-/// Whether a build ended well whose first ask of job 1 is held until something is printed.
+/// Whether a build ended well where the first print and the first ask of job 1 wait for one
+/// another.
 fn is_printed<R: Threads + Wait + Sync>(rt: &R, alloc: Global, jobs: Jobs) -> bool {
     let rung = AtomicBool::new(false);
-    let gate = Late::new(&rung);
-    let mut host = Bell { rung: &rung };
+    let came = AtomicBool::new(false);
+    let gate = Late::new(&rung, &came);
+    let mut host = Bell::new(&rung, &came);
     let end = build_jobs(rt, alloc, jobs, 3, &Linker, &gate, &mut host);
-    end.is_ok() && gate.is_met()
+    end.is_ok() && gate.is_met() && host.is_met()
 }
 
 #[test]
 fn the_committer_prints_while_workers_run(rt: HostRuntime) -> Result<(), Fail> {
     let jobs = jobs_of(rt.alloc(), &TWO, false)?;
     assert!(rt; is_printed(&rt, rt.alloc(), jobs));
+    Ok(())
+}
+
+/// Whether a build with one worker ended well, and something was printed before the first ask of
+/// job 1.
+fn is_printed_before<R: Threads + Wait + Sync>(rt: &R, alloc: Global, jobs: Jobs) -> bool {
+    let rung = AtomicBool::new(false);
+    let came = AtomicBool::new(false);
+    let open = AtomicBool::new(true);
+    let gate = Late::at_once(&rung, &came);
+    let mut host = Bell::new(&rung, &open);
+    let end = build_jobs(rt, alloc, jobs, 1, &Linker, &gate, &mut host);
+    end.is_ok() && gate.is_met() && host.is_met()
+}
+
+#[test]
+fn one_worker_prints_before_the_next_job(rt: HostRuntime) -> Result<(), Fail> {
+    let jobs = jobs_of(rt.alloc(), &TWO, false)?;
+    assert!(rt; is_printed_before(&rt, rt.alloc(), jobs));
     Ok(())
 }
 
@@ -311,8 +334,9 @@ fn a_build_ends_behind_the_job_that_ends_the_run(rt: HostRuntime) -> Result<(), 
     show_endings(&rt, rt.alloc(), &mut log)?;
     assert_eq!(rt;
         log.as_str(),
-        "/a/a/q/b /a=/a made failed 1 3 2 2 notes; /a/a/q/b /a=/a made failed 1 3 2 2 notes; \
-         /a/a/q/b /a=/a made failed 1 3 2 2 notes; "
+        "/a/a/q/b /@101 /a=/a@101 made failed 1 3 2 2 notes; \
+         /a/a/q/b /@101 /a=/a@101 made failed 1 3 2 2 notes; \
+         /a/a/q/b /@101 /a=/a@101 made failed 1 3 2 2 notes; "
     );
     Ok(())
 }

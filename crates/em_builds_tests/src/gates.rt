@@ -7,15 +7,27 @@ use std::thread::yield_now;
 /// How often a thread looks for what another one is to do.
 const TURNS: u32 = 10_000_000;
 
-/// Whether the flag goes up within so many turns.
-pub(super) fn is_raised(flag: &AtomicBool) -> bool {
-    for _ in 0..TURNS {
+/// Whether the flag goes up within so many looks.
+fn is_raised_in(flag: &AtomicBool, looks: u32) -> bool {
+    for _ in 0..looks {
         if flag.load(Ordering::SeqCst) {
             return true;
         }
         yield_now();
     }
     false
+}
+
+/// Whether the flag goes up.
+pub(super) fn is_raised(flag: &AtomicBool) -> bool {
+    is_raised_in(flag, TURNS)
+}
+
+/// Gives a thread that is about to wait time to do so.
+pub(super) fn linger() {
+    for _ in 0..1000 {
+        yield_now();
+    }
 }
 
 /// Holds the first ask of job 0 until the first ask of job 1 has come.
@@ -84,8 +96,13 @@ impl Roll {
         })
     }
 
-    /// Whether each run was held until all workers had come.
+    /// Whether all workers came, and each run was held until they had.
     pub(super) fn is_whole(&self) -> bool {
+        for came in self.came.as_slice() {
+            if !came.load(Ordering::SeqCst) {
+                return false;
+            }
+        }
         !self.missed.load(Ordering::SeqCst)
     }
 
@@ -118,32 +135,117 @@ impl Gate for Roll {
     }
 }
 
-/// Holds the first ask of job 1 until a flag goes up.
+/// Tells when the first ask of job 1 comes, and holds it until a flag goes up.
 #[derive(Drop)]
 pub(super) struct Late<'a> {
     flag: &'a AtomicBool,
+    /// How often it looks for the flag.
+    looks: u32,
+    /// Goes up with that ask.
+    came: &'a AtomicBool,
+    /// Whether it was held until the flag went up.
+    met: AtomicBool,
     /// Whether it was held in vain.
     missed: AtomicBool,
 }
 
 impl<'a> Late<'a> {
-    pub(super) fn new(flag: &'a AtomicBool) -> Late<'a> {
+    fn looking(flag: &'a AtomicBool, came: &'a AtomicBool, looks: u32) -> Late<'a> {
         Late {
             flag,
+            looks,
+            came,
+            met: AtomicBool::new(false),
             missed: AtomicBool::new(false),
         }
     }
 
-    /// Whether the flag went up each time.
+    /// Holds the ask until the flag goes up.
+    pub(super) fn new(flag: &'a AtomicBool, came: &'a AtomicBool) -> Late<'a> {
+        Late::looking(flag, came, TURNS)
+    }
+
+    /// Looks once whether the flag is up.
+    pub(super) fn at_once(flag: &'a AtomicBool, came: &'a AtomicBool) -> Late<'a> {
+        Late::looking(flag, came, 1)
+    }
+
+    /// Whether the ask came, and the flag went up each time.
     pub(super) fn is_met(&self) -> bool {
-        !self.missed.load(Ordering::SeqCst)
+        self.met.load(Ordering::SeqCst) && !self.missed.load(Ordering::SeqCst)
+    }
+
+    fn hold(&self) {
+        self.came.store(true, Ordering::SeqCst);
+        if is_raised_in(self.flag, self.looks) {
+            self.met.store(true, Ordering::SeqCst);
+        } else {
+            self.missed.store(true, Ordering::SeqCst);
+        }
     }
 }
 
 impl<'a> Gate for Late<'a> {
     fn before(&self, _worker: u32, job: u32, step: u32) {
-        if job == 1 && step == 0 && !is_raised(self.flag) {
+        if job == 1 && step == 0 {
+            self.hold();
+        }
+    }
+}
+
+/// Holds the first ask of job 0 until two workers have begun, and those of jobs 1 and 2 until both
+/// have come.
+#[derive(Drop)]
+pub(super) struct Fork {
+    /// Whether either worker is about to claim a job.
+    pub(super) begun: (AtomicBool, AtomicBool),
+    /// Whether the first ask of job 1, and of job 2, has come.
+    came: (AtomicBool, AtomicBool),
+    /// Whether one was held in vain.
+    missed: AtomicBool,
+}
+
+impl Fork {
+    pub(super) fn new() -> Fork {
+        Fork {
+            begun: (AtomicBool::new(false), AtomicBool::new(false)),
+            came: (AtomicBool::new(false), AtomicBool::new(false)),
+            missed: AtomicBool::new(false),
+        }
+    }
+
+    /// Whether jobs 1 and 2 have met.
+    pub(super) fn is_met(&self) -> bool {
+        let came = self.came.0.load(Ordering::SeqCst) && self.came.1.load(Ordering::SeqCst);
+        came && !self.missed.load(Ordering::SeqCst)
+    }
+
+    fn hold(&self, flag: &AtomicBool) {
+        if !is_raised(flag) {
             self.missed.store(true, Ordering::SeqCst);
+        }
+    }
+
+    /// Comes, and waits for the other one.
+    fn meet(&self, own: &AtomicBool, other: &AtomicBool) {
+        own.store(true, Ordering::SeqCst);
+        self.hold(other);
+    }
+
+    fn hold_first(&self) {
+        self.hold(&self.begun.0);
+        self.hold(&self.begun.1);
+        linger();
+    }
+}
+
+impl Gate for Fork {
+    fn before(&self, _worker: u32, job: u32, step: u32) {
+        match (job, step) {
+            (0, 0) => self.hold_first(),
+            (1, 0) => self.meet(&self.came.0, &self.came.1),
+            (2, 0) => self.meet(&self.came.1, &self.came.0),
+            _ => {}
         }
     }
 }

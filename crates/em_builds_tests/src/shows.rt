@@ -5,20 +5,21 @@ use em_tree::{Node, State};
 use em_workers::Built;
 use std::alloc::AllocError;
 
-/// A file, and what it holds.
+/// A directory with its stamp, or a file with what it holds and its stamp.
 fn show_file(log: &mut String, path: &Path, node: &Node) -> Result<(), AllocError> {
-    match node {
-        Node::File { body, stamp: _ } => {
-            show_path(log, "", path)?;
+    show_path(log, "", path)?;
+    let stamp = match node {
+        Node::File { body, stamp } => {
             log.push_str("=")?;
             show_bytes(log, body.bytes())?;
-            log.push_str(" ")
+            stamp
         }
-        Node::Dir { stamp: _ } => Ok(()),
-    }
+        Node::Dir { stamp } => stamp,
+    };
+    write!(log, "@{stamp} ")
 }
 
-/// The files of a state.
+/// The directories and files of a state.
 fn show_files(log: &mut String, state: &State) -> Result<(), AllocError> {
     for (path, node) in state.tree.nodes() {
         show_file(log, path, node)?;
@@ -42,7 +43,7 @@ fn show_fuel(log: &mut String, fuel: &[u64]) -> Result<(), AllocError> {
     Ok(())
 }
 
-/// What was printed, and then the files, how the jobs ended, and the fuel of each.
+/// What was printed, and then the directories and files, how the jobs ended, and the fuel of each.
 pub(super) fn show_built(
     log: &mut String,
     printed: &[u8],

@@ -1,8 +1,5 @@
 use em_base::Text;
-use em_image::{
-    ImageNo, Which, faults_have_places, faults_stay, one_tree_of_a_text, read_image, read_text,
-    write_image,
-};
+use em_image::{ImageNo, Which, read_image, read_text, write_image};
 use em_tree::Tree;
 use std::alloc::{AllocError, Global};
 use std::process::Abort;
@@ -48,13 +45,6 @@ fn an_image_is_read_and_written_again(rt: HostRuntime) -> Result<(), Fail> {
         assert!(rt; is_written_as(rt.alloc(), &tree, bytes));
     }
     Ok(())
-}
-
-#[test]
-fn the_laws_can_be_called() {
-    one_tree_of_a_text();
-    faults_have_places();
-    faults_stay();
 }
 
 /// Texts that are no images, each with its first fault.

@@ -1,4 +1,4 @@
-//! The tests of the jobs of a makefile: over a view whose answers change, run ahead by one worker,
+//! The tests of the jobs of a makefile: what they are asked to do, over a view whose answers change, run ahead by one worker,
 //! and built by several.
 #![tactic(auto)]
 
@@ -10,5 +10,7 @@ mod counts;
 mod makefiles;
 #[cfg(test)]
 mod numbers;
+#[cfg(test)]
+mod specs;
 #[cfg(test)]
 mod usage;

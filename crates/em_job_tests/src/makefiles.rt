@@ -64,6 +64,23 @@ fn order_of(alloc: Global) -> Result<Order, NoMemory>
     })
 }
 
+/// An order of a directory, nine units of fuel and the option with this letter.
+fn order_with(alloc: Global, letter: char) -> Result<Order, NoMemory>
+    ensures dir { IfOk result (λ o. read_fault root_text o.dir ≡ None) }
+    ensures fuel { IfOk result (λ o. o.fuel ≤ 1000000) }
+{
+    let mut order = order_of(alloc)?;
+    order.dir = Text::from_slice(alloc, b"/d")?;
+    order.fuel = 9;
+    order.keep_going = letter == 'k';
+    order.dry = letter == 'n';
+    order.question = letter == 'q';
+    order.silent = letter == 's';
+    order.ignore = letter == 'i';
+    order.always = letter == 'B';
+    Ok(order)
+}
+
 /// What the state's makefile says.
 fn book_of(alloc: Global, state: &State, order: &Order) -> Result<Book, Fail>
     requires { read_fault root_text order.now.dir ≡ None }
@@ -113,6 +130,21 @@ fn jobs_in(alloc: Global, plan: &Plan, book: &Book, order: &Order, base: u64) ->
     let specs = specs_of(alloc, plan, book, order, base)?;
     let waits = waits_of(alloc, plan)?;
     Ok(Jobs { specs, waits })
+}
+
+/// What the makefile in the image's directory `/d` says, the plan, and the jobs by an order with
+/// the option of this letter.
+pub(super) fn read_with(
+    alloc: Global,
+    image: &str,
+    letter: char,
+) -> Result<(Book, Plan, Jobs), Fail> {
+    let state = state_of(alloc, image)?;
+    let order = order_with(alloc, letter)?;
+    let book = book_of(alloc, &state, &order)?;
+    let plan = plan_of(alloc, &book, &state)?;
+    let jobs = jobs_in(alloc, &plan, &book, &order, state.tree.base())?;
+    Ok((book, plan, jobs))
 }
 
 /// The jobs that the order wants built of the state's makefile.

@@ -1,4 +1,5 @@
-//! The jobs of recipes over views of fifty states, and what fronts find of their runs.
+//! The jobs of recipes over views of fifty states, what fronts find of their runs, and what the jobs
+//! come to on each of the states.
 ghost use Rattle.std.specs.Prelude.{◌≡◌, [], IfOk};
 
 use super::makefiles::{read_jobs, state_of};
@@ -7,7 +8,7 @@ use em_job::{JobSpec, JobWork};
 use em_run::{Run, Work};
 use em_testing::front_from;
 use em_tree::{Entry, State};
-use em_view::ScriptView;
+use em_view::{PlainView, ScriptView};
 use std::alloc::{AllocError, Global};
 use std::process::Abort;
 use std::test::Fail;
@@ -117,18 +118,38 @@ fn found(
     }
 }
 
+/// Whether the job, run on this state, changes and says the same, ends so and takes as much fuel.
+fn comes_again(
+    alloc: Global,
+    job: &JobSpec,
+    state: &State,
+    run: &Run<JobSpec>,
+) -> Result<bool, Fail> {
+    let again = JobWork::new().run(alloc, job, PlainView::new(state))?;
+    Ok(
+        again.delta() == run.delta()
+            && again.output().bytes() == run.output().bytes()
+            && again.outcome() == run.outcome()
+            && again.fuel() == run.fuel(),
+    )
+}
+
 /// Whether the run is found right on some of the fifty states: it is on exactly those that agree
-/// with its usage.
+/// with its usage, and on these the job comes to the same.
 fn same_on<R: Abort>(
     rt: &R,
     alloc: Global,
     makefile: &str,
+    job: &JobSpec,
     run: &Run<JobSpec>,
 ) -> Result<bool, Fail> {
     let mut any = false;
     for number in 0..STATES {
-        let (is_same, agrees) = found(alloc, makefile, numbered(alloc, number)?, run)?;
+        let state = numbered(alloc, number)?;
+        let again = comes_again(alloc, job, &state, run)?;
+        let (is_same, agrees) = found(alloc, makefile, state, run)?;
         assert!(rt; is_same == agrees, "state {number} of {makefile}");
+        assert!(rt; again || !agrees, "effect on state {number} of {makefile}");
         any = any || is_same;
     }
     Ok(any)
@@ -145,7 +166,7 @@ fn try_pace<R: Abort>(rt: &R, alloc: Global, image: &str, pace: usize) -> Result
     let (_state, jobs) = read_jobs(alloc, image)?;
     let job = jobs.specs.get(0).ok_or("a job")?;
     let run = run_over(alloc, job, script(alloc, pace)?)?;
-    let any = same_on(rt, alloc, image, &run)?;
+    let any = same_on(rt, alloc, image, job, &run)?;
     // a view that doesn't change is one of the states
     assert!(rt; pace != 0 || any, "no state of {image}");
     Ok(())

@@ -4,7 +4,7 @@ use em_path::Path;
 use em_plan::{PlanJob, Pre};
 use em_recipe::{
     Marks, automatic_vars, bare, commands, fault_text, marks_of, put_deleted, put_failed,
-    put_halted, put_ignored, put_no_rule, put_refused, put_spent, put_spent_early,
+    put_halted, put_ignored, put_no_rule, put_quoted, put_refused, put_spent, put_spent_early,
 };
 use em_states::{put_all, put_part, state};
 use em_vars::{Flavour, Origin, Var, Vars};
@@ -198,8 +198,9 @@ fn place(alloc: Global) -> Result<Place, NoMemory> {
     })
 }
 
-/// How lines of the job `d/x` ended.
+/// A quoted name, and how lines of the job `d/x` ended.
 fn put_ends(out: &mut Text, place: &Place) -> Result<(), NoMemory> {
+    put_quoted(out, b"it's")?;
     put_failed(out, place, b"d/x", 2)?;
     put_ignored(out, place, b"d/x", 255)?;
     put_deleted(out, b"d/x")?;
@@ -219,7 +220,7 @@ fn ends(alloc: Global) -> Result<Text, NoMemory> {
 #[test]
 fn it_is_said_how_a_line_ended(rt: HostRuntime) -> Result<(), Fail> {
     let out = ends(rt.alloc())?;
-    let want = b"before\n\
+    let want = b"before\n'it's'\
         emake: *** [Makefile:7: d/x] Error 2\n\
         emake: [Makefile:7: d/x] Error 255 (ignored)\n\
         emake: *** Deleting file 'd/x'\n\

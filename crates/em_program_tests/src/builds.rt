@@ -24,7 +24,7 @@ pub enum After {
 pub const PROJECT: &[u8] =
     b"EMTREE 1\nd 5 /\nf 5 240 /Makefile\nSRC := main.c util.c\nOBJ := $(SRC:.c=.o)\n.PHONY: all clean edit\nall: config.h prog\nprog: $(OBJ)\n\tcat $^ > $@\n%.o: %.c\n\tcat $< config.h > $@\nconfig.h: config.in\n\techo '#define N 1' > $@\nedit:\n\ttouch main.c\nclean:\n\trm -f $(OBJ) prog config.h\n\nf 5 2 /config.in\n1\n\nf 5 5 /main.c\nmain\n\nf 5 5 /util.c\nutil\n\n.\n";
 
-pub static BUILDS: [Build; 45] = [
+pub static BUILDS: [Build; 54] = [
     Build {
         words: "-I i",
         before: Some(b"EMTREE 1\nd 1 /\nf 1 15 /Makefile\nall:\n\t@echo hi\n\n.\n"),
@@ -346,6 +346,87 @@ pub static BUILDS: [Build; 45] = [
         status: 0,
         after: After::Is(
             b"EMTREE 1\nd 5 /\nf 5 21 /Makefile\na: b c\n\techo $? > $@\n\nf 2097163 2 /a\nb\n\nf 9 0 /b\n\nf 3 0 /c\n\n.\n",
+        ),
+    },
+    Build {
+        words: "-I i X=$(V)",
+        before: Some(
+            b"EMTREE 1\nd 5 /\nf 5 105 /Makefile\nexport E = $(info once)$(V)e\nexport S := s$$\nF = f\nV := v\nX = x\nall:\n\t@echo $$E$$F$$S$$X; E=1\n\t@echo $$E\n\n.\n",
+        ),
+        printed: b"once\nves$$(V)\nve\n",
+        status: 0,
+        after: After::Same,
+    },
+    Build {
+        words: "-i -I i",
+        before: Some(
+            b"EMTREE 1\nd 5 /\nf 5 40 /Makefile\nall: a b\na:\n\tfalse\n\techo 1\nb:\n\t@nothere\n\n.\n",
+        ),
+        printed: b"false\nemake: [Makefile:3: a] Error 1 (ignored)\necho 1\n1\nemake: sh: nothere: not found\nemake: [Makefile:6: b] Error 127 (ignored)\n",
+        status: 0,
+        after: After::Same,
+    },
+    Build {
+        words: "-I i",
+        before: Some(
+            b"EMTREE 1\nd 5 /\nf 5 56 /Makefile\n.IGNORE: a\nall: a b\na:\n\tfalse\n\techo 1\nb:\n\tfalse\n\techo 2\n\n.\n",
+        ),
+        printed: b"false\nemake: [Makefile:4: a] Error 1 (ignored)\necho 1\n1\nfalse\nemake: *** [Makefile:7: b] Error 1\n",
+        status: 2,
+        after: After::Same,
+    },
+    Build {
+        words: "-I i",
+        before: Some(
+            b"EMTREE 1\nd 5 /\nf 5 29 /Makefile\n.IGNORE:\nall:\n\tfalse\n\techo 1\n\n.\n",
+        ),
+        printed: b"false\nemake: [Makefile:3: all] Error 1 (ignored)\necho 1\n1\n",
+        status: 0,
+        after: After::Same,
+    },
+    Build {
+        words: "-I i",
+        before: Some(
+            b"EMTREE 1\nd 5 /\nf 5 42 /Makefile\n.SILENT: a\nall: a b\na:\n\techo 1\nb:\n\techo 2\n\n.\n",
+        ),
+        printed: b"1\necho 2\n2\n",
+        status: 0,
+        after: After::Same,
+    },
+    Build {
+        words: "-I i",
+        before: Some(b"EMTREE 1\nd 5 /\nf 5 22 /Makefile\n.SILENT:\nall:\n\techo 1\n\n.\n"),
+        printed: b"1\n",
+        status: 0,
+        after: After::Same,
+    },
+    Build {
+        words: "-s -I i",
+        before: Some(b"EMTREE 1\nd 5 /\nf 5 13 /Makefile\nall:\n\techo 1\n\n.\n"),
+        printed: b"1\n",
+        status: 0,
+        after: After::Same,
+    },
+    Build {
+        words: "-I i",
+        before: Some(
+            b"EMTREE 1\nd 5 /\nf 5 65 /Makefile\nall: a d\na: b | c\n\techo a > a\nc:\n\techo c > c\nd: b | c\n\tcat c > d\n\nf 5 0 /a\n\nf 3 0 /b\n\n.\n",
+        ),
+        printed: b"echo c > c\ncat c > d\n",
+        status: 0,
+        after: After::Is(
+            b"EMTREE 1\nd 3145734 /\nf 5 65 /Makefile\nall: a d\na: b | c\n\techo a > a\nc:\n\techo c > c\nd: b | c\n\tcat c > d\n\nf 5 0 /a\n\nf 3 0 /b\n\nf 1048583 2 /c\nc\n\nf 3145735 2 /d\nc\n\n.\n",
+        ),
+    },
+    Build {
+        words: "-k -I i",
+        before: Some(
+            b"EMTREE 1\nd 5 /\nf 5 94 /Makefile\n.DELETE_ON_ERROR:\n.PHONY: p\nall: p u d\np:\n\techo x > p; false\nu: x\n\tfalse\nd: x\n\ttouch d; false\n\nd 5 /d\nf 5 0 /u\n\nf 6 0 /x\n\n.\n",
+        ),
+        printed: b"echo x > p; false\nemake: *** [Makefile:5: p] Error 1\nfalse\nemake: *** [Makefile:7: u] Error 1\ntouch d; false\nemake: *** [Makefile:9: d] Error 1\nemake: Target 'all' not remade because of errors.\n",
+        status: 2,
+        after: After::Is(
+            b"EMTREE 1\nd 7 /\nf 5 94 /Makefile\n.DELETE_ON_ERROR:\n.PHONY: p\nall: p u d\np:\n\techo x > p; false\nu: x\n\tfalse\nd: x\n\ttouch d; false\n\nd 3145735 /d\nf 8 2 /p\nx\n\nf 5 0 /u\n\nf 6 0 /x\n\n.\n",
         ),
     },
     Build {

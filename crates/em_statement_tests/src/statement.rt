@@ -1,7 +1,7 @@
 use em_base::{NoMemory, Seq, Text};
 use em_statement::{
     Assignment, Condition, Head, Include, Operator, Statement, Undefine, first_word, is_empty,
-    laws, read_head, read_statement, refused_in_head, words,
+    read_head, read_statement, refused_in_head, words,
 };
 use std::alloc::Global;
 use std::process::Abort;
@@ -496,12 +496,4 @@ fn a_first_word_ends_at_a_blank(rt: HostRuntime) {
         assert!(rt; first_word(text) == *word);
         assert!(rt; is_empty(text) == word.is_empty());
     }
-}
-
-#[test]
-fn the_laws_can_be_called() {
-    laws::law_shape();
-    laws::law_blank();
-    laws::law_assignment();
-    laws::law_operator();
 }

@@ -23,22 +23,23 @@ fn put(tree: &mut Tree, above: &Path, path: Path, node: Node) -> Result<(), NoMe
     tree.set(path, node)
 }
 
-/// Puts a node at an absent path of a directory that is there, and else does nothing.
+/// Puts a node at an absent path of a directory that is there; elsewhere it fails.
 fn add_at(alloc: Global, tree: &mut Tree, path: Path, node: Node) -> Result<(), Fail> {
     let Some(above) = path.parent(alloc)? else {
-        return Ok(());
+        return Err("the root".into());
     };
     let _ = path.text();
     if tree.kind(&above) == Kind::Dir && tree.kind(&path) == Kind::Absent {
         put(tree, &above, path, node)?;
+        return Ok(());
     }
-    Ok(())
+    Err("no place".into())
 }
 
 fn add(alloc: Global, tree: &mut Tree, text: &[u8], node: Node) -> Result<(), Fail> {
     match Path::from_text(alloc, text)? {
         Some(path) => add_at(alloc, tree, path, node),
-        None => Ok(()),
+        None => Err("no path".into()),
     }
 }
 
@@ -52,7 +53,8 @@ fn add_word(alloc: Global, tree: &mut Tree, word: &[u8]) -> Result<(), Fail> {
         [b'd', path @ ..] => add(alloc, tree, path, Node::Dir { stamp: 1 }),
         [b'f', path @ ..] => add(alloc, tree, path, file(alloc, b"")?),
         [b'b', path @ ..] => add(alloc, tree, path, file(alloc, b"b\n")?),
-        _ => Ok(()),
+        [] => Ok(()),
+        _ => Err("no word of a tree".into()),
     }
 }
 
@@ -65,7 +67,8 @@ fn tree(alloc: Global, text: &str) -> Result<Tree, Fail> {
 }
 
 /// A state of a text of words like `d/a` and `f/a/x`: d a directory, f an empty file, b one that
-/// holds `b` and a newline, then the path; the root is always there.
+/// holds `b` and a newline, then the path; the root is always there. A word that can't be placed is
+/// a failure.
 pub fn state(alloc: Global, text: &str) -> Result<State, Fail> {
     let tree = tree(alloc, text)?;
     let outcomes = Outcomes::new(alloc);

@@ -1,4 +1,5 @@
 //! What the tests compare, as texts.
+use em_base::{Place, Text};
 use em_engine::{Cause, Note};
 use em_path::Path;
 use em_tree::{Answer, Entry, Outcome, Question};
@@ -28,6 +29,17 @@ fn show_question(log: &mut String, question: &Question) -> Result<(), AllocError
     }
 }
 
+/// How many names there are, and each.
+fn show_names(log: &mut String, names: &[Text]) -> Result<(), AllocError> {
+    let count = names.len();
+    write!(log, "{count} names")?;
+    for name in names {
+        log.push_str(" ")?;
+        show_bytes(log, name.bytes())?;
+    }
+    Ok(())
+}
+
 /// The answer, with what kind it is of.
 pub fn show_answer(log: &mut String, answer: &Answer) -> Result<(), AllocError> {
     match answer {
@@ -36,10 +48,7 @@ pub fn show_answer(log: &mut String, answer: &Answer) -> Result<(), AllocError> 
         Answer::Stamp(None) => log.push_str("no stamp"),
         Answer::Content(Some(body)) => show_bytes(log, body.bytes()),
         Answer::Content(None) => log.push_str("no content"),
-        Answer::Names(Some(names)) => {
-            let count = names.names().len();
-            write!(log, "{count} names")
-        }
+        Answer::Names(Some(names)) => show_names(log, names.names()),
         Answer::Names(None) => log.push_str("no names"),
         Answer::Outcome(Some(outcome)) => show_outcome(log, outcome),
         Answer::Outcome(None) => log.push_str("no outcome"),
@@ -57,12 +66,32 @@ fn show_entry(log: &mut String, entry: &Option<Entry>) -> Result<(), AllocError>
     }
 }
 
-/// How a job ended.
+fn show_place(log: &mut String, place: &Place) -> Result<(), AllocError> {
+    log.push_str(" at ")?;
+    show_bytes(log, place.file.bytes())?;
+    let line = place.line;
+    write!(log, ":{line}")
+}
+
+/// How a job ended, with all that is told of it.
 pub fn show_outcome(log: &mut String, outcome: &Outcome) -> Result<(), AllocError> {
     match outcome {
+        Outcome::Upto => log.push_str("up to date"),
+        Outcome::Counted => log.push_str("counted"),
         Outcome::Made => log.push_str("made"),
         Outcome::Failed(status) => write!(log, "failed {status}"),
-        _ => log.push_str("other"),
+        Outcome::NoRule => log.push_str("no rule"),
+        Outcome::Skipped => log.push_str("skipped"),
+        Outcome::Halted { text, place } => {
+            log.push_str("halted ")?;
+            show_bytes(log, text.bytes())?;
+            show_place(log, place)
+        }
+        Outcome::Refused { construct, place } => {
+            write!(log, "refused {construct:?}")?;
+            show_place(log, place)
+        }
+        Outcome::Spent => log.push_str("spent"),
     }
 }
 
