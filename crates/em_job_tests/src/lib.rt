@@ -1,5 +1,5 @@
-//! The tests of the jobs of a makefile: what they are asked to do, over a view whose answers change, run ahead by one worker,
-//! and built by several.
+//! The tests of the jobs of a makefile: what they are asked to do, over a view whose answers change,
+//! run ahead by one worker, and built by several.
 #![tactic(auto)]
 
 #[cfg(test)]
