@@ -1,0 +1,10 @@
+mod Stepping
+mod Rows
+mod Behind
+mod Parting
+mod Saying
+mod Turning
+mod Telling
+mod Serving
+mod Including
+mod Leftmost
