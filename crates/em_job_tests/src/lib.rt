@@ -1,4 +1,4 @@
-//! The tests of the jobs of a makefile: what they are asked to do, over a view whose answers change,
+//! The tests of the jobs of a makefile: what they are asked to do, over views whose answers change,
 //! run ahead by one worker, and built by several.
 #![tactic(auto)]
 

@@ -1,5 +1,5 @@
-//! The jobs of recipes over views of fifty states, what fronts find of their runs, and what the jobs
-//! come to on each of the states.
+//! The jobs of recipes over views of fifty states, what fronts find of their runs, and what the
+//! jobs come to on each of the states.
 ghost use Rattle.std.specs.Prelude.{◌≡◌, [], IfOk};
 
 use super::makefiles::{read_jobs, state_of};

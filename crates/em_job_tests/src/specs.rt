@@ -8,8 +8,9 @@ use std::alloc::{AllocError, Global};
 use std::test::Fail;
 
 /// Three jobs: `b`, `c` and `a`, which waits for both.
-const MARKED: &str =
-    "EMTREE 1\nd 5 /\nd 5 /d\nf 5 80 /d/Makefile\n.SILENT: a\n.IGNORE: b\n.DELETE_ON_ERROR:\n.PHONY: b\nV = v\na: b | c\n\techo $^\nb:\nc:\n\n.\n";
+const MARKED: &str = "EMTREE 1\nd 5 /\nd 5 /d\nf 5 80 /d/Makefile\n\
+    .SILENT: a\n.IGNORE: b\n.DELETE_ON_ERROR:\n.PHONY: b\nV = v\n\
+    a: b | c\n\techo $^\nb:\nc:\n\n.\n";
 
 /// The letter of the order's option, and of each job: its number, the base, the fuel and the
 /// directory; the options; whether it is quiet, lenient, and deletes on an error; and the phony

@@ -35,9 +35,10 @@ ghost use Rattle.em_reading_laws.specs.Reading.{End, from_there, IsOneInclude, I
 /// Lines are read from the left. Those in front come to an end that doesn't go by what stands
 /// behind them; from there the others are read, with the rule, the conditionals and the `define`
 /// that those in front have left open, and a fault in front is the whole's. So where lines are a
-/// text of their own without a fault, what stands behind them is read from where that text ends; so
-/// it is where its one fault is a `define` that is open at its end; and every other fault is also
-/// the whole's.
+/// text of their own without a fault, what stands behind them is read from where that text ends.
+/// Where the text's fault is a `define` that is open, it is its own one, and the others are read on
+/// in it, or that of a text that a line has put in, and then the fault is the whole's, as every
+/// other one is.
 pub fn law_lines()
     ensures parted { (deeper : Deeper) (front : List Line) (r : Reading) (o : Oracle)
         (w : Workspace) → (e : End) × ((too_long : Option Place) (rest : List Line)
