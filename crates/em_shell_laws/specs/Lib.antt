@@ -1,0 +1,6 @@
+pub mod Ends
+pub mod Lists
+pub mod Pipes
+pub mod Loops
+pub mod Redirections
+pub mod Quotes
