@@ -36,7 +36,7 @@ STRUCTS = [
     ('Joined', [('and', 'Bool'), ('next', 'Pipeline')], 'key (cond {and} AndIf OrIf) ⨾ newlines ⨾ pipeline_pattern {next}'),
     ('Pipeline', [('not', 'Bool'), ('stages', 'Vec Command _')],
      'cond {not} (reserved Bang) empty ⨾ staged (map command_pattern {stages}.items)'),
-    ('Simple', [('assigned', 'Vec Assigned _'), ('words', 'Vec Word _'), ('redirects', 'Vec Redirect _')],
+    ('Simple', [('assigned', 'Vec Assigned _'), ('words', 'Vec Word _'), ('texts', 'Vec (List ℕ) _'), ('redirects', 'Vec Redirect _')],
      'simple_spelled (map assigned_pattern {assigned}.items) (map word_spelling {words}.items) (map redirect_pattern {redirects}.items)'),
     ('Assigned', [('name', 'List ℕ'), ('value', 'Word')], 'assigned_spelled {name} (word_spelling {value})'),
     ('Redirect', [('fd', 'ℕ'), ('kind', 'RedirectKind'), ('target', 'Word')], 'redirect_spelled {kind} {fd} (word_spelling {target})'),

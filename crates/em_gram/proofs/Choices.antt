@@ -42,20 +42,20 @@ pub first_right : {left : ℕ} {ts us : List What} (p : Spelling) → begins_wit
 first_right p b h = record { spells = inr h.spells; goes = (right_on shell refl b h).goes }
 
 -- simple commands
-simple_by : (a : Vec Assigned _) (ws : Vec Word _) (rs : Vec Redirect _) (ts us : List What) → begins_with shell ts reserved_words ≡ false → begins_with shell us words ≡ false →
-    Spells shell (some_parts (map assigned_pattern a.items ++ words_spelled (map word_spelling ws.items)) (map redirect_pattern rs.items)) ts us → Spells shell (simple_pattern (roll-Simple (record { assigned = a; words = ws; redirects = rs }))) ts us
-simple_by a ws rs ts us b l h =
+simple_by : (a : Vec Assigned _) (ws : Vec Word _) (xs : Vec (List ℕ) _) (rs : Vec Redirect _) (ts us : List What) → begins_with shell ts reserved_words ≡ false → begins_with shell us words ≡ false →
+    Spells shell (some_parts (map assigned_pattern a.items ++ words_spelled (map word_spelling ws.items)) (map redirect_pattern rs.items)) ts us → Spells shell (simple_pattern (roll-Simple (record { assigned = a; words = ws; texts = xs; redirects = rs }))) ts us
+simple_by a ws xs rs ts us b l h =
     let p = some_parts (map assigned_pattern a.items ++ words_spelled (map word_spelling ws.items)) (map redirect_pattern rs.items) in
-    rw (simple_made a ws rs) (b, spell_then shell p (last words) ts us us h (l, refl))
+    rw (simple_made a ws xs rs) (b, spell_then shell p (last words) ts us us h (l, refl))
 
 with_words : (as' : List Expr) (ws : List Word) (rs : List Expr) (ts us : List What) → 0 < length ws → Spells shell (mixed (as' ++ words_spelled (map word_spelling ws)) rs) ts us → Spells shell (some_parts (as' ++ words_spelled (map word_spelling ws)) rs) ts us
 with_words [] [] rs ts us n h = absurd (omega arith)
 with_words [] (w ∷ ws) rs ts us n h = h
 with_words (a ∷ as') ws rs ts us n h = h
 
-pub simple_words : (a : Vec Assigned _) (ws : Vec Word _) (rs : Vec Redirect _) (ts us : List What) → begins_with shell ts reserved_words ≡ false → begins_with shell us words ≡ false → 0 < length ws.items →
-    Spells shell (so_far (map assigned_pattern a.items) ws.items rs.items) ts us → Spells shell (simple_pattern (roll-Simple (record { assigned = a; words = ws; redirects = rs }))) ts us
-simple_words a ws rs ts us b l n h = simple_by a ws rs ts us b l (with_words (map assigned_pattern a.items) ws.items (map redirect_pattern rs.items) ts us n h)
+pub simple_words : (a : Vec Assigned _) (ws : Vec Word _) (xs : Vec (List ℕ) _) (rs : Vec Redirect _) (ts us : List What) → begins_with shell ts reserved_words ≡ false → begins_with shell us words ≡ false → 0 < length ws.items →
+    Spells shell (so_far (map assigned_pattern a.items) ws.items rs.items) ts us → Spells shell (simple_pattern (roll-Simple (record { assigned = a; words = ws; texts = xs; redirects = rs }))) ts us
+simple_words a ws xs rs ts us b l n h = simple_by a ws xs rs ts us b l (with_words (map assigned_pattern a.items) ws.items (map redirect_pattern rs.items) ts us n h)
 
 -- what took a token has a part
 with_parts : (ps rs : List Expr) (ts us : List What) → length us < length ts → Spells shell (mixed ps rs) ts us → Spells shell (some_parts ps rs) ts us
@@ -63,9 +63,9 @@ with_parts [] [] ts us l h = absurd (let k : length ts ≡ length us = ap length
 with_parts [] (r ∷ rs) ts us l h = h
 with_parts (p ∷ ps) rs ts us l h = h
 
-pub simple_behind : (a : Vec Assigned _) (ws : Vec Word _) (rs : Vec Redirect _) (ts us : List What) → begins_with shell ts reserved_words ≡ false → begins_with shell us words ≡ false → length us < length ts →
-    Spells shell (so_far (map assigned_pattern a.items) ws.items rs.items) ts us → Spells shell (simple_pattern (roll-Simple (record { assigned = a; words = ws; redirects = rs }))) ts us
-simple_behind a ws rs ts us b l n h = simple_by a ws rs ts us b l (with_parts (map assigned_pattern a.items ++ words_spelled (map word_spelling ws.items)) (map redirect_pattern rs.items) ts us n h)
+pub simple_behind : (a : Vec Assigned _) (ws : Vec Word _) (xs : Vec (List ℕ) _) (rs : Vec Redirect _) (ts us : List What) → begins_with shell ts reserved_words ≡ false → begins_with shell us words ≡ false → length us < length ts →
+    Spells shell (so_far (map assigned_pattern a.items) ws.items rs.items) ts us → Spells shell (simple_pattern (roll-Simple (record { assigned = a; words = ws; texts = xs; redirects = rs }))) ts us
+simple_behind a ws xs rs ts us b l n h = simple_by a ws xs rs ts us b l (with_parts (map assigned_pattern a.items ++ words_spelled (map word_spelling ws.items)) (map redirect_pattern rs.items) ts us n h)
 
 pub shorter_whats : (xs ys : List Lexeme) → length xs < length ys → length (whats xs) < length (whats ys)
 shorter_whats xs ys l =

@@ -72,9 +72,9 @@ pub pipeline_is : (d : Pipeline) → pipeline_pattern d ≡ (cond (out-Pipeline 
 unfolding command_pattern compound_pattern what_spelled_as and_or_pattern assigned_pattern branch_pattern case_pattern for_pattern if_pattern item_pattern joined_pattern loop_pattern pipeline_pattern redirect_pattern script_listing simple_pattern word_spelling piece_spelling
 pipeline_is d = fold_out-Pipeline Expr Expr (Bool → PieceSpelling) Expr Expr Expr Expr Expr Expr Expr Expr Expr Expr Expr (Option Expr) Expr Spelling PieceSpelling command_step compound_step what_step and_or_step assigned_step branch_step case_step for_step if_step item_step joined_step loop_step pipeline_step redirect_step script_step simple_step word_step piece_step d
 
-pub simple_made : (assigned : Vec Assigned _) (words : Vec Word _) (redirects : Vec Redirect _) → simple_pattern (roll-Simple (record { assigned = assigned; words = words; redirects = redirects })) ≡ (simple_spelled (map assigned_pattern assigned.items) (map word_spelling words.items) (map redirect_pattern redirects.items))
+pub simple_made : (assigned : Vec Assigned _) (words : Vec Word _) (texts : Vec (List ℕ) _) (redirects : Vec Redirect _) → simple_pattern (roll-Simple (record { assigned = assigned; words = words; texts = texts; redirects = redirects })) ≡ (simple_spelled (map assigned_pattern assigned.items) (map word_spelling words.items) (map redirect_pattern redirects.items))
 unfolding command_pattern compound_pattern what_spelled_as and_or_pattern assigned_pattern branch_pattern case_pattern for_pattern if_pattern item_pattern joined_pattern loop_pattern pipeline_pattern redirect_pattern script_listing simple_pattern word_spelling piece_spelling
-simple_made assigned words redirects = fold-roll-Simple Expr Expr (Bool → PieceSpelling) Expr Expr Expr Expr Expr Expr Expr Expr Expr Expr Expr (Option Expr) Expr Spelling PieceSpelling command_step compound_step what_step and_or_step assigned_step branch_step case_step for_step if_step item_step joined_step loop_step pipeline_step redirect_step script_step simple_step word_step piece_step (record { assigned = assigned; words = words; redirects = redirects })
+simple_made assigned words texts redirects = fold-roll-Simple Expr Expr (Bool → PieceSpelling) Expr Expr Expr Expr Expr Expr Expr Expr Expr Expr Expr (Option Expr) Expr Spelling PieceSpelling command_step compound_step what_step and_or_step assigned_step branch_step case_step for_step if_step item_step joined_step loop_step pipeline_step redirect_step script_step simple_step word_step piece_step (record { assigned = assigned; words = words; texts = texts; redirects = redirects })
 
 pub simple_is : (d : Simple) → simple_pattern d ≡ (simple_spelled (map assigned_pattern (out-Simple d).assigned.items) (map word_spelling (out-Simple d).words.items) (map redirect_pattern (out-Simple d).redirects.items))
 unfolding command_pattern compound_pattern what_spelled_as and_or_pattern assigned_pattern branch_pattern case_pattern for_pattern if_pattern item_pattern joined_pattern loop_pattern pipeline_pattern redirect_pattern script_listing simple_pattern word_spelling piece_spelling

@@ -22,7 +22,7 @@ use crate::piece::{
 use em_lex::Lexeme;
 use em_syntax::{
     AndOr, Assigned, Branch, Case, Command, Compound, For, If, Item, Joined, Loop, Pipeline,
-    Redirect, RedirectKind, Script, Simple, Word, WordPiece,
+    Redirect, RedirectKind, Script, Simple, Word, WordPiece, texts_of,
 };
 use em_token::kind::Kind;
 use em_token::read::{
@@ -339,10 +339,12 @@ fn with_arguments<'a>(
     let mut words = Vec::new(alloc);
     words.push(first)?;
     let rest = arguments(alloc, tokens, left, &mut words, &mut redirects)?;
+    let texts = texts_of(alloc, &words)?;
     Ok((
         Simple {
             assigned,
             words,
+            texts,
             redirects,
         },
         rest,
@@ -460,10 +462,12 @@ fn words_behind<'a>(
         return Ok((simple, rest));
     }
     let words = Vec::new(alloc);
+    let texts = Vec::new(alloc);
     Ok((
         Simple {
             assigned,
             words,
+            texts,
             redirects,
         },
         tokens,

@@ -1,3 +1,4 @@
 pub mod Pieces
 pub mod Scripts
 pub mod Nesting
+pub mod Texts

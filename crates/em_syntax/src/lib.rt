@@ -3,8 +3,10 @@
 
 pub mod laws;
 mod script;
+mod texts;
 mod tree;
 
+pub use texts::texts_of;
 pub use tree::{
     AndOr, Assigned, Branch, Case, Command, Compound, For, If, Item, Joined, Loop, Pipeline,
     Redirect, RedirectKind, Script, Simple, Value, Word, WordPiece, WordWhat,

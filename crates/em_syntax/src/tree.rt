@@ -43,11 +43,15 @@ pub enum Command {
 
 /// Assignments, words and redirections, each in their order; at least one of them. An assignment
 /// stands before all words.
+///
+/// `texts` may hold a long command's words once more, so that a loop copies none of them for each
+/// of its turns. It means nothing: who runs the command compares it with the words first.
 #[cycle(tree)]
 #[derive(Drop)]
 pub struct Simple {
     pub assigned: Vec<Assigned>,
     pub words: Vec<Word>,
+    pub texts: Vec<Text>,
     pub redirects: Vec<Redirect>,
 }
 

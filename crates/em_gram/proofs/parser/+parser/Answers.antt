@@ -210,7 +210,7 @@ pub with_arguments-returns-clause-passes : goal.with_arguments-returns-clause-pa
 with_arguments-returns-clause-passes t c = c.in_ok-rest.ensures.passes
 
 pub with_arguments-returns-clause-spells : goal.with_arguments-returns-clause-spells
-with_arguments-returns-clause-spells t c = λ start b h. let n = some_first _ _ _ c.new-words.ensures.items c.in_ok-push.ensures.items in simple_words _ _ _ start _ b c.in_ok-rest.ensures.last (c.in_ok-rest.ensures.some n) (c.in_ok-rest.ensures.spells start (map assigned_pattern c.args.assigned.items) n (rw (c.in_ok-push.ensures.items, c.new-words.ensures.items) h))
+with_arguments-returns-clause-spells t c = λ start b h. let n = some_first _ _ _ c.new-words.ensures.items c.in_ok-push.ensures.items in simple_words _ _ _ _ start _ b c.in_ok-rest.ensures.last (c.in_ok-rest.ensures.some n) (c.in_ok-rest.ensures.spells start (map assigned_pattern c.args.assigned.items) n (rw (c.in_ok-push.ensures.items, c.new-words.ensures.items) h))
 
 pub named-returns-in_err-rest-clause-reads : goal.named-returns-in_err-rest-clause-reads
 named-returns-in_err-rest-clause-reads t c = off c.args.left _ _ _ _ _ c.from_residual.ensures (then_exit shell c.args.left _ _ _ _ (then_exit shell c.args.left _ _ _ _ (c.in_err-rest.ensures.reads c.args.left)))
@@ -282,7 +282,7 @@ pub words_behind-returns-clause-passes : goal.words_behind-returns-clause-passes
 words_behind-returns-clause-passes t c = passes_right shell refl (sym c.opens_command_word.ensures ∙ c.if-opens_command_word.false) (passes_of (reads_last shell c.args.left words (whats c.args.tokens.now) (no_word (whats c.args.tokens.now) (sym c.opens_command_word.ensures ∙ c.if-opens_command_word.false) c.requires)))
 
 pub words_behind-returns-clause-spells : goal.words_behind-returns-clause-spells
-words_behind-returns-clause-spells t c = λ start b l h. simple_behind c.args.assigned c.new-words.result c.args.redirects start _ b (no_word (whats c.args.tokens.now) (sym c.opens_command_word.ensures ∙ c.if-opens_command_word.false) c.requires) l (rw c.new-words.ensures.items h)
+words_behind-returns-clause-spells t c = λ start b l h. simple_behind c.args.assigned c.new-words.result c.new-texts.result c.args.redirects start _ b (no_word (whats c.args.tokens.now) (sym c.opens_command_word.ensures ∙ c.if-opens_command_word.false) c.requires) l (rw c.new-words.ensures.items h)
 
 pub prefixed-returns-in_err-rest-clause-reads : goal.prefixed-returns-in_err-rest-clause-reads
 prefixed-returns-in_err-rest-clause-reads t c = off c.args.left _ _ _ _ _ c.from_residual.ensures (then_exit shell c.args.left _ _ _ _ (c.in_err-rest.ensures.err))
