@@ -1,5 +1,9 @@
 -- A literal needs no expander.
-use Rattle.std.proofs.Common.{◌≡◌, ℕ, List, [], ◌∷◌, Some, Ok}
+use Rattle.std.proofs.Common.{◌≡◌, ◌&&◌, ◌==◌, ℕ, suc, Bool, true, false, List, [], ◌∷◌, ◌++◌, Option, Some, None, Ok, length, zip, refl, ap, append_assoc, arith}
+use Rattle.std.specs.List.{list_all}
+use Rattle.std.proofs.lemmas.Bool.{eqb-true, eq-eqb}
+use Rattle.std.proofs.lemmas.List.{append-nil}
+use Rattle.std.proofs.lemmas.Slice.Eq.{bytes_eq-Decides}
 use Rattle.em_view.specs.Performs.{DeskState, Told, Performs}
 use Rattle.em_view.specs.Steps.{Does}
 use Rattle.em_view.proofs.Performing.{finish}
@@ -15,9 +19,39 @@ use Rattle.em_command.specs.declared.here.Here.{Here}
 use Rattle.em_command.specs.declared.here.Scene.{Scene}
 use Rattle.em_command.specs.Jumps.{is_free}
 use Rattle.em_exec.specs.declared.expand.Expansion.TheVariants.{Fields}
-use Rattle.em_exec.specs.Words.{Deeper, expanded}
+use Rattle.em_exec.specs.Literals.{is_text, is_said, are_said}
+use Rattle.em_exec.specs.Words.{Deeper, expanded, added, fields}
 use Rattle.em_exec.proofs.Holding.{by_turns}
 use Rattle.em_exec.proofs.Looking.{worded_ok}
+
+said_literal : (text : List ℕ) (o : Option (List ℕ)) → is_text text o ≡ true → o ≡ Some text
+said_literal text None is = absurd cc
+said_literal text (Some bytes) is = ap (λ t. Some t) ((bytes_eq-Decides bytes text).0 is)
+
+both : (x y : Bool) → (x && y) ≡ true → (x ≡ true) × (y ≡ true)
+both true y is = (refl, is)
+both false y is = absurd cc
+
+-- lists side by side, of one length
+module _ {A B : Type 0} (f : A × B → Bool) where
+  abbrev AllPairs : List A → List B → Bool
+  AllPairs as' bs = (length as' == length bs) && list_all f (zip as' bs)
+
+  one_more : (a : A) (as' : List A) (b : B) (bs : List B) → AllPairs (a ∷ as') (b ∷ bs) ≡ true → (f (a, b) ≡ true) × (AllPairs as' bs ≡ true)
+  one_more a as' b bs is =
+      let h = both (suc (length as') == suc (length bs)) (f (a, b) && list_all f (zip as' bs)) is in
+      let k = both (f (a, b)) (list_all f (zip as' bs)) h.1 in
+      let n : length as' ≡ length bs = omega (arith, eqb-true (suc (length as')) (suc (length bs)) h.0) in
+      (k.0, rw (eq-eqb (length as') (length bs) n) k.1)
+
+  none_left : (b : B) (bs : List B) → AllPairs [] (b ∷ bs) ≡ true → ⊥
+  none_left b bs is = omega (arith, eqb-true 0 (suc (length bs)) (both (0 == suc (length bs)) true is).0)
+
+  none_right : (a : A) (as' : List A) → AllPairs (a ∷ as') [] ≡ true → ⊥
+  none_right a as' is = omega (arith, eqb-true (suc (length as')) 0 (both (suc (length as') == 0) true is).0)
+
+abbrev says : List ℕ × Word → Bool
+says p = is_said p.0 p.1
 
 module _ {V : Type 0} {tells : V → Told} {d : DeskState V} {h : Here} (deeper : Deeper) (scene : Scene) where
   pub literal_s : (w : Word) (text : List ℕ) → literal_of w ≡ Some text → Does is_free tells d d h h (Ok (Fields (text ∷ []))) (expanded deeper scene mode.Fields w)
@@ -25,3 +59,16 @@ module _ {V : Type 0} {tells : V → Told} {d : DeskState V} {h : Here} (deeper 
   literal_s w text is =
       let p : Performs is_want tells d d (Ok (Finished (text ∷ []))) (turn mode.Fields (word_plan w) h.shell) = rw (literal_comes w text h.shell is) finish in
       rw (by_turns deeper scene mode.Fields (word_plan w)) (then_s _ (worded_ok (λ (g : Here). turn mode.Fields (word_plan w) g.shell) p) finish_s)
+
+  -- texts that are said to be what words come to are it
+  said_one : (so_far : List (List ℕ)) (w : Word) (text : List ℕ) → is_said text w ≡ true → Does is_free tells d d h h (Ok (so_far ++ text ∷ [])) (added deeper scene so_far w)
+  unfolding added
+  said_one so_far w text is = then_s _ (literal_s w text (said_literal text (literal_of w) is)) finish_s
+
+  pub said_s : (so_far texts : List (List ℕ)) (ws : List Word) → are_said texts ws ≡ true → Does is_free tells d d h h (Ok (so_far ++ texts)) (fields deeper scene so_far ws)
+  said_s so_far [] [] is = rw (append-nil so_far) finish_s
+  said_s so_far [] (w ∷ ws) is = absurd (none_left says w ws is)
+  said_s so_far (t ∷ ts) [] is = absurd (none_right says t ts is)
+  said_s so_far (t ∷ ts) (w ∷ ws) is =
+      let h = one_more says t ts w ws is in
+      then_s _ (said_one so_far w t h.0) (rw (← append_assoc so_far (t ∷ []) ts) (said_s (so_far ++ t ∷ []) ts ws h.1))

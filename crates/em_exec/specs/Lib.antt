@@ -4,6 +4,7 @@ pub use Rattle.em_command.specs.Commands
 pub use Rattle.em_command.specs.Streams
 pub mod Copies
 pub mod Words
+pub mod Literals
 pub mod Leads
 pub mod Running
 pub mod Exec

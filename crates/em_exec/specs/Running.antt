@@ -124,14 +124,19 @@ module _ (deeper : Deeper) (scene : Scene) where
     u ← assignments (is_none words) assigned
     ends_alone (is_none words) words s
 
-  -- its unit is taken before all, then come its words, its redirections and its assignments
+  -- what follows its words: its redirections and its assignments
+  abbrev pub of_words : Simple → List (List ℕ) → Acts (Unit {0})
+  of_words c words = do
+    s ← redirects (out-Simple c).redirects.items around
+    if_some s (act (out-Simple c).assigned.items words)
+
+  -- its unit is taken before all, then come its words
   unfoldable pub simple_of : Simple → Acts (Unit {0})
   simple_of c = do
     u ← below of_desk (spend 1)
     v ← own unsubstituted
     words ← fields deeper scene [] (out-Simple c).words.items
-    s ← redirects (out-Simple c).redirects.items around
-    if_some s (act (out-Simple c).assigned.items words)
+    of_words c words
 
   -- ---- if, case
 

@@ -3,6 +3,7 @@
 
 mod expand;
 pub mod laws;
+mod literals;
 mod parts;
 mod run;
 mod script;

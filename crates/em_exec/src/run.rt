@@ -15,6 +15,7 @@ ghost use Rattle.em_exec.specs.Copies.{subshell, heard, substituted};
 ghost use Rattle.em_view.specs.Steps.{Does};
 
 use crate::expand::{Expansion, fields_in, first_in, glyphs_in};
+use crate::literals::are_said;
 use crate::parts::{
     apart, appended, body_of, charge_unit, in_loop, pass_on, put_back, take_pieces, with_text,
     within,
@@ -268,9 +269,29 @@ fn simple_in<V: View>(
 {
     charge_unit(desk)?;
     here.substituted = 0;
+    if are_said(&simple.texts, &simple.words) {
+        return worded_in(alloc, left, simple, &simple.texts, scene, here, desk);
+    }
     let words = fields_of(alloc, left, &simple.words, scene, here, desk)?;
+    worded_in(alloc, left, simple, words.items(), scene, here, desk)
+}
+
+/// A simple command whose words are known.
+#[cycle(shell)]
+fn worded_in<V: View>(
+    alloc: Global,
+    left: u32,
+    simple: &Simple,
+    words: &[Text],
+    scene: &Scene,
+    here: &mut Here,
+    desk: &mut Desk<V>,
+) -> Result<(), Jump>
+    ensures { Does is_free V.tells desk.old desk.new here.old here.new result
+        (steps.of_words (script_at left) scene.now simple.now words.now) }
+{
     match redirects_in(alloc, left, &simple.redirects, scene, here, desk)? {
-        Some(streams) => acted(alloc, left, simple, &words, &streams, scene, here, desk),
+        Some(streams) => acted(alloc, left, simple, words, &streams, scene, here, desk),
         None => Ok(()),
     }
 }
@@ -281,7 +302,7 @@ fn acted<V: View>(
     alloc: Global,
     left: u32,
     simple: &Simple,
-    words: &Seq<Text>,
+    words: &[Text],
     streams: &Streams,
     scene: &Scene,
     here: &mut Here,
@@ -299,7 +320,7 @@ fn acted<V: View>(
     }
     perform(
         alloc,
-        words.items(),
+        words,
         streams,
         scene.input.bytes(),
         scene.in_loop,

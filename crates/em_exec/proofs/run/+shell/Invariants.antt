@@ -67,8 +67,11 @@ decreases-redirects_in g l = 40 * l.left + 7
 abbrev pub decreases-acted : goal.decreases-acted
 decreases-acted g l = 40 * l.left + 8
 
+abbrev pub decreases-worded_in : goal.decreases-worded_in
+decreases-worded_in g l = 40 * l.left + 9
+
 abbrev pub decreases-simple_in : goal.decreases-simple_in
-decreases-simple_in g l = 40 * l.left + 9
+decreases-simple_in g l = 40 * l.left + 10
 
 abbrev pub decreases-branches_in : goal.decreases-branches_in
 decreases-branches_in g l = 40 * l.left + 2
