@@ -855,7 +855,7 @@ fn added<V: View>(
     }
 }
 
-/// A word that is neither split nor expanded to path names.
+/// A word that is neither split nor expanded to path names. One piece of bytes takes no expander.
 #[cycle(shell)]
 fn whole<V: View>(
     alloc: Global,
@@ -868,8 +868,13 @@ fn whole<V: View>(
     ensures { Does is_free V.tells desk.old desk.new here.old here.new result
         (expanding.whole (script_at left) scene.now word.now) }
 {
-    let expansion = expanded(alloc, left, word, Mode::Whole, scene, here, desk)?;
-    Ok(first_in(alloc, fields_in(alloc, expansion)))
+    match word.bytes() {
+        Some(text) => Ok(text.copy(alloc)?),
+        None => {
+            let expansion = expanded(alloc, left, word, Mode::Whole, scene, here, desk)?;
+            Ok(first_in(alloc, fields_in(alloc, expansion)))
+        }
+    }
 }
 
 /// The output that a word's expansion asked for.

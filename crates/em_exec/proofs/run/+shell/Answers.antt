@@ -15,7 +15,7 @@ use Rattle.em_command.specs.Heres.{branch}
 use Rattle.em_exec.specs.Copies.{apart, unwritten, put_back, subshell, heard, substituted, collected}
 use Rattle.em_syntax.specs.declared.tree.Compound.{out-Compound}
 use Rattle.em_exec.specs.Words.{expanded, added, whole, pattern, first_in}
-use Rattle.em_exec.proofs.Literal.{literal_s, said_s}
+use Rattle.em_exec.proofs.Literal.{literal_s, whole_s, said_s}
 use Rattle.em_exec.specs.Running.{if_goes, if_zero, if_goes_on, goes_with, goes_on, branches, pipeline_of, and_or_of, joined_one, command_of, simple_of, act, assignment, redirect_one, compound_of, routed, body_of, if_of, one_turn, body_turn, for_of, round, case_of, script_at}
 use Rattle.em_exec.proofs.Looking.{looked_s, kept_by, caught_s, worded_ok, worded_err}
 use Rattle.em_exec.proofs.Holding.{by_turns}
@@ -450,13 +450,19 @@ pub pattern_of-returns : goal.pattern_of-returns
 unfolding pattern
 pattern_of-returns g t c = then_s _ c.in_ok-expansion.ensures (rw (sym c.glyphs_in.ensures) finish_s)
 
-pub whole-returns-in_err-expansion : goal.whole-returns-in_err-expansion
-unfolding whole
-whole-returns-in_err-expansion g t c = leave_s _ c.from_residual.ensures.1 c.in_err-expansion.ensures
+pub whole-returns-in_err-copy-in-Some : goal.whole-returns-in_err-copy-in-Some
+whole-returns-in_err-copy-in-Some g t c = out_s _ refl c.from_residual.ensures.1
 
-pub whole-returns : goal.whole-returns
+pub whole-returns-in_ok-copy-in-Some : goal.whole-returns-in_ok-copy-in-Some
+whole-returns-in_ok-copy-in-Some g t c = rw c.in_ok-copy-in-Some.ensures (whole_s (script_at c.args.left) c.args.scene.now c.args.word.now c.in-Some.text.now (sym c.in-Some.ensures))
+
+pub whole-returns-in_err-expansion-in-None : goal.whole-returns-in_err-expansion-in-None
 unfolding whole
-whole-returns g t c = then_s _ c.in_ok-expansion.ensures (rw (sym (c.first_in.ensures ∙ ap first_in c.fields_in.ensures)) finish_s)
+whole-returns-in_err-expansion-in-None g t c = leave_s _ c.from_residual-in_err-expansion-in-None.ensures.1 c.in_err-expansion-in-None.ensures
+
+pub whole-returns-in_ok-expansion-in-None : goal.whole-returns-in_ok-expansion-in-None
+unfolding whole
+whole-returns-in_ok-expansion-in-None g t c = then_s _ c.in_ok-expansion-in-None.ensures (rw (sym (c.first_in.ensures ∙ ap first_in c.fields_in.ensures)) finish_s)
 
 pub added-returns-in_err-with_text-in-Some : goal.added-returns-in_err-with_text-in-Some
 added-returns-in_err-with_text-in-Some g t c = out_s _ refl c.from_residual.ensures.1
