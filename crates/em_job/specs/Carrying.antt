@@ -19,8 +19,6 @@ use Rattle.em_view.specs.Do.{◌>>=◌}
 use Rattle.em_vars.specs.declared.var.Var.{Var}
 use Rattle.em_vars.specs.declared.var.Flavour.{Flavour}
 use Rattle.em_vars.specs.declared.var.Flavour.TheVariants as flavour
-use Rattle.em_vars.specs.declared.var.Origin.{Origin}
-use Rattle.em_vars.specs.declared.var.Origin.TheVariants as origin
 use Rattle.em_expand.specs.Layered.{own_text}
 use Rattle.em_vars.specs.Entries.{Entries, value_of, keeps, with_value}
 use Rattle.em_expand.specs.declared.spoken.Spoken.{Spoken}
@@ -29,6 +27,7 @@ use Rattle.em_script.specs.declared.line.Line.{Line}
 use Rattle.em_script.specs.Lines as script
 use Rattle.em_recipe.specs.Messages as messages
 use Rattle.em_word.specs.declared.shell.Shell.{Shell}
+use Rattle.em_task.specs.Handed.{is_of_order, is_handed}
 use Rattle.em_task.specs.declared.job.Job.{Job}
 use Rattle.em_job.specs.declared.prepare.Placed.{Placed}
 use Rattle.em_job.specs.declared.prepare.Opened.{Opened}
@@ -73,16 +72,9 @@ pub record IsReadAs (prepared : Result Prepared Stop) (course : Result Course St
 
 -- ---- the shell's variables: the command line's, and those that are exported
 
-abbrev pub is_of_order : Origin → Bool
-is_of_order origin.CommandLine = true
-is_of_order _ = false
-
 abbrev pub is_recursive : Flavour → Bool
 is_recursive flavour.Recursive = true
 is_recursive flavour.Simple = false
-
-abbrev pub is_handed : Var → Bool
-is_handed v = v.exported || is_of_order v.origin
 
 abbrev pub put : Entries → List ℕ → Var → Entries
 put env name v = if keeps (value_of env name) v then env else with_value env name v

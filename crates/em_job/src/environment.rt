@@ -8,23 +8,10 @@ use crate::prepare::expand_at;
 use crate::stop::Stop;
 use em_base::{NoMemory, Place, Text};
 use em_expand::{OwnVar, Spoken, own_text};
-use em_task::Job;
-use em_vars::{Flavour, Origin, Var, Vars};
+use em_task::{Job, is_handed, is_of_order};
+use em_vars::{Flavour, Var, Vars};
 use em_view::{Desk, View};
 use std::alloc::Global;
-
-fn is_of_order(origin: Origin) -> bool
-    ensures { result ≡ carrying.is_of_order origin }
-{
-    matches!(origin, Origin::CommandLine)
-}
-
-/// Whether a shell gets the variable.
-fn is_handed(var: &Var) -> bool
-    ensures { result ≡ carrying.is_handed var.now }
-{
-    var.exported || is_of_order(var.origin)
-}
 
 /// Whether its text is expanded for the shell.
 fn is_expanded(var: &Var) -> bool
@@ -118,7 +105,8 @@ fn hand_entry<V: View>(
     }
 }
 
-/// The variables of the job's shells: those of the command line, and the exported ones.
+/// The variables of the job's shells: those of the command line, and the exported ones. Only these
+/// are gone over, however many others the makefile has.
 pub(crate) fn environment<V: View>(
     alloc: Global,
     desk: &mut Desk<V>,
@@ -131,8 +119,9 @@ pub(crate) fn environment<V: View>(
         (carrying.environment job.now autos.now place.now) }
 {
     let mut env = Vars::new(alloc)?;
-    for i in 0..job.vars.vars().len() {
-        env = hand_entry(alloc, desk, spoken, job, autos, place, env, i)?;
+    let places = job.vars.handed();
+    for i in places {
+        env = hand_entry(alloc, desk, spoken, job, autos, place, env, *i)?;
     }
     Ok(env)
 }

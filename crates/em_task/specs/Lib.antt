@@ -1,1 +1,2 @@
 pub use Rattle.em_vars.specs.Entries
+pub mod Handed
