@@ -1,8 +1,9 @@
-use Rattle.std.proofs.Common.{◌∙◌, ◌+◌, ◌-◌, suc, true, false, drop, refl, sym, ap, [], Ok, None, arith}
+use Rattle.std.proofs.Common.{◌≡◌, ◌∙◌, ◌+◌, ◌-◌, suc, true, false, drop, refl, sym, ap, [], Ok, None, arith}
 use Rattle.em_base.proofs.Lemmas.{left_at, none_at}
 use Rattle.em_view.proofs.Doing.{then_s, exit_s, leave_s, finish_s, out_s, owned_s, refused_s, more_s, stop_s, end_s}
 use Rattle.em_syntax.specs.declared.tree.Command.{out-Command, out-roll-Command}
 use Rattle.em_syntax.specs.declared.tree.Command.TheVariants as command
+use Rattle.em_syntax.specs.declared.tree.Simple.{out-Simple}
 use Rattle.em_syntax.specs.declared.tree.Joined.{out-Joined}
 use Rattle.em_syntax.specs.declared.tree.Branch.{out-Branch}
 use Rattle.em_syntax.specs.declared.tree.Loop.{out-Loop}
@@ -14,6 +15,7 @@ use Rattle.em_command.specs.declared.here.Here.{Here}
 use Rattle.em_command.specs.Heres.{branch}
 use Rattle.em_exec.specs.Copies.{apart, unwritten, put_back, subshell, heard, substituted, collected}
 use Rattle.em_syntax.specs.declared.tree.Compound.{out-Compound}
+use Rattle.em_exec.specs.Literals.{are_said}
 use Rattle.em_exec.specs.Words.{expanded, added, whole, pattern, first_in}
 use Rattle.em_exec.proofs.Literal.{literal_s, whole_s, said_s}
 use Rattle.em_exec.specs.Running.{if_goes, if_zero, if_goes_on, goes_with, goes_on, branches, pipeline_of, and_or_of, joined_one, command_of, simple_of, act, assignment, redirect_one, compound_of, routed, body_of, if_of, one_turn, body_turn, for_of, round, case_of, script_at}
@@ -170,15 +172,17 @@ simple_in-returns-in_err-charge_unit g t c = leave_s _ c.from_residual.ensures.1
 
 pub simple_in-returns-then-are_said : goal.simple_in-returns-then-are_said
 unfolding simple_of
-simple_in-returns-then-are_said g t c = then_s _ (c.in_ok-charge_unit.ensures.does _) (then_s _ (owned_s {r = Ok tt} _ (λ n. refl)) (then_s _ (said_s (script_at c.args.left) c.args.scene.now [] _ _ (sym c.are_said.ensures ∙ c.if-are_said.true)) c.worded_in.ensures))
+simple_in-returns-then-are_said g t c =
+    let said : are_said c.deref.result.now c.deref-2.result.now ≡ true = sym c.are_said.ensures ∙ c.if-are_said.true in
+    then_s _ (c.in_ok-charge_unit.ensures.does _) (then_s _ (owned_s {r = Ok tt} _ (λ n. refl)) (then_s _ (said_s (script_at c.args.left) c.args.scene.now [] (out-Simple c.args.simple.now).texts.items (out-Simple c.args.simple.now).words.items (rw (c.deref.ensures.value, c.deref-2.ensures.value) at said)) (rw c.deref-then-are_said.ensures.value at c.worded_in.ensures)))
 
 pub simple_in-returns-in_err-words : goal.simple_in-returns-in_err-words
 unfolding simple_of
-simple_in-returns-in_err-words g t c = then_s _ (c.in_ok-charge_unit.ensures.does _) (then_s _ (owned_s {r = Ok tt} _ (λ n. refl)) (leave_s _ c.from_residual-in_err-words.ensures.1 (rw c.deref.ensures.value at c.in_err-words.ensures)))
+simple_in-returns-in_err-words g t c = then_s _ (c.in_ok-charge_unit.ensures.does _) (then_s _ (owned_s {r = Ok tt} _ (λ n. refl)) (leave_s _ c.from_residual-in_err-words.ensures.1 (rw c.deref-3.ensures.value at c.in_err-words.ensures)))
 
 pub simple_in-returns : goal.simple_in-returns
 unfolding simple_of
-simple_in-returns g t c = then_s _ (c.in_ok-charge_unit.ensures.does _) (then_s _ (owned_s {r = Ok tt} _ (λ n. refl)) (then_s _ (rw c.deref.ensures.value at c.in_ok-words.ensures) (rw c.items.ensures at c.worded_in.ensures)))
+simple_in-returns g t c = then_s _ (c.in_ok-charge_unit.ensures.does _) (then_s _ (owned_s {r = Ok tt} _ (λ n. refl)) (then_s _ (rw c.deref-3.ensures.value at c.in_ok-words.ensures) (rw c.items.ensures at c.worded_in-2.ensures)))
 
 pub worded_in-returns-in_err-streams : goal.worded_in-returns-in_err-streams
 worded_in-returns-in_err-streams g t c = leave_s _ c.from_residual.ensures.1 (rw c.deref.ensures.value at c.in_err-streams.ensures)
@@ -186,8 +190,8 @@ worded_in-returns-in_err-streams g t c = leave_s _ c.from_residual.ensures.1 (rw
 pub worded_in-returns-in-Some : goal.worded_in-returns-in-Some
 worded_in-returns-in-Some g t c = then_s _ (rw c.deref.ensures.value at c.in_ok-streams.ensures) (rw c.in-Some.is c.acted.ensures)
 
-pub worded_in-returns : goal.worded_in-returns
-worded_in-returns g t c = then_s _ (rw c.deref.ensures.value at c.in_ok-streams.ensures) (rw c.in-None.is finish_s)
+pub worded_in-returns-in-None : goal.worded_in-returns-in-None
+worded_in-returns-in-None g t c = then_s _ (rw c.deref.ensures.value at c.in_ok-streams.ensures) (rw c.in-None.is finish_s)
 
 pub assignments_in-loop-one-init : goal.assignments_in-loop-one-init
 assignments_in-loop-one-init g t c = λ new u r p. p
