@@ -68,10 +68,11 @@ pub fn law_operators()
     ensures duplicate { kinds (codes ">&&") ≡ GreatAnd ∷ Ampersand ∷ [] }
 {}
 
-/// At a place between lexemes the longest operator is read that can be made of what stands there,
-/// and from behind it the line is read on, where again nothing is begun. (Of an operator with a
-/// backslash and a newline behind it nothing is said: these vanish, and it may go on behind them.
-/// Nor of `)`, with which no longer operator begins, and which may close `$(`.)
+/// At a place of a list, outside of words, where nothing is begun, the longest operator is read
+/// that can be made of what stands there, and from behind it the line is read on, where again
+/// nothing is begun. (Of an operator with a backslash and a newline behind it nothing is said:
+/// these vanish, and it may go on behind them. Nor of `)`, with which no longer operator begins,
+/// and which may close `$(`.)
 pub fn law_longest()
     ensures { (within : List ℕ → Lexed) (s : State) (at : ℕ) (what : What) (op rest : List ℕ)
         → IsBetween s → spelling what ≡ Some op → IsLongest op rest
