@@ -1,7 +1,7 @@
 -- When a desk's call succeeds, what it costs and what it leaves, in the words of the laws.
-use Rattle.std.proofs.Common.{◌≡◌, ◌≢◌, ◌⊎◌, inl, inr, ℕ, ◌+◌, ◌-◌, ◌*◌, ◌/◌, ◌<◌, ◌≤◌, Bool, true, false, cond, ltb, ◌&&◌, List, [], ◌∷◌, length, map, sum, Option, Some, None, Result, Ok, Err, arith, refl, sym, ap, subst, ◌∙◌}
+use Rattle.std.proofs.Common.{◌≡◌, ◌≢◌, inl, inr, ℕ, ◌+◌, ◌-◌, ◌*◌, ◌<◌, ◌≤◌, Bool, true, false, cond, ltb, ◌&&◌, List, [], ◌∷◌, length, map, sum, Option, Some, None, Result, Ok, Err, arith, refl, sym, ap, subst, ◌∙◌}
 use Rattle.std.proofs.lemmas.Bool.{ltb-true, ltb-false, le-ltb}
-use Rattle.std.specs.Prelude.{◌↔◌, IsSome, is_some, option_map, unwrap_or, slice_get, filter_map}
+use Rattle.std.specs.Prelude.{◌↔◌, is_some, option_map, unwrap_or, slice_get, filter_map}
 use Rattle.std.specs.FinMap as finite
 use Rattle.std.specs.FinMap.{get, insert, contains_key}
 use Rattle.em_base.proofs.Lemmas.{by_cases}
@@ -12,7 +12,7 @@ use Rattle.em_tree.specs.declared.node.Node.{Node}
 use Rattle.em_tree.specs.declared.node.Node.TheVariants.{File, Dir}
 use Rattle.em_tree.specs.declared.outcome.Outcome.{Outcome}
 use Rattle.em_tree.specs.declared.state.State.{State}
-use Rattle.em_tree.specs.Trees.{Table, Changes, IsTree, kind_of, stamp_of, content_of, changed, laid_over}
+use Rattle.em_tree.specs.Trees.{Table, Changes, kind_of, stamp_of, content_of, changed, laid_over}
 use Rattle.em_tree.specs.Index.{is_parent}
 use Rattle.em_tree.specs.Names.{children_of, in_dir, names_of}
 use Rattle.em_tree.proofs.Naming.{children_none, parent_said}
@@ -22,14 +22,14 @@ use Rattle.em_view.specs.declared.no.DeskNo.{DeskNo}
 use Rattle.em_view.specs.declared.no.DeskNo.TheVariants as no
 use Rattle.em_view.specs.Actions.{Workspace, snapshot, spend}
 use Rattle.em_view.specs.Names.{with_own, names_size}
-use Rattle.em_view.specs.Rows.{blocks, size_of, size_refusal, above_refusal, or_else, put_refusal, dir_refusal, stamped, names_refusal, becomes, put, place, make_dir, remove, touch, kind_at, stamp_at, content, names, outcome}
+use Rattle.em_view.specs.Rows.{blocks, size_of, size_refusal, put_refusal, dir_refusal, stamped, names_refusal, becomes, put, place, make_dir, remove, touch, kind_at, stamp_at, content, names, outcome}
 use Rattle.em_view.proofs.Fitting.{laid_insert, no_child, file_has_no_child}
 use Rattle.em_laws.specs.Expanded.{names_seen}
 use Rattle.em_laws.specs.Nodes.{tree_seen}
 use Rattle.em_laws.specs.Files.{AreWhole}
-use Rattle.em_laws.specs.Calls.{next_number, HasFuel, IsPaid, IsAsked, IsCounted, IsInDir, MayPut, MayMake, MayRemove, MayTouch, with_stamp}
+use Rattle.em_laws.specs.Calls.{next_number, HasFuel, IsPaid, IsAsked, IsCounted, MayPut, MayMake, MayRemove, MayTouch, with_stamp}
 use Rattle.em_laws.proofs.Making.{own_names}
-use Rattle.em_laws.proofs.Calling.{Out, Ends, Changed, next, Removable, IsTaken, Touchable, IsTouched, Told, put_ends, place_ends, make_ends, remove_ends, touch_ends, kind_ends, stamp_ends, content_ends, names_ends, outcome_ends}
+use Rattle.em_laws.proofs.Calling.{Out, Ends, Changed, next, Removable, IsTaken, IsTouched, put_ends, place_ends, make_ends, remove_ends, touch_ends, kind_ends, stamp_ends, content_ends, names_ends, outcome_ends}
 use Rattle.em_laws.proofs.Answering.{names_true}
 
 -- ---- fuel

@@ -2,7 +2,7 @@
 --     Ends P G r          the call ended with a value that is G, where P, and else with none
 --     passed, failed, .._then      the same of one action and then another
 --     put_ends, ..        the calls
-use Rattle.std.proofs.Common.{◌≡◌, ◌≢◌, ◌⊎◌, inl, inr, ℕ, ◌+◌, ◌-◌, ◌*◌, ◌/◌, ◌<◌, ◌≤◌, Bool, true, false, cond, ltb, List, [], ◌∷◌, ◌++◌, length, Option, Some, None, Result, Ok, Err, arith, refl, sym, ap, subst, ◌∙◌}
+use Rattle.std.proofs.Common.{◌≡◌, ◌≢◌, ◌⊎◌, inl, inr, ℕ, ◌+◌, ◌-◌, ◌<◌, ◌≤◌, Bool, cond, ltb, List, [], ◌∷◌, ◌++◌, length, Option, Some, None, Result, Ok, Err, arith, refl, sym, ap, subst, ◌∙◌}
 use Rattle.std.proofs.lemmas.Bool.{ltb-true, ltb-false, lt-ltb, le-ltb}
 use Rattle.std.specs.Prelude.{option_map, unwrap_or, slice_get}
 use Rattle.std.specs.FinMap.{get}
@@ -22,7 +22,7 @@ use Rattle.em_tree.proofs.Lawful.{get-laid_over}
 use Rattle.em_view.specs.declared.no.FileNo.{FileNo}
 use Rattle.em_view.specs.declared.no.DeskNo.{DeskNo}
 use Rattle.em_view.specs.declared.no.DeskNo.TheVariants as no
-use Rattle.em_view.specs.Actions.{Workspace, Oracle, snapshot, Action, go_on, ◌>>=◌, done, fail, ask, mine, spend, ready, has_fuel}
+use Rattle.em_view.specs.Actions.{Workspace, Oracle, snapshot, Action, go_on, ◌>>=◌, done, fail, ask, mine, spend, ready}
 use Rattle.em_view.specs.Names.{with_own, names_size}
 use Rattle.em_view.specs.Rows.{blocks, size_of, kind_by, kind_below, stamp_by, stamp_below, content_by, content_below, is_dir, told_names, amend, made_names, other_names, names_below, change_number, becomes, after_change, change, number, pay, refuse, look_by, look, put_refusal, dir_refusal, stamped, put, place, make_dir, names_refusal, take_away, remove_dir, remove_by, remove_under, remove, touch_dir, touch_bytes, touch_file, touch_by, touch}
 use Rattle.em_view.specs.Rows as rows

@@ -22,7 +22,7 @@ use Rattle.em_view.specs.declared.done.Done.{Done}
 use Rattle.em_view.specs.declared.done.ExecNo.{ExecNo}
 use Rattle.em_view.specs.Actions.{Workspace, Oracle, snapshot, Action, go_on, ◌>>=◌, done}
 use Rattle.em_view.specs.Rows.{kind_at}
-use Rattle.em_view.specs.Steps.{Steps, and_then}
+use Rattle.em_view.specs.Steps.{and_then}
 use Rattle.em_view.specs.Steps as steps
 use Rattle.em_view.proofs.OwnNames.{component_of}
 use Rattle.em_utility.specs.declared.reason.Reason.TheVariants as reason

@@ -21,12 +21,12 @@ use Rattle.em_view.specs.declared.done.Done.{Done}
 use Rattle.em_view.specs.Actions.{Workspace, Oracle, snapshot, Action, go_on, ◌>>=◌, done, fail, ask, mine, spend, ready}
 use Rattle.em_view.specs.Names.{with_own}
 use Rattle.em_view.specs.Rows.{blocks, kind_by, kind_below, kind_at, content_by, content_below, names_below, number, change_number, becomes, change, pay, refuse, look_by, look, put_refusal, stamped, put, names_refusal, take_away, remove_dir, remove_by, remove_under, remove, touch_dir, touch_bytes, touch_file, touch_by, touch}
-use Rattle.em_view.specs.Steps.{Steps, and_then, below, own}
+use Rattle.em_view.specs.Steps.{Steps, and_then, below}
 use Rattle.em_view.specs.Steps as steps
 use Rattle.em_view.proofs.Fitting.{no_child}
 use Rattle.em_utility.specs.declared.operand.OperandNo.{OperandNo}
 use Rattle.em_utility.specs.Operands.{refused, at}
-use Rattle.em_fileutil.specs.Making.{remove_directory_by, remove_directory, touch_absent, touch_operand}
+use Rattle.em_fileutil.specs.Making.{remove_directory_by, remove_directory, touch_operand}
 use Rattle.em_fileutil.specs.Making as making
 use Rattle.em_laws.specs.Expanded.{names_by, names_seen}
 use Rattle.em_laws.specs.Nodes.{tree_seen, AreAlike, OthersStay}

@@ -1,16 +1,15 @@
 -- The numbers of changes: no two changes of a build have the same, and each is above all stamps
 -- that were there.
-use Rattle.std.proofs.Common.{◌≡◌, ℕ, ◌+◌, ◌*◌, ◌^◌, ◌<◌, ◌≤◌, Bool, true, false, cond, List, [], ◌∷◌, map, Option, Some, None, Ok, arith, refl, sym, ap, subst, ◌∙◌}
+use Rattle.std.proofs.Common.{◌≡◌, ℕ, ◌+◌, ◌<◌, ◌≤◌, Bool, true, false, cond, List, [], ◌∷◌, map, Option, Some, None, Ok, arith, refl, sym, ap, subst, ◌∙◌}
 use Rattle.std.specs.Prelude.{max}
 use Rattle.std.specs.FinMap as finite
-use Rattle.std.specs.FinMap.{get, insert, entries, find, get-entries, get-empty}
+use Rattle.std.specs.FinMap.{get, entries, find, get-entries, get-empty}
 use Rattle.std.specs.Ordering.{eq_by_cmp}
 use Rattle.em_base.proofs.Lemmas.{by_cases}
-use Rattle.em_path.specs.Paths.{parent_text}
 use Rattle.em_tree.specs.declared.node.Node.{Node}
 use Rattle.em_tree.specs.declared.node.Node.TheVariants.{File, Dir}
 use Rattle.em_tree.specs.declared.state.State.{State}
-use Rattle.em_tree.specs.Trees.{Table, Changes, stamp_in, stamp_of, greatest, base_of, changed, laid_over}
+use Rattle.em_tree.specs.Trees.{Table, Changes, stamp_in, stamp_of, greatest, base_of, changed}
 use Rattle.em_tree.proofs.Maps.{order}
 use Rattle.em_tree.proofs.Laying.{over, get-changed}
 use Rattle.em_tree.proofs.Lawful.{get-laid_over}

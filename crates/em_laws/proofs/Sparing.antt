@@ -1,6 +1,6 @@
 -- What rm and mkdir -p leave alone, on a state, whatever faults they have.
-use Rattle.std.proofs.Common.{◌≡◌, ◌≢◌, ◌⊎◌, inl, inr, ℕ, ◌+◌, zero, suc, Bool, true, false, cond, List, [], ◌∷◌, ◌++◌, length, take, Option, Some, None, Result, Ok, Err, refl, sym, ap, subst, ◌∙◌, append_assoc, append-nil}
-use Rattle.std.specs.Prelude.{All, IsSome, IfSome, codes, option_map, filter_map}
+use Rattle.std.proofs.Common.{◌≡◌, ◌≢◌, ◌⊎◌, inl, inr, ℕ, ◌+◌, zero, suc, Bool, cond, List, [], ◌∷◌, ◌++◌, length, take, Option, Some, None, Result, Ok, Err, refl, sym, ap, subst, ◌∙◌, append_assoc, append-nil}
+use Rattle.std.specs.Prelude.{All, IsSome, codes, option_map, filter_map}
 use Rattle.std.specs.FinMap.{get, insert}
 use Rattle.std.proofs.lemmas.List.Elements.{recursion_from_All, All-from_recursion}
 use Rattle.em_base.proofs.Lemmas.{by_cases}
@@ -13,14 +13,14 @@ use Rattle.em_tree.specs.declared.node.Node.{Node}
 use Rattle.em_tree.specs.declared.node.Node.TheVariants.{Dir}
 use Rattle.em_tree.specs.declared.state.State.{State}
 use Rattle.em_tree.specs.Trees.{Table, Changes, IsTree, kind_of, laid_over}
-use Rattle.em_tree.specs.Names.{children_of, in_dir, names_of}
+use Rattle.em_tree.specs.Names.{children_of, in_dir}
 use Rattle.em_tree.proofs.Laying.{changed-here}
-use Rattle.em_tree.proofs.Naming.{IsNameList-names, IsNameList-none}
+use Rattle.em_tree.proofs.Naming.{IsNameList-names}
 use Rattle.em_view.specs.declared.no.DeskNo.{DeskNo}
 use Rattle.em_view.specs.declared.no.FileNo.TheVariants as file
 use Rattle.em_view.specs.declared.done.Done.{Done}
 use Rattle.em_view.specs.declared.done.ExecNo.{ExecNo}
-use Rattle.em_view.specs.Actions.{Workspace, snapshot, Action, go_on, ◌>>=◌}
+use Rattle.em_view.specs.Actions.{Workspace, snapshot, go_on, ◌>>=◌}
 use Rattle.em_view.specs.Held.{NamesPaths}
 use Rattle.em_view.specs.Rows.{change_number, becomes, kind_at, names, remove, make_dir}
 use Rattle.em_view.specs.Steps.{Steps, with_state, and_then, below, own, within}
@@ -29,17 +29,17 @@ use Rattle.em_view.proofs.Fitting.{laid_insert, tree_remove, paths_becomes}
 use Rattle.em_utility.specs.declared.reason.Reason.TheVariants as reason
 use Rattle.em_utility.specs.declared.operand.OperandNo.{OperandNo}
 use Rattle.em_utility.specs.declared.operand.OperandNo.TheVariants.{Fault}
-use Rattle.em_utility.specs.Operands.{refused, at, caught, each, Tries}
+use Rattle.em_utility.specs.Operands.{at, caught, each, Tries}
 use Rattle.em_fileutil.specs.Spots.{fault, told, child, gives, there_by, there, ending, levels}
 use Rattle.em_fileutil.specs.Removing.{remove_child, remove_tree, absent, remove_by, remove_node, remove_beneath}
-use Rattle.em_fileutil.specs.Making.{make_by, make_missing, make_under, make_all, make_directory}
+use Rattle.em_fileutil.specs.Making.{make_by, make_missing, make_under, make_all}
 use Rattle.em_laws.specs.Nodes.{tree_seen}
 use Rattle.em_laws.specs.Files.{AreWhole, under, IsUnder, IsOver, removed, made_all}
 use Rattle.em_laws.proofs.Expanding.{kind_there}
 use Rattle.em_laws.proofs.Changing.{same_key_or, becomes_here, elsewhere_else, some_there}
 use Rattle.em_laws.proofs.Filing.{DomainOf, Operand, operand, node_there, rm_law}
 use Rattle.em_laws.proofs.Copying.{Names, AllC, allc_both, allc_front, spells, one_more, parent_path, limits, dir_some, stands_above, some_kind, kind_some}
-use Rattle.em_laws.proofs.Calling.{Out, Ends, Still, IsTaken, kind_ends, names_ends, remove_ends, make_ends}
+use Rattle.em_laws.proofs.Calling.{Out, Ends, Still, kind_ends, names_ends, remove_ends, make_ends}
 use Rattle.em_laws.proofs.Allowing.{bare_by, dir_none, names_says}
 
 abbrev Removal : Type 0

@@ -25,7 +25,6 @@ ghost use Rattle.std.specs.Prelude.{
   unwrap_or,
   Ok,
   Some,
-  None,
 };
 ghost use Rattle.std.specs.FinMap as finite;
 ghost use Rattle.std.specs.FinMap.{get, insert};

@@ -12,7 +12,6 @@ ghost use Rattle.std.specs.Prelude.{
   [],
   All,
   ℕ,
-  true,
   List,
   length,
   replicate,

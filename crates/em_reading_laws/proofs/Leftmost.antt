@@ -1,10 +1,11 @@
 -- What is refused in a rule's head up to a blank, and what stands behind.
-use Rattle.std.proofs.Common.{◌≡◌, ◌≢◌, ◌⊎◌, ◌∙◌, inl, inr, ◌<◌, ℕ, suc, ◌+◌, ◌-◌, ◌==◌, ◌&&◌, ◌||◌, eqb, cond, not, Bool, true, false, List, [], ◌∷◌, ◌++◌, map, length, take, drop, take_at, drop_at, length-append, append_assoc, Option, Some, None, codes, arith, refl, sym, ap, ap₂, subst}
+use Rattle.std.proofs.Common.{◌≡◌, ◌≢◌, ◌⊎◌, ◌∙◌, inl, inr, ◌<◌, ℕ, suc, ◌+◌, ◌-◌, ◌==◌, ◌&&◌, ◌||◌, eqb, cond, not, Bool, true, false, List, [], ◌∷◌, ◌++◌, map, length, take, drop, take_at, drop_at, length-append, append_assoc, append-nil, Option, Some, None, codes, arith, refl, sym, ap, ap₂, subst}
 use Rattle.std.specs.Prelude.{if◌then◌else◌, nat_lt, nat_eq, option_map, option_and_then, slice_get}
 use Rattle.std.specs.List.{AllByRecursion, filter, list_all, onto_first, position, prefix_len, slice_split, starts_with}
 use Rattle.std.specs.Option.{option_or, option_map_or}
 use Rattle.std.specs.Str.{bytes_eq}
 use Rattle.std.proofs.lemmas.Bool.{eqb-true, ne_eqb, lt-ltb, le-ltb}
+use Rattle.std.proofs.lemmas.Slice.Eq.{bytes_eq-Decides}
 use Rattle.std.proofs.lemmas.List.{map-append}
 use Rattle.std.proofs.lemmas.List.Elements.{recursion_from_All, filter-append}
 use Rattle.std.proofs.lemmas.List.Splits.{length-slice_split}
@@ -203,6 +204,94 @@ module _ (b : ℕ) (blank : is_blank b ≡ true) (text rest : List ℕ) where
       by (inl f) = with_bar f
       by (inr none) = without_bar none
 
+  -- what is followed by prerequisites stays so with more of them behind
+  abbrev Follows : List (List ℕ) → List (List ℕ) → Bool
+  Follows n o = not (length n == 0) || not (length o == 0)
+
+  some_filled : (w : List ℕ) (ws : List (List ℕ)) → (length (w ∷ ws) == 0) ≡ false
+  some_filled w ws = ne_eqb (length (w ∷ ws)) 0 (λ e. (let bad : suc (length ws) ≡ 0 = e in absurd (omega (arith, bad))))
+
+  or_more : (n ws vs : List (List ℕ)) → Follows n ws ≡ true → Follows n (ws ++ vs) ≡ true
+  or_more [] [] vs h = absurd cc
+  or_more [] (w ∷ ws) vs h = rw (some_filled w (ws ++ vs)) refl
+  or_more (x ∷ n) ws vs h = rw (some_filled x n) refl
+
+  either_more : (ws vs os : List (List ℕ)) → Follows ws [] ≡ true → Follows (ws ++ vs) os ≡ true
+  either_more [] vs os h = absurd cc
+  either_more (w ∷ ws) vs os h = rw (some_filled w (ws ++ vs)) refl
+
+  last_list : (u : List ℕ) → words_of (u ++ b ∷ []) ≡ words_of u
+  last_list u = words_both u b [] blank ∙ append-nil (words_of u)
+
+  abbrev Stay : Type 0
+  Stay = Follows (words_of (normal_text first_text)) (words_of (order_text first_text)) ≡ true → Follows (words_of (normal_text whole_text)) (words_of (order_text whole_text)) ≡ true
+
+  stay_bar : Found is_bar text → Stay
+  stay_bar f h =
+      let e : first_text ≡ f.front ++ f.byte ∷ (f.rest ++ b ∷ []) = ap (λ (t : List ℕ). t ++ b ∷ []) f.whole ∙ append_assoc f.front (f.byte ∷ f.rest) (b ∷ []) in
+      let g : whole_text ≡ f.front ++ f.byte ∷ (f.rest ++ b ∷ rest) = ap (λ (t : List ℕ). t ++ b ∷ rest) f.whole ∙ append_assoc f.front (f.byte ∷ f.rest) (b ∷ rest) in
+      let x = parts_at f.front f.byte (f.rest ++ b ∷ []) f.none f.is in
+      let y = parts_at f.front f.byte (f.rest ++ b ∷ rest) f.none f.is in
+      let nx : words_of (normal_text first_text) ≡ words_of f.front = ap (λ t. words_of (normal_text t)) e ∙ ap words_of x.0 in
+      let ny : words_of (normal_text whole_text) ≡ words_of f.front = ap (λ t. words_of (normal_text t)) g ∙ ap words_of y.0 in
+      let ox : words_of (order_text first_text) ≡ words_of f.rest = ap (λ t. words_of (order_text t)) e ∙ ap words_of x.1 ∙ last_list f.rest in
+      let oy : words_of (order_text whole_text) ≡ words_of f.rest ++ words_of rest = ap (λ t. words_of (order_text t)) g ∙ ap words_of y.1 ∙ words_both f.rest b rest blank in
+      ap₂ Follows ny oy ∙ or_more (words_of f.front) (words_of f.rest) (words_of rest) (sym (ap₂ Follows nx ox) ∙ h)
+
+  stay_none : list_all (other is_bar) text ≡ true → Stay
+  stay_none none h =
+      let blank_other : list_all (other is_bar) (b ∷ []) ≡ true = rw (blank_is_no_bar b blank) refl in
+      let x = parts_none first_text (all_append (other is_bar) text (b ∷ []) none blank_other) in
+      let nx : words_of (normal_text first_text) ≡ words_of text = ap words_of x.0 ∙ last_list text in
+      let ox : words_of (order_text first_text) ≡ [] = ap words_of x.1 in
+      let ny = behind_none none (find_first is_bar rest) in
+      ap (λ n. Follows n (words_of (order_text whole_text))) ny.1 ∙ either_more (words_of text) ny.0 (words_of (order_text whole_text)) (sym (ap₂ Follows nx ox) ∙ h)
+    where
+      behind_none : list_all (other is_bar) text ≡ true → Found is_bar rest ⊎ (list_all (other is_bar) rest ≡ true) → (more : List (List ℕ)) × (words_of (normal_text whole_text) ≡ words_of text ++ more)
+      behind_none none (inl f) =
+          let front : list_all (other is_bar) (text ++ b ∷ f.front) ≡ true = all_append (other is_bar) text (b ∷ f.front) none (rw (blank_is_no_bar b blank) f.none) in
+          let g : whole_text ≡ (text ++ b ∷ f.front) ++ f.byte ∷ f.rest = ap (λ (t : List ℕ). text ++ b ∷ t) f.whole ∙ sym (append_assoc text (b ∷ f.front) (f.byte ∷ f.rest)) in
+          (words_of f.front, ap (λ t. words_of (normal_text t)) g ∙ ap words_of (parts_at (text ++ b ∷ f.front) f.byte f.rest front f.is).0 ∙ words_both text b f.front blank)
+      behind_none none (inr all) =
+          let whole : list_all (other is_bar) whole_text ≡ true = all_append (other is_bar) text (b ∷ rest) none (rw (blank_is_no_bar b blank) all) in
+          (words_of rest, ap words_of (parts_none whole_text whole).0 ∙ words_both text b rest blank)
+
+  followed_stays : Stay
+  followed_stays = by (find_first is_bar text)
+    where
+      by : Found is_bar text ⊎ (list_all (other is_bar) text ≡ true) → Stay
+      by (inl f) = stay_bar f
+      by (inr none) = stay_none none
+
+-- ---- targets among which is `.SUFFIXES`
+
+-- the refusal stays, or is that of `.SUFFIXES` now
+abbrev Stays : Option (List ℕ) → Option (List ℕ) → Type 0
+Stays n m = (m ≡ n) ⊎ (m ≡ Some (codes ".SUFFIXES"))
+
+stays_one : (m s x : Bool) (p : Option (List ℕ)) (t u : List ℕ) (fs gs : List (Option (List ℕ))) → (x ≡ true → u ≡ codes ".SUFFIXES") → Stays (first_of fs) (first_of gs)
+    → Stays (first_of ((if m then Some t else if s then Some u else if false && x then Some u else p) ∷ fs)) (first_of ((if m then Some t else if s then Some u else if true && x then Some u else p) ∷ gs))
+stays_one true s x p t u fs gs is h = inl refl
+stays_one false true x p t u fs gs is h = inl refl
+stays_one false false true p t u fs gs is h = inr (ap Some (is refl))
+stays_one false false false (Some r) t u fs gs is h = inl refl
+stays_one false false false None t u fs gs is h = h
+
+abbrev refused_among : Bool → Bool → List (List ℕ) → Option (List ℕ)
+refused_among several followed ts = first_of (map (target_refusal several followed) ts)
+
+stays_all : (several : Bool) (ts : List (List ℕ)) → Stays (refused_among several false ts) (refused_among several true ts)
+stays_all several [] = inl refl
+stays_all several (t ∷ ts) =
+    stays_one (is_member t) (is_special (undotted t)) (bytes_eq (undotted t) (codes ".SUFFIXES")) (percent_refusal several t) t (undotted t) (map (target_refusal several false) ts) (map (target_refusal several true) ts)
+    (λ is. (bytes_eq-Decides (undotted t) (codes ".SUFFIXES")).0 is) (stays_all several ts)
+
+stays_by : (several f g : Bool) (ts : List (List ℕ)) → (f ≡ true → g ≡ true) → Stays (refused_among several f ts) (refused_among several g ts)
+stays_by several true true ts up = inl refl
+stays_by several true false ts up = absurd (let bad = up refl in cc)
+stays_by several false true ts up = stays_all several ts
+stays_by several false false ts up = inl refl
+
 -- ---- the head
 
 module _ (targets middle : List ℕ) (plain : list_all (other is_colon) targets ≡ true) where
@@ -319,6 +408,33 @@ module _ (targets middle : List ℕ) (plain : list_all (other is_colon) targets 
         last ∙ both_or (first_of (map (target_refusal (has_several y) (is_followed y)) y.targets)) (colon_refusal c assigns y.targets) (among x.normal) (among x.order) (among y.normal) (among y.order) name (prerequisites b blank s.1 rest)
         (sym (ap (λ t. option_or t (option_or (colon_refusal c assigns x.targets) (option_or (among x.normal) (among x.order)))) ts) ∙ sym first ∙ h)
 
+  either_or : (t r c n o m p : Option (List ℕ)) (name : List ℕ) → Further n o m p → Stays t r → option_or t (option_or c (option_or n o)) ≡ Some name
+      → (option_or r (option_or c (option_or m p)) ≡ Some name) ⊎ (option_or r (option_or c (option_or m p)) ≡ Some (codes ".SUFFIXES"))
+  either_or t r c n o m p name h (inl e) is = inl (ap (λ x. option_or x (option_or c (option_or m p))) e ∙ both_or t c n o m p name h is)
+  either_or t r c n o m p name h (inr e) is = inr (ap (λ x. option_or x (option_or c (option_or m p))) e)
+
+  module _ (b : ℕ) (rest : List ℕ) (blank : is_blank b ≡ true) (none : list_all (other is_colon) rest ≡ true) where
+    any_targets : (assigns : Bool) (name : List ℕ) → refusal_of assigns (line (b ∷ [])) ≡ Some name → (refusal_of assigns (line (b ∷ rest)) ≡ Some name) ⊎ (refusal_of assigns (line (b ∷ rest)) ≡ Some (codes ".SUFFIXES"))
+    unfolding among
+    any_targets assigns name h =
+        let s = shape in
+        let x = head names s.0 (s.1 ++ b ∷ []) in
+        let y = head names s.0 (s.1 ++ b ∷ rest) in
+        let c = colon_of targets (middle ++ b ∷ []) in
+        let first : refusal_of assigns (line (b ∷ [])) ≡ head_refusal assigns c x = refusal_is assigns (b ∷ []) ∙ ap (head_refusal assigns c) (s.2 b [] blank refl) in
+        let last : refusal_of assigns (line (b ∷ rest)) ≡ head_refusal assigns c y = refusal_is assigns (b ∷ rest) ∙ ap₂ (head_refusal assigns) ((behind_is middle refl).2 b rest blank) (s.2 b rest blank none) in
+        let up : is_followed x ≡ true → is_followed y ≡ true = followed_stays b blank s.1 rest in
+        let found = either_or (refused_among (has_several x) (is_followed x) x.targets) (refused_among (has_several y) (is_followed y) y.targets) (colon_refusal c assigns y.targets) (among x.normal) (among x.order) (among y.normal) (among y.order) name
+        (prerequisites b blank s.1 rest) (stays_by (has_several x) (is_followed x) (is_followed y) x.targets up) (sym first ∙ h) in
+        subst (λ r. (r ≡ Some name) ⊎ (r ≡ Some (codes ".SUFFIXES"))) (sym last) found
+
+pub any_law : (assigns : Bool) (targets middle rest name : List ℕ) (b : ℕ) → is_blank b ≡ true → HasNo 58 targets → HasNo 58 rest
+    → refusal_of assigns (targets ++ 58 ∷ middle ++ b ∷ []) ≡ Some name → (refusal_of assigns (targets ++ 58 ∷ middle ++ b ∷ rest) ≡ Some name) ⊎ (refusal_of assigns (targets ++ 58 ∷ middle ++ b ∷ rest) ≡ Some (codes ".SUFFIXES"))
+any_law assigns targets middle rest name b blank plain none h =
+    let first = no_colon targets plain in
+    let parted = λ (x : List ℕ). ap (refusal_of assigns) (append_assoc targets (58 ∷ middle) x) in
+    subst (λ r. (r ≡ Some name) ⊎ (r ≡ Some (codes ".SUFFIXES"))) (sym (parted (b ∷ rest))) (any_targets targets middle first b rest blank (no_colon rest none) assigns name (sym (parted (b ∷ [])) ∙ h))
+
 known_names : (targets middle : List ℕ) (plain : list_all (other is_colon) targets ≡ true) → NamesNoSuffixes (targets ++ 58 ∷ middle) → AllByRecursion (λ t. bytes_eq (undotted t) (codes ".SUFFIXES") ≡ false) (words_of (targets_text targets))
 unfolding head_of
 known_names targets middle plain h =
@@ -357,14 +473,23 @@ and_true : (x : Bool) → (x && true) ≡ x
 and_true true = refl
 and_true false = refl
 
-pub known_law : (l : RuleLine) (targets middle rest name function : List ℕ) (b : ℕ) → is_blank b ≡ true → HasNo 58 targets → HasNo 58 rest → NamesNoSuffixes (targets ++ 58 ∷ middle)
-    → refusal_in l (cut_off (targets ++ 58 ∷ middle ++ b ∷ []) function) ≡ Some name → refusal_of l.assigns (targets ++ 58 ∷ middle ++ b ∷ rest) ≡ Some name
-known_law l targets middle rest name function b blank plain none suffixes h =
+known_is : (l : RuleLine) (targets middle function : List ℕ) (b : ℕ) → is_blank b ≡ true
+    → (let text = targets ++ 58 ∷ middle ++ b ∷ [] in refusal_in l (cut_off text function) ≡ refusal_of l.assigns text)
+known_is l targets middle function b blank =
     let text = targets ++ 58 ∷ middle ++ b ∷ [] in
     let there : has_colon text ≡ true = ap has_colon (append_assoc targets (58 ∷ middle) (b ∷ [])) ∙ colon_there targets (middle ++ b ∷ []) in
     let ends : goes_on text ≡ false = blank_ends b (targets ++ 58 ∷ middle) blank in
-    let is : refusal_in l (cut_off text function) ≡ refusal_of l.assigns text =
     ap (λ c. refusal_of (l.assigns && c) (if c then ended text else ended text ++ colons_in l.head)) there
     ∙ ap (λ g. refusal_of (l.assigns && true) (if g then text ++ 120 ∷ [] else text)) ends
-    ∙ ap (λ a. refusal_of a text) (and_true l.assigns) in
-    whole_law l.assigns targets middle rest name b blank plain none suffixes (sym is ∙ h)
+    ∙ ap (λ a. refusal_of a text) (and_true l.assigns)
+
+pub known_law : (l : RuleLine) (targets middle rest name function : List ℕ) (b : ℕ) → is_blank b ≡ true → HasNo 58 targets → HasNo 58 rest → NamesNoSuffixes (targets ++ 58 ∷ middle)
+    → refusal_in l (cut_off (targets ++ 58 ∷ middle ++ b ∷ []) function) ≡ Some name → refusal_of l.assigns (targets ++ 58 ∷ middle ++ b ∷ rest) ≡ Some name
+known_law l targets middle rest name function b blank plain none suffixes h =
+    whole_law l.assigns targets middle rest name b blank plain none suffixes (sym (known_is l targets middle function b blank) ∙ h)
+
+pub known_any : (l : RuleLine) (targets middle rest name function : List ℕ) (b : ℕ) → is_blank b ≡ true → HasNo 58 targets → HasNo 58 rest
+    → refusal_in l (cut_off (targets ++ 58 ∷ middle ++ b ∷ []) function) ≡ Some name
+    → (refusal_of l.assigns (targets ++ 58 ∷ middle ++ b ∷ rest) ≡ Some name) ⊎ (refusal_of l.assigns (targets ++ 58 ∷ middle ++ b ∷ rest) ≡ Some (codes ".SUFFIXES"))
+known_any l targets middle rest name function b blank plain none h =
+    any_law l.assigns targets middle rest name b blank plain none (sym (known_is l targets middle function b blank) ∙ h)

@@ -1,4 +1,8 @@
 mod Going
+mod Burning
+mod Tending
+mod Lasting
+mod Wording
 mod Joining
 mod Piping
 mod Looping
@@ -6,3 +10,4 @@ mod Writing
 mod Redirecting
 mod Compounding
 mod Quoting
+mod Spelling

@@ -92,7 +92,7 @@ module _ (until : Bool) (test body : Acts (Unit {0})) (last : ℕ) (o : Oracle) 
   goes_comes less h w true = body_comes less h w
   goes_comes less h w false = omega arith
 
-  turn_comes : MakesNoFuel test → MakesNoFuel body → (h : Here) (w : Workspace) → (turn h o w).1.fuel ≤ w.fuel
+  pub turn_comes : MakesNoFuel test → MakesNoFuel body → (h : Here) (w : Workspace) → (turn h o w).1.fuel ≤ w.fuel
   unfolding own done
   turn_comes less_test less h w = subst (λ (y : Outcome (Option ℕ)). y.1.fuel ≤ w.fuel) (sym (tested h w (test h o w) refl)) (by (test h o w) (less_test h o w))
     where

@@ -15,6 +15,7 @@ use Rattle.em_utility.specs.Operands.{located, named}
 use Rattle.em_syntax.specs.declared.tree.Redirect.{Redirect, out-Redirect}
 use Rattle.em_syntax.specs.declared.tree.RedirectKind.{RedirectKind}
 use Rattle.em_syntax.specs.declared.tree.RedirectKind.TheVariants.{Write, Append, Duplicate}
+use Rattle.em_word.specs.Literal.{literal_of}
 use Rattle.em_command.specs.declared.here.Here.{Here}
 use Rattle.em_command.specs.declared.here.Scene.{Scene}
 use Rattle.em_command.specs.declared.streams.Opened.{Opened}
@@ -31,6 +32,7 @@ use Rattle.em_shell_laws.specs.Pipes.{is_on, said, said_on, beside}
 use Rattle.em_shell_laws.specs.Redirections.{Is, Says, Empties, Finds, IsTwoToOne, into, both_into, apart_into, Holds}
 use Rattle.em_shell_laws.proofs.Going.{Outcome, then_on}
 use Rattle.em_shell_laws.proofs.Writing.{put_holds, looking_keeps}
+use Rattle.em_shell_laws.proofs.Wording.{literal_whole}
 
 not_null : (p : List ℕ) → p ≢ codes "/dev/null" → bytes_eq p (codes "/dev/null") ≡ false
 not_null p other = by_cases (bytes_eq p (codes "/dev/null")) (λ b. bytes_eq p (codes "/dev/null") ≡ b → b ≡ false) (λ _ is. absurd (other ((bytes_eq-Decides p (codes "/dev/null")).0 is))) (λ _ _. refl) refl
@@ -67,6 +69,9 @@ module _ (deeper : Deeper) (scene : Scene) (o : Oracle) where
 
   doubles : (q : Redirect) (s : Streams) (h : Here) (w : Workspace) → IsTwoToOne deeper scene o q → Ends o (redirect_one deeper scene q s) h w (Some (record s { errors = s.output })) h w
   doubles q s h w is = by_word q 2 Duplicate s (codes "1") h h w w is.is (is.word h w) ∙ by_double s h w
+
+  pub two_to_one : (q : Redirect) → Is 2 Duplicate q → literal_of (out-Redirect q).target ≡ Some (codes "1") → IsTwoToOne deeper scene o q
+  two_to_one q is e = record { is = is; word = λ h w. literal_whole deeper scene o h w (out-Redirect q).target (codes "1") e }
 
   -- two redirections
   two : (r q : Redirect) (s x y : Streams) (h t k : Here) (w v u : Workspace) → Ends o (redirect_one deeper scene r s) h w (Some x) t v → Ends o (redirect_one deeper scene q x) t v (Some y) k u

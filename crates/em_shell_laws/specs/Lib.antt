@@ -4,3 +4,4 @@ pub mod Pipes
 pub mod Loops
 pub mod Redirections
 pub mod Quotes
+pub mod Operators

@@ -1,16 +1,18 @@
 //! `while` and `until`: the function's contract is the law.
-ghost use Rattle.std.specs.Prelude.{◌≡◌, ◌<◌, ℕ, Ok};
+ghost use Rattle.std.specs.Prelude.{◌≡◌, ◌<◌, ◌≤◌, ℕ, Ok};
 ghost use Rattle.em_view.specs.declared.done.ExecNo.{ExecNo};
 ghost use Rattle.em_view.specs.declared.done.ExecNo.TheVariants.{Spent};
 ghost use Rattle.em_view.specs.Actions.{Oracle, Workspace};
 ghost use Rattle.em_syntax.specs.declared.tree.Loop.{Loop, out-Loop};
+ghost use Rattle.em_syntax.specs.declared.tree.Script.{Script};
 ghost use Rattle.em_command.specs.declared.jump.Jump.{Jump};
 ghost use Rattle.em_command.specs.declared.jump.Jump.TheVariants.{Exit, Break, Continue, End};
 ghost use Rattle.em_command.specs.declared.here.Here.{Here};
 ghost use Rattle.em_command.specs.declared.here.Scene.{Scene};
 ghost use Rattle.em_command.specs.Heres.{with_status};
 ghost use Rattle.em_exec.specs.Words.{Deeper};
-ghost use Rattle.em_exec.specs.Running.{loop_of};
+ghost use Rattle.em_exec.specs.Running.{loop_of, script_at};
+ghost use Rattle.em_exec.specs.Exec.{Session, run};
 ghost use Rattle.em_shell_laws.specs.Ends.{Ends, Leaves};
 ghost use Rattle.em_shell_laws.specs.Loops.{
   test_of,
@@ -89,4 +91,12 @@ pub fn law_loop()
         (h : Here) (w : Workspace) → MakesNoFuel (test_of deeper scene c)
         → MakesNoFuel (body_of deeper scene c) → w.fuel < n
         → turns_of deeper scene c n last h o w ≡ going_on deeper scene c last h o w }
+{}
+
+/// No script makes fuel, however many levels may stand in it and however it ends, and so no line.
+pub fn law_no_fuel()
+    ensures script { (left : ℕ) (s : Script) (scene : Scene)
+        → MakesNoFuel (script_at left s scene) }
+    ensures line { (script : Script) (s : Session) (o : Oracle) (w : Workspace)
+        → (run script s o w).1.fuel ≤ w.fuel }
 {}

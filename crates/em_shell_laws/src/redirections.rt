@@ -20,7 +20,9 @@ ghost use Rattle.em_view.specs.declared.done.ExecNo.{ExecNo};
 ghost use Rattle.em_view.specs.Actions.{Oracle, Workspace};
 ghost use Rattle.em_view.specs.Rows.{content, content_below};
 ghost use Rattle.em_syntax.specs.declared.tree.Compound.{Compound};
-ghost use Rattle.em_syntax.specs.declared.tree.Redirect.{Redirect};
+ghost use Rattle.em_syntax.specs.declared.tree.Redirect.{Redirect, out-Redirect};
+ghost use Rattle.em_syntax.specs.declared.tree.RedirectKind.TheVariants.{Duplicate};
+ghost use Rattle.em_word.specs.Literal.{literal_of};
 ghost use Rattle.em_command.specs.declared.jump.Jump.{Jump};
 ghost use Rattle.em_command.specs.declared.jump.Jump.TheVariants.{End};
 ghost use Rattle.em_command.specs.declared.here.Here.{Here};
@@ -37,6 +39,7 @@ ghost use Rattle.em_exec.specs.Running as running;
 ghost use Rattle.em_shell_laws.specs.Ends.{Ends, Leaves, Comes, HasEnd};
 ghost use Rattle.em_shell_laws.specs.Pipes.{said, said_on, beside};
 ghost use Rattle.em_shell_laws.specs.Redirections.{
+  Is,
   Empties,
   Finds,
   IsTwoToOne,
@@ -49,8 +52,11 @@ ghost use Rattle.em_shell_laws.specs.Redirections.{
 /// Redirections act from left to right. With `> f 2>&1` both streams go to f; with `2>&1 > f`
 /// stream 2 goes where stream 1 went before, and stream 1 to f. So from a command with the first
 /// all that it wrote is for f, in its order, and nothing goes on. With the second, and no
-/// redirection before, what it wrote on stream 1 is for f, and the rest goes on as output.
+/// redirection before, what it wrote on stream 1 is for f, and the rest goes on as output. The word
+/// behind `2>&` is to come to `1`, as the digit itself does in any shell, quoted or not.
 pub fn law_order()
+    ensures digit { (deeper : Deeper) (scene : Scene) (o : Oracle) (q : Redirect) → Is 2 Duplicate q
+        → literal_of (out-Redirect q).target ≡ Some (codes "1") → IsTwoToOne deeper scene o q }
     ensures both { (deeper : Deeper) (scene : Scene) (o : Oracle) (r q : Redirect) (s : Streams)
         (f : Opened) (h t : Here) (w v : Workspace) → Empties deeper scene o r h w f t v
         → IsTwoToOne deeper scene o q
