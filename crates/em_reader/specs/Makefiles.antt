@@ -2,7 +2,8 @@
 --     start_vars order cwd defaults    the variables at the start
 --     makefile_of name                 the makefile's name and bytes: the one that is asked for, or the first of the three names
 --     reading order cwd defaults       the book that it makes and what was said, or the first fault and what was said before it
-use Rattle.std.specs.Prelude.{ℕ, ◌==◌, ◌||◌, not, Bool, true, false, List, [], ◌∷◌, ◌++◌, length, fold, find, map, Option, Some, None, Result, Ok, Err, codes, if◌then◌else◌}
+--     round order cwd defaults         the same, where an absent file of `include` is noted instead of refused
+use Rattle.std.specs.Prelude.{ℕ, ◌==◌, ◌||◌, not, Bool, true, false, List, [], ◌∷◌, ◌++◌, length, fold, find, map, Option, Some, None, unwrap_or, Result, Ok, Err, codes, if◌then◌else◌}
 use Rattle.std.specs.List.{list_any, flat_map}
 use Rattle.std.specs.FinMap.{empty}
 use Rattle.em_base.specs.declared.place.Place.{Place}
@@ -26,10 +27,12 @@ use Rattle.em_reading.specs.declared.no.ReadNo.{ReadNo}
 use Rattle.em_reading.specs.declared.no.Fault.TheVariants as fault
 use Rattle.em_reading.specs.declared.heard.Expanded.{Expanded}
 use Rattle.em_reader.specs.declared.files.Makefile.{Makefile}
+use Rattle.em_reader.specs.declared.makefiles.Round.{Round}
 use Rattle.em_reading.specs.declared.reading.Reading.{Reading}
+use Rattle.em_reading.specs.declared.noted.Noted.{Noted}
 use Rattle.em_reading.specs.Faults.{at_place}
 use Rattle.em_reading.specs.Start.{start, start_vars, set_goal}
-use Rattle.em_reading.specs.Changes.{Change, good, close_rule, end_conditionals}
+use Rattle.em_reading.specs.Changes.{Change, good, opens, nothing_noted, close_rule, end_conditionals}
 use Rattle.em_reader.specs.Hearing.{Reads, heard}
 use Rattle.em_reader.specs.Acting.{unless_refused}
 use Rattle.em_reader.specs.Reading.{read_text, content_of}
@@ -82,6 +85,7 @@ levels = 65
 unfoldable pub read_file : Makefile → Reads (Unit {0})
 read_file m = do
   u ← own found
+  v ← own (opens m.name)
   read_text levels (line_one m.name) (joined m.name m.bytes)
 
 abbrev pub read_makefile : Option Makefile → Reads (Unit {0})
@@ -128,6 +132,32 @@ read_from name cwd vars = λ said o w. (made (read_all name (start cwd vars said
 
 abbrev pub reading : Order → List ℕ → Entries → Steps (List ℕ) ReadNo Book
 reading order cwd defaults = read_from order.makefile cwd (start_vars order.goals order.assigned cwd defaults)
+
+-- ---- a round: where files are noted
+
+-- the start, where files are noted behind these
+abbrev pub start_noting : Option Noted → List ℕ → Entries → List ℕ → Reading
+start_noting noted cwd vars said = record (start cwd vars said) { noted = noted }
+
+abbrev pub round_with : Book → Noted → Round
+round_with b n = record { book = b; files = n.files; missing = n.missing }
+
+abbrev pub round_of : Book → Option Noted → Round
+round_of b noted = round_with b (unwrap_or noted nothing_noted)
+
+abbrev pub made_round : Result (Unit {0} × Reading) (ReadNo × Reading) → Result (Round × List ℕ) (ReadNo × List ℕ)
+made_round (Ok p) = Ok (round_of p.1.book p.1.noted, p.1.spoken.said)
+made_round (Err p) = Err (p.0, p.1.spoken.said)
+
+unfoldable pub round_from : Option Noted → Option (List ℕ) → List ℕ → Entries → Steps (List ℕ) ReadNo Round
+round_from noted name cwd vars = λ said o w. (made_round (read_all name (start_noting noted cwd vars said) o w).0, (read_all name (start_noting noted cwd vars said) o w).1)
+
+abbrev pub noting : Option Noted → Order → List ℕ → Entries → Steps (List ℕ) ReadNo Round
+noting noted order cwd defaults = round_from noted order.makefile cwd (start_vars order.goals order.assigned cwd defaults)
+
+-- an absent file of `include` is noted instead of refused
+abbrev pub round : Order → List ℕ → Entries → Steps (List ℕ) ReadNo Round
+round order cwd defaults = noting (Some nothing_noted) order cwd defaults
 
 -- the desk of a reading that has asked nothing
 abbrev pub fresh : Workspace

@@ -28,7 +28,7 @@ use Rattle.em_reading.specs.declared.heard.Heard.{Heard}
 use Rattle.em_reading.specs.declared.reading.Reading.{Reading}
 use Rattle.em_reading.specs.declared.reading.Body.{Body}
 use Rattle.em_reading.specs.Faults.{at_place, of_desk}
-use Rattle.em_reading.specs.Changes.{Change, good, bad, is_read, close_rule, recipe, enter, other, leave, define_line, body_line, ends_body, whole, take_define, end_text, without_evals}
+use Rattle.em_reading.specs.Changes.{Change, good, bad, is_read, close_rule, recipe, enter, other, leave, define_line, body_line, ends_body, whole, take_define, end_text, without_evals, opens, lacks}
 use Rattle.em_reader.specs.Hearing.{Reads, hear, hear_condition}
 use Rattle.em_reading.specs.Heard.{refused_in, if_heard, else_if_heard}
 use Rattle.em_reader.specs.Acting.{matched, act_alone, unless_refused}
@@ -89,9 +89,12 @@ evaluated deeper p h = do
 
 -- ---- `include`
 
+-- the file is noted, and its lines are read; one that isn't there is noted, or is a fault where it is needed
 abbrev pub included : Deeper → Bool → Place → List ℕ → Option (List ℕ) → Reads (Unit {0})
-included deeper required p name None = if required then refuse (at_place p (fault.Include name)) else done tt
-included deeper required p name (Some bytes) = deeper p (joined name bytes)
+included deeper required p name None = own (lacks required p name)
+included deeper required p name (Some bytes) = do
+  u ← own (opens name)
+  deeper p (joined name bytes)
 
 unfoldable pub include_one : Deeper → Bool → Place → List ℕ → Reads (Unit {0})
 include_one deeper required p name = do

@@ -4,7 +4,7 @@ ghost use Rattle.em_path.specs.Paths.{root_text};
 ghost use Rattle.em_path.specs.Reading.{read_fault, resolved_text};
 ghost use Rattle.em_reading.specs.Faults.{is_free};
 ghost use Rattle.em_reader.specs.Makefiles as makefiles;
-ghost use Rattle.em_reader.specs.Makefiles.{fresh, line_one, reading, read_all};
+ghost use Rattle.em_reader.specs.Makefiles.{fresh, line_one, reading, read_all, round};
 ghost use Rattle.em_view.specs.Actions.{snapshot};
 ghost use Rattle.em_view.specs.Performs as performs;
 ghost use Rattle.em_view.specs.Steps.{Does, with_state};
@@ -12,11 +12,11 @@ ghost use Rattle.em_view.specs.Steps.{Does, with_state};
 use crate::files::{Makefile, content_of};
 use crate::goal::default_goal;
 use crate::read::read_text;
-use em_base::{Fuel, NoMemory, Place, Text};
+use em_base::{Fuel, NoMemory, Place, Seq, Text};
 use em_cmdline::Order;
 use em_lines::joined;
 use em_path::{Path, PathNo};
-use em_reading::{ReadNo, Reading, absent, start, start_vars};
+use em_reading::{Missing, Noted, ReadNo, Reading, absent, start, start_vars};
 use em_rules::Book;
 use em_tree::State;
 use em_vars::Vars;
@@ -110,6 +110,7 @@ fn read_file<V: View>(
         (makefiles.read_file makefile.now) }
 {
     reading.book.found = true;
+    reading.opens(alloc, makefile.name.bytes())?;
     let place = line_one(alloc, makefile.name.bytes())?;
     let lines = joined(alloc, &makefile.name, makefile.bytes.bytes())?;
     read_text(alloc, LEVELS, desk, reading, &place, &lines)
@@ -161,20 +162,47 @@ fn read_all<V: View>(
 
 // ---- the whole
 
-/// The reading from its start on.
-fn read_from<V: View>(
+/// What a round of reading gives.
+#[derive(Drop)]
+pub struct Round {
+    pub book: Book,
+    /// The names of the files that were read, in order: the makefile's, and those of `include`.
+    pub files: Seq<Text>,
+    /// The files that an `include` names and that aren't there, in order.
+    pub missing: Seq<Missing>,
+}
+
+/// The book, with what was noted of files.
+fn round_of(alloc: Global, book: Book, noted: Option<Noted>) -> Round
+    ensures { result ≡ makefiles.round_of book noted }
+{
+    let Noted { files, missing } = match noted {
+        Some(noted) => noted,
+        None => Noted::new(alloc),
+    };
+    Round {
+        book,
+        files,
+        missing,
+    }
+}
+
+/// The reading from its start on, where files are noted behind these.
+fn round_from<V: View>(
     alloc: Global,
     desk: &mut Desk<V>,
     order: &Order,
+    noted: Option<Noted>,
     cwd: Path,
     vars: Vars,
     said: &mut Text,
-) -> Result<Book, ReadNo>
+) -> Result<Round, ReadNo>
     ensures { Does is_free V.tells desk.old desk.new said.old said.new result
-        (makefiles.read_from order.now.makefile cwd vars) }
+        (makefiles.round_from noted order.now.makefile cwd vars) }
 {
     let mut reading = start(alloc, cwd, vars, Text::new(alloc))?;
     reading.spoken.said = mem::replace(said, Text::new(alloc));
+    reading.noted = noted;
     let result = read_all(alloc, desk, &mut reading, &order.makefile);
     let Reading {
         cwd: _,
@@ -184,12 +212,40 @@ fn read_from<V: View>(
         begun: _,
         define: _,
         spoken,
+        noted,
     } = reading;
     *said = spoken.said;
     match result {
-        Ok(()) => Ok(book),
+        Ok(()) => Ok(round_of(alloc, book, noted)),
         Err(e) => Err(e),
     }
+}
+
+/// Reads the makefile that the order asks for, where files are noted behind these.
+fn noting<V: View>(
+    alloc: Global,
+    desk: &mut Desk<V>,
+    order: &Order,
+    noted: Option<Noted>,
+    defaults: &Vars,
+    said: &mut Text,
+) -> Result<Round, ReadNo>
+    requires { read_fault root_text order.now.dir ≡ None }
+    ensures { Does is_free V.tells desk.old desk.new said.old said.new result
+        (makefiles.noting noted order.now (resolved_text root_text order.now.dir) defaults.now) }
+{
+    let cwd = match Path::read(alloc, &Path::root(), order.dir.bytes()) {
+        Ok(cwd) => cwd,
+        Err(_) => return Err(ReadNo::NoMemory),
+    };
+    let vars = start_vars(
+        alloc,
+        order.goals.items(),
+        order.assigned.items(),
+        &cwd,
+        defaults,
+    )?;
+    round_from(alloc, desk, order, noted, cwd, vars, said)
 }
 
 /// Reads the makefile that the order asks for, over any desk: its `-f`, else the first of
@@ -214,18 +270,8 @@ pub fn read_through<V: View>(
     ensures { Does is_free V.tells desk.old desk.new said.old said.new result
         (reading order.now (resolved_text root_text order.now.dir) defaults.now) }
 {
-    let cwd = match Path::read(alloc, &Path::root(), order.dir.bytes()) {
-        Ok(cwd) => cwd,
-        Err(_) => return Err(ReadNo::NoMemory),
-    };
-    let vars = start_vars(
-        alloc,
-        order.goals.items(),
-        order.assigned.items(),
-        &cwd,
-        defaults,
-    )?;
-    read_from(alloc, desk, order, cwd, vars, said)
+    let round = noting(alloc, desk, order, None, defaults, said)?;
+    Ok(round.book)
 }
 
 /// Reads the makefile that the order asks for in a state, with 10,000,000 units of fuel: `Spent`
@@ -246,4 +292,27 @@ pub fn read_makefiles(
     let defaults = Vars::new(alloc)?;
     let mut desk = Desk::new(alloc, PlainView::new(state), 0, 0, Fuel::new(FUEL));
     read_through(alloc, &mut desk, order, &defaults, said)
+}
+
+/// As `read_makefiles`, but an absent file of `include` is noted instead of refused, and so are
+/// those that `-include` and `sinclude` pass over, with the names of the files that are read. So
+/// `Include` comes only of the makefile that the order names, and a fault behind an absent
+/// `include` comes first. The cost is that of `read_through`, with a copy of each name and place
+/// that is noted.
+pub fn read_round(
+    alloc: Global,
+    state: &State,
+    order: &Order,
+    said: &mut Text,
+) -> Result<Round, ReadNo>
+    requires { read_fault root_text order.now.dir ≡ None }
+    ensures { performs.is_free is_free result ≡ false
+        → with_state result said.new
+        ≡ (round order.now (resolved_text root_text order.now.dir) [] said.old
+        (snapshot state.now) fresh).0 }
+{
+    let defaults = Vars::new(alloc)?;
+    let mut desk = Desk::new(alloc, PlainView::new(state), 0, 0, Fuel::new(FUEL));
+    let noted = Some(Noted::new(alloc));
+    noting(alloc, &mut desk, order, noted, &defaults, said)
 }

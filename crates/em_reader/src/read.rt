@@ -10,7 +10,7 @@ use crate::files::{content_of, eval_lines};
 use crate::hear::{hear, hear_condition};
 use em_base::{Place, Text};
 use em_lines::{Line, Lines, joined};
-use em_reading::{Body, Fault, Heard, ReadNo, Reading, absent, at, refused, refused_in, whole};
+use em_reading::{Body, Fault, Heard, ReadNo, Reading, at, refused, refused_in, whole};
 use em_statement::{Condition, Include, Statement, read_statement, words};
 use em_view::{Desk, View};
 use std::alloc::Global;
@@ -333,15 +333,10 @@ fn include_one<V: View>(
 {
     match content_of(alloc, desk, reading, place, name.bytes())? {
         Some(bytes) => {
+            reading.opens(alloc, name.bytes())?;
             let lines = joined(alloc, name, bytes.bytes())?;
             read_text(alloc, left, desk, reading, place, &lines)
         }
-        None => {
-            if required {
-                Err(absent(alloc, place, name.bytes()))
-            } else {
-                Ok(())
-            }
-        }
+        None => reading.lacks(alloc, required, place, name.bytes()),
     }
 }

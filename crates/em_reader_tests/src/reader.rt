@@ -25,6 +25,7 @@ use std::test::Fail;
 mod faults;
 mod good;
 mod orders;
+mod rounds;
 
 /// Puts a node where there is none.
 fn put(tree: &mut Tree, above: &Path, path: Path, node: Node) -> Result<(), NoMemory>

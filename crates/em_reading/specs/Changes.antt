@@ -25,6 +25,8 @@ use Rattle.em_reading.specs.declared.no.RuleNo.TheVariants.{Recipe, Static}
 use Rattle.em_reading.specs.declared.no.ReadNo.{ReadNo}
 use Rattle.em_reading.specs.declared.reading.Reading.{Reading}
 use Rattle.em_reading.specs.declared.reading.Body.{Body}
+use Rattle.em_reading.specs.declared.noted.Noted.{Noted}
+use Rattle.em_reading.specs.declared.noted.Missing.{Missing}
 use Rattle.em_reading.specs.Faults.{at_place}
 
 abbrev pub Changed : Type 0
@@ -210,3 +212,33 @@ end_conditionals r = unbalanced r.opened r
 
 abbrev pub without_evals : Reading → Reading
 without_evals r = record r { spoken = record r.spoken { evals = [] } }
+
+-- ---- files
+
+abbrev pub nothing_noted : Noted
+nothing_noted = record { files = []; missing = [] }
+
+abbrev pub with_name : List ℕ → Noted → Noted
+with_name name n = record n { files = n.files ++ name ∷ [] }
+
+abbrev pub with_missing : Bool → Place → List ℕ → Noted → Noted
+with_missing needed p name n = record n { missing = n.missing ++ record { name = name; place = p; needed = needed } ∷ [] }
+
+-- the lines of a file of this name are read next
+abbrev pub with_file : List ℕ → Option Noted → Option Noted
+with_file name None = None
+with_file name (Some n) = Some (with_name name n)
+
+abbrev pub after_opens : List ℕ → Reading → Reading
+after_opens name r = record r { noted = with_file name r.noted }
+
+abbrev pub opens : List ℕ → Change
+opens name r = good (after_opens name r)
+
+-- a file isn't there: it is noted, or is a fault where it is needed
+abbrev pub lacking : Bool → Place → List ℕ → Option Noted → Change
+lacking needed p name None r = if needed then bad p (fault.Include name) r else good r
+lacking needed p name (Some n) r = good (record r { noted = Some (with_missing needed p name n) })
+
+abbrev pub lacks : Bool → Place → List ℕ → Change
+lacks needed p name r = lacking needed p name r.noted r

@@ -56,6 +56,7 @@ start cwd vars said = record {
   begun = None;
   define = None;
   spoken = record { said = said; evals = [] };
+  noted = None;
 }
 
 -- ---- the default goal

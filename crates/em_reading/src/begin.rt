@@ -111,7 +111,7 @@ pub fn start_vars(
     Ok(vars)
 }
 
-/// Nothing is read yet; this was said before. Takes no memory.
+/// Nothing is read yet; this was said before. No files are noted. Takes no memory.
 pub fn start(alloc: Global, cwd: Path, vars: Vars, said: Text) -> Result<Reading, NoMemory>
     ensures { IfOk result (λ r. r ≡ start cwd vars said) }
 {
@@ -127,5 +127,6 @@ pub fn start(alloc: Global, cwd: Path, vars: Vars, said: Text) -> Result<Reading
         begun: None,
         define: None,
         spoken,
+        noted: None,
     })
 }

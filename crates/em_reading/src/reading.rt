@@ -6,6 +6,7 @@ ghost use Rattle.em_reading.specs.Faults.{is_free};
 ghost use Rattle.em_view.specs.Steps.{Works};
 
 use crate::no::{Fault, ReadNo, at};
+use crate::noted::Noted;
 use em_base::{NoMemory, Place, Seq, Text};
 use em_cond::Nest;
 use em_expand::Spoken;
@@ -45,6 +46,8 @@ pub struct Reading {
     pub define: Option<Body>,
     /// What was said, and the texts for `eval` that aren't read yet.
     pub spoken: Spoken,
+    /// The files that were read and those that aren't there, where these are noted.
+    pub noted: Option<Noted>,
 }
 
 /// An equal assignment.

@@ -24,7 +24,7 @@ use Rattle.em_reading.specs.Faults.{at_place}
 use Rattle.em_reading.specs.declared.heard.Expanded.{Expanded}
 use Rattle.em_reading.specs.declared.reading.Reading.{Reading}
 use Rattle.em_reading.specs.declared.reading.Body.{Body}
-use Rattle.em_reading.specs.Changes.{Changed, warnings, say, add_rule, close_by, close_rule, recipe, take_define, without_evals}
+use Rattle.em_reading.specs.Changes.{Changed, warnings, say, add_rule, close_by, close_rule, recipe, take_define, without_evals, opens, after_opens}
 use Rattle.em_reader.specs.Hearing.{Reads, plain, both, nothing, spoken_of, with_spoken, itself, caught, heard, one}
 use Rattle.em_reader.specs.Acting.{matches_of, matched_word, matched}
 use Rattle.em_reader.specs.Reading.{Deeper, content_of, read_evals, evals_of, evaluated, included, include_one, include_all, include_names, include_heard, statement_line, active_line, by_statement, read_line, read_lines, read_text}
@@ -102,7 +102,7 @@ module _ (law : PlainLaw) (deeper : Deeper) (p : Place) (s : Reading) (o : Oracl
       ap (λ (m : Reads (List (List ℕ))). and_then m (λ names. matched p ([] ++ names) [])) word ∙ done_then (name ∷ []) (λ names. matched p ([] ++ names) [])
 
   names_read : (i : Include) (name bytes : List ℕ) (v : Workspace) → words_of i.names ≡ name ∷ [] → is_pattern (glyphs_of name) ≡ false → content_of p name s o w ≡ (Ok (Some bytes, s), v)
-      → include_heard deeper p i (both (plain i.names) nothing) s o w ≡ deeper p (lines.joined name bytes) s o v
+      → include_heard deeper p i (both (plain i.names) nothing) s o w ≡ deeper p (lines.joined name bytes) (after_opens name s) o v
   unfolding include_heard include_names include_one
   names_read i name bytes v words exact content =
       let all = λ (ns : List (List ℕ)). include_all deeper i.required p ns in
@@ -111,12 +111,13 @@ module _ (law : PlainLaw) (deeper : Deeper) (p : Place) (s : Reading) (o : Oracl
       ∙ ap (λ (m : Reads (Unit {0})). m s o w) (done_then (name ∷ []) all)
       ∙ no_more (include_one deeper i.required p name) s o w
       ∙ run_then (content_of p name) (included deeper i.required p name) (Some bytes) s s o w v content
+      ∙ run_then (own (opens name)) (λ u. deeper p (lines.joined name bytes)) tt s (after_opens name s) o v v (run_own (opens name) s o v (Ok (tt, after_opens name s)) refl)
 
 module _ (law : PlainLaw) (deeper : Deeper) (l : Line) (i : Include) (name bytes : List ℕ) (r s : Reading) (o : Oracle) (w v : Workspace) (is : IsOneInclude l i name r) (taken : IsTaken l name bytes r s o w v) where
   abbrev after : IsClosed r s
   after = closed_by r s r.begun refl taken.closed
 
-  statement_read : statement_line deeper l.place (statement.Include i) r o w ≡ deeper l.place (lines.joined name bytes) s o v
+  statement_read : statement_line deeper l.place (statement.Include i) r o w ≡ deeper l.place (lines.joined name bytes) (after_opens name s) o v
   unfolding statement_line
   statement_read =
       let h = both (plain i.names) nothing in
@@ -126,7 +127,7 @@ module _ (law : PlainLaw) (deeper : Deeper) (l : Line) (i : Include) (name bytes
       ∙ run_then (own close_rule) _ tt s s o w w (run_own close_rule s o w (Ok (tt, s)) (ap (λ b. close_by b s) after.begun))
       ∙ names_read law deeper l.place s o w i name bytes v is.one is.exact taken.content
 
-  line_read : read_line deeper l r o w ≡ deeper l.place (lines.joined name bytes) s o v
+  line_read : read_line deeper l r o w ≡ deeper l.place (lines.joined name bytes) (after_opens name s) o v
   unfolding read_line active_line
   line_read =
       let same : record r { define = None } ≡ r = ap (λ d. let q : Reading = record r { define = d } in q) (sym is.define) in
@@ -137,7 +138,7 @@ module _ (law : PlainLaw) (deeper : Deeper) (l : Line) (i : Include) (name bytes
       ∙ ap (λ b. (let m : Reads (Unit {0}) = if b then statement_line deeper l.place (statement.Include i) else done tt in m) r o w) is.active
       ∙ statement_read
 
-  pub lines_read : (too_long : Option Place) (rest : List Line) → read_lines deeper too_long (l ∷ rest) r o w ≡ from_there (deeper l.place (lines.joined name bytes) s o v) (read_lines deeper too_long rest) o
+  pub lines_read : (too_long : Option Place) (rest : List Line) → read_lines deeper too_long (l ∷ rest) r o w ≡ from_there (deeper l.place (lines.joined name bytes) (after_opens name s) o v) (read_lines deeper too_long rest) o
   unfolding and_then ◌>>=◌
   lines_read too_long rest = ap (λ (z : End). from_there z (read_lines deeper too_long rest) o) line_read
 
@@ -154,19 +155,20 @@ only_whole deeper (Some q) ls r t o w u h =
 
 pub read_law : PlainLaw → (left : ℕ) (too_long : Option Place) (l : Line) (i : Include) (name bytes : List ℕ) (rest : List Line) (r s : Reading) (o : Oracle) (w v : Workspace)
     → IsOneInclude l i name r → IsTaken l name bytes r s o w v
-    → read_lines (read_text left) too_long (l ∷ rest) r o w ≡ from_there (read_text left l.place (lines.joined name bytes) s o v) (read_lines (read_text left) too_long rest) o
+    → read_lines (read_text left) too_long (l ∷ rest) r o w ≡ from_there (read_text left l.place (lines.joined name bytes) (after_opens name s) o v) (read_lines (read_text left) too_long rest) o
 read_law law left too_long l i name bytes rest r s o w v is taken = lines_read law (read_text left) l i name bytes r s o w v is taken too_long rest
 
 pub place_law : PlainLaw → (left : ℕ) (too_long : Option Place) (l : Line) (i : Include) (name bytes : List ℕ) (rest : List Line) (r s t : Reading) (o : Oracle) (w v u : Workspace)
     → IsOneInclude l i name r → IsTaken l name bytes r s o w v
-    → read_text left l.place (lines.joined name bytes) s o v ≡ (Ok (tt, t), u)
-    → read_lines (read_text left) too_long (l ∷ rest) r o w ≡ read_lines (read_text left) too_long ((lines.joined name bytes).lines ++ rest) s o v
+    → read_text left l.place (lines.joined name bytes) (after_opens name s) o v ≡ (Ok (tt, t), u)
+    → read_lines (read_text left) too_long (l ∷ rest) r o w ≡ read_lines (read_text left) too_long ((lines.joined name bytes).lines ++ rest) (after_opens name s) o v
 unfolding read_text refuse
-place_law law zero too_long l i name bytes rest r s t o w v u is taken h = absurd (never (at_place l.place fault.Limit, s) (tt, t) v u h)
+place_law law zero too_long l i name bytes rest r s t o w v u is taken h = absurd (never (at_place l.place fault.Limit, after_opens name s) (tt, t) v u h)
 place_law law (suc left) too_long l i name bytes rest r s t o w v u is taken h =
     let text = lines.joined name bytes in
-    let deep : read_lines (read_text left) None text.lines s o v ≡ (Ok (tt, t), u) = only_whole (read_text left) text.too_long text.lines s t o v u h in
-    let here : read_lines (read_text (suc left)) None text.lines s o v ≡ (Ok (tt, t), u) = (lines_rise (read_text left) (read_text (suc left)) (text_rises left) None text.lines).same s o v (tt, t) u deep in
+    let q = after_opens name s in
+    let deep : read_lines (read_text left) None text.lines q o v ≡ (Ok (tt, t), u) = only_whole (read_text left) text.too_long text.lines q t o v u h in
+    let here : read_lines (read_text (suc left)) None text.lines q o v ≡ (Ok (tt, t), u) = (lines_rise (read_text left) (read_text (suc left)) (text_rises left) None text.lines).same q o v (tt, t) u deep in
     read_law law (suc left) too_long l i name bytes rest r s o w v is taken
     ∙ ap (λ (z : End). from_there z (read_lines (read_text (suc left)) too_long rest) o) h
-    ∙ sym (sound (read_text (suc left)) text.lines s o v too_long rest t u here)
+    ∙ sym (sound (read_text (suc left)) text.lines q o v too_long rest t u here)

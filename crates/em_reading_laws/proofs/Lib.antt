@@ -8,3 +8,5 @@ mod Telling
 mod Serving
 mod Including
 mod Leftmost
+mod Blind
+mod Rounds

@@ -21,7 +21,7 @@ use Rattle.em_reading.specs.declared.heard.Heard.{Heard}
 use Rattle.em_reading.specs.declared.reading.Reading.{Reading}
 use Rattle.em_reading.specs.declared.reading.Body.{Body}
 use Rattle.em_reading.specs.Faults.{at_place}
-use Rattle.em_reading.specs.Changes.{is_read, close_rule, recipe, enter, other, leave, define_line, ends_body, body_line, whole, take_define, end_text}
+use Rattle.em_reading.specs.Changes.{is_read, close_rule, recipe, enter, other, leave, define_line, ends_body, body_line, whole, take_define, end_text, opens, lacks}
 use Rattle.em_reading.specs.Heard.{refused_in, if_heard, else_if_heard}
 use Rattle.em_reader.specs.Hearing.{Reads, hear, hear_condition}
 use Rattle.em_reader.specs.Acting.{matched, act_alone, unless_refused}
@@ -73,8 +73,8 @@ module _ (a b : Deeper) (rises : (p : Place) (lines : Lines) → Rises (a p line
       by (Some name) texts = still (done tt)
 
   included_rises : (required : Bool) (p : Place) (name : List ℕ) (bytes : Option (List ℕ)) → Rises (included a required p name bytes) (included b required p name bytes)
-  included_rises required p name None = still (if required then refuse (at_place p (fault.Include name)) else done tt)
-  included_rises required p name (Some bytes) = rises p (lines.joined name bytes)
+  included_rises required p name None = still (own (lacks required p name))
+  included_rises required p name (Some bytes) = behind (own (opens name)) _ _ (λ u. rises p (lines.joined name bytes))
 
   include_rises : (required : Bool) (p : Place) (names : List (List ℕ)) → Rises (include_all a required p names) (include_all b required p names)
   unfolding include_one

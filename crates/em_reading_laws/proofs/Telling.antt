@@ -42,9 +42,10 @@ use Rattle.em_reading.specs.declared.heard.Expanded.{Expanded}
 use Rattle.em_reading.specs.declared.heard.Heard.{Heard}
 use Rattle.em_reading.specs.declared.reading.Reading.{Reading}
 use Rattle.em_reading.specs.declared.reading.Body.{Body}
+use Rattle.em_reading.specs.declared.noted.Noted.{Noted}
 use Rattle.em_reading.specs.Faults.{at_place, of_desk}
 use Rattle.em_reading.specs.Variables.{is_expanded}
-use Rattle.em_reading.specs.Changes.{Change, good, is_read, warnings, add_rule, close_by, close_rule, begin_by, begin_rule, recipe_by, recipe, enter, turned, other, left, leave, begin_define, define_line, ends_body, body_line, whole, take_define, unended, end_text, unbalanced, end_conditionals}
+use Rattle.em_reading.specs.Changes.{Change, good, is_read, warnings, add_rule, close_by, close_rule, begin_by, begin_rule, recipe_by, recipe, enter, turned, other, left, leave, begin_define, define_line, ends_body, body_line, whole, take_define, unended, end_text, unbalanced, end_conditionals, opens, lacking, lacks}
 use Rattle.em_reading.specs.Heard.{refused_in, unless, holds, enter_by, other_by, if_heard, else_if_heard, assignment_refusal, assign_vars, assign, undefine_vars, undefine, export_vars, export, unexport_vars, unexport}
 use Rattle.em_reading.specs.Start.{start, start_vars, set_goal}
 use Rattle.em_reader.specs.Hearing.{Reads, plain, cut_off, caught_of, caught_by, caught, with_spoken, itself, heard, pieces, go_on, heard_pieces, heard_head, nothing, both, one, heard_after, two, value_by, value_of_assignment, hear_assignment, hear_condition, head, hear}
@@ -146,6 +147,11 @@ ended None r = by r.define
     by : (d : Option Body) → Goes r (state_of (unended d r))
     by None = goes_same r
     by (Some b) = goes_same r
+
+lacking_stays : (needed : Bool) (p : Place) (name : List ℕ) (n : Option Noted) → Stays (lacking needed p name n)
+lacking_stays true p name None r = goes_same r
+lacking_stays false p name None r = goes_same r
+lacking_stays needed p name (Some n) r = goes_same r
 
 balanced : Stays end_conditionals
 balanced r = by r.opened
@@ -303,8 +309,8 @@ module _ (deeper : Deeper) (grows : (p : Place) (lines : Lines) → Grows (deepe
       by (Some name) texts = gave tt
 
   included_grows : (required : Bool) (p : Place) (name : List ℕ) (bytes : Option (List ℕ)) → Grows (included deeper required p name bytes)
-  included_grows required p name None = either required (refuse (at_place p (fault.Include name))) (done tt) (gave_no (at_place p (fault.Include name))) (gave tt)
-  included_grows required p name (Some bytes) = grows p (lines.joined name bytes)
+  included_grows required p name None = changed (lacks required p name) (λ r. lacking_stays required p name r.noted r)
+  included_grows required p name (Some bytes) = next _ (changed (opens name) (λ r. goes_same r)) (λ u. grows p (lines.joined name bytes))
 
   include_grows : (required : Bool) (p : Place) (names : List (List ℕ)) → Grows (include_all deeper required p names)
   unfolding include_one
@@ -411,7 +417,7 @@ goal_grows p = looked (λ r. goal_by p (value_of r.book.vars (codes ".DEFAULT_GO
 
 all_grows : (name : Option (List ℕ)) → Grows (read_all name)
 unfolding read_all read_file
-all_grows name = next _ (makefile_grows name) (λ m. next _ (by_option (λ x. Grows (read_makefile x)) (gave tt) (λ x. next _ (changed found (λ r. goes_same r)) (λ u. text_grows levels (line_one x.name) (lines.joined x.name x.bytes))) m) (λ u. next _ close_grows (λ v. next _ (changed end_conditionals balanced) (λ w. goal_grows (place_of m)))))
+all_grows name = next _ (makefile_grows name) (λ m. next _ (by_option (λ x. Grows (read_makefile x)) (gave tt) (λ x. next _ (changed found (λ r. goes_same r)) (λ u. next _ (changed (opens x.name) (λ r. goes_same r)) (λ v. text_grows levels (line_one x.name) (lines.joined x.name x.bytes)))) m) (λ u. next _ close_grows (λ v. next _ (changed end_conditionals balanced) (λ w. goal_grows (place_of m)))))
 
 from_said : (name : Option (List ℕ)) (cwd : List ℕ) (vars : Entries) (said : List ℕ) (o : Oracle) (w : Workspace) → Begins said (state_of (read_from name cwd vars said o w).0)
 unfolding read_from

@@ -5,6 +5,7 @@ ghost use Rattle.std.specs.Prelude.{
   ◌⊎◌,
   ◌++◌,
   ◌∷◌,
+  false,
   ℕ,
   suc,
   List,
@@ -19,6 +20,7 @@ ghost use Rattle.em_cmdline.specs.declared.order.Order.{Order};
 ghost use Rattle.em_lines.specs.declared.line.Line.{Line};
 ghost use Rattle.em_lines.specs.declared.line.Lines.{Lines};
 ghost use Rattle.em_lines.specs.Lines as lines;
+ghost use Rattle.em_rules.specs.declared.book.Book.{Book};
 ghost use Rattle.em_vars.specs.Entries.{Entries};
 ghost use Rattle.em_view.specs.Actions.{Oracle, Workspace};
 ghost use Rattle.em_statement.specs.declared.statement.Include.{Include};
@@ -26,9 +28,12 @@ ghost use Rattle.em_reading.specs.declared.no.Fault.TheVariants as fault;
 ghost use Rattle.em_reading.specs.declared.no.ReadNo.{ReadNo};
 ghost use Rattle.em_reading.specs.declared.reading.Reading.{Reading};
 ghost use Rattle.em_reading.specs.declared.reading.Body.{Body};
+ghost use Rattle.em_reading.specs.Changes.{after_opens};
 ghost use Rattle.em_reading.specs.Faults.{at_place};
 ghost use Rattle.em_reader.specs.Reading.{Deeper, read_lines, read_text};
-ghost use Rattle.em_reader.specs.Makefiles.{reading};
+ghost use Rattle.em_reader.specs.Makefiles.{reading, round};
+ghost use Rattle.em_reader.specs.declared.makefiles.Round.{Round};
+ghost use Rattle.em_reading_laws.specs.Rounds.{is_wanting, IsAbsent};
 ghost use Rattle.em_reading_laws.specs.Steps.{Begins, state_of};
 ghost use Rattle.em_reading_laws.specs.Reading.{End, from_there, IsOneInclude, IsTaken};
 
@@ -77,20 +82,50 @@ pub fn law_said()
 
 /// An `include` of one file is the text of that file, read where the line stands one level deeper,
 /// with the places of the file; then the rest is read. Where the text is read without a fault, that
-/// is what reading its lines in place of the line comes to, as if they stood there.
+/// is what reading its lines in place of the line comes to, as if they stood there. Before its
+/// lines the file is noted, where files are.
 pub fn law_include()
     ensures read { (left : ℕ) (too_long : Option Place) (l : Line) (i : Include)
         (name bytes : List ℕ) (rest : List Line) (r s : Reading) (o : Oracle) (w v : Workspace)
         → IsOneInclude l i name r → IsTaken l name bytes r s o w v
         → read_lines (read_text left) too_long (l ∷ rest) r o w
-        ≡ from_there (read_text left l.place (lines.joined name bytes) s o v)
+        ≡ from_there (read_text left l.place (lines.joined name bytes) (after_opens name s) o v)
         (read_lines (read_text left) too_long rest) o }
     ensures in_place { (left : ℕ) (too_long : Option Place) (l : Line) (i : Include)
         (name bytes : List ℕ) (rest : List Line) (r s t : Reading) (o : Oracle)
         (w v u : Workspace) → IsOneInclude l i name r → IsTaken l name bytes r s o w v
-        → read_text left l.place (lines.joined name bytes) s o v ≡ (Ok (tt, t), u)
+        → read_text left l.place (lines.joined name bytes) (after_opens name s) o v
+        ≡ (Ok (tt, t), u)
         → read_lines (read_text left) too_long (l ∷ rest) r o w
-        ≡ read_lines (read_text left) too_long ((lines.joined name bytes).lines ++ rest) s o v }
+        ≡ read_lines (read_text left) too_long ((lines.joined name bytes).lines ++ rest)
+        (after_opens name s) o v }
 {
     em_expand::laws::law_plain();
 }
+
+/// A round against a reading of the same order. Where the reading gives a book, a round gives the
+/// same book and says the same, and nothing that is needed is missing; where a round gives one and
+/// nothing that is needed is missing, the reading gives the same. A reading's fault is a round's,
+/// unless it is an absent makefile; a round's is the reading's, unless that one's is an absent
+/// makefile, which stands in front of it.
+pub fn law_round()
+    ensures read { (order : Order) (cwd : List ℕ) (defaults : Entries) (said : List ℕ)
+        (o : Oracle) (w : Workspace) (b : Book) (s : List ℕ) (v : Workspace)
+        → reading order cwd defaults said o w ≡ (Ok (b, s), v)
+        → (q : Round) × (round order cwd defaults said o w ≡ (Ok (q, s), v)) × (q.book ≡ b)
+        × (is_wanting q.missing ≡ false) }
+    ensures round { (order : Order) (cwd : List ℕ) (defaults : Entries) (said : List ℕ)
+        (o : Oracle) (w : Workspace) (q : Round) (s : List ℕ) (v : Workspace)
+        → round order cwd defaults said o w ≡ (Ok (q, s), v) → is_wanting q.missing ≡ false
+        → reading order cwd defaults said o w ≡ (Ok (q.book, s), v) }
+    ensures fault { (order : Order) (cwd : List ℕ) (defaults : Entries) (said : List ℕ)
+        (o : Oracle) (w : Workspace) (e : ReadNo) (s : List ℕ) (v : Workspace)
+        → (IsAbsent e → ⊥) → reading order cwd defaults said o w ≡ (Err (e, s), v)
+        → round order cwd defaults said o w ≡ (Err (e, s), v) }
+    ensures first { (order : Order) (cwd : List ℕ) (defaults : Entries) (said : List ℕ)
+        (o : Oracle) (w : Workspace) (e : ReadNo) (s : List ℕ) (v : Workspace)
+        → round order cwd defaults said o w ≡ (Err (e, s), v)
+        → (reading order cwd defaults said o w ≡ (Err (e, s), v))
+        ⊎ ((f : ReadNo) × (t : List ℕ) × (u : Workspace) × IsAbsent f
+        × (reading order cwd defaults said o w ≡ (Err (f, t), u))) }
+{}

@@ -38,7 +38,7 @@ fn texts_are_at_most_64_deep(rt: HostRuntime) -> Result<(), Fail> {
 }
 
 /// The order's makefile, if one is named.
-fn makefile(alloc: Global, name: &[u8]) -> Result<Option<Text>, NoMemory> {
+pub(super) fn makefile(alloc: Global, name: &[u8]) -> Result<Option<Text>, NoMemory> {
     if name.is_empty() {
         return Ok(None);
     }

@@ -248,18 +248,18 @@ pub include_one-returns-in_err-bytes : goal.include_one-returns-in_err-bytes
 unfolding include_one
 include_one-returns-in_err-bytes g t c = leave_s _ c.from_residual.ensures.1 (rw c.bytes.ensures at c.in_err-bytes.ensures)
 
+pub include_one-returns-in_err-opens-in-Some : goal.include_one-returns-in_err-opens-in-Some
+unfolding include_one
+include_one-returns-in_err-opens-in-Some g t c = then_s _ (rw c.bytes.ensures at c.in_ok-bytes.ensures) (rw c.in-Some.is (leave_s _ c.from_residual-in_err-opens-in-Some.ensures.1 (owned_s _ (rw c.bytes-in-Some.ensures at c.in_err-opens-in-Some.ensures))))
+
 pub include_one-returns-in_err-lines-in-Some : goal.include_one-returns-in_err-lines-in-Some
 unfolding include_one
-include_one-returns-in_err-lines-in-Some g t c = then_s _ (rw c.bytes.ensures at c.in_ok-bytes.ensures) (out_s _ refl c.from_residual-in_err-lines-in-Some.ensures.1)
+include_one-returns-in_err-lines-in-Some g t c = then_s _ (rw c.bytes.ensures at c.in_ok-bytes.ensures) (rw c.in-Some.is (then_s _ (owned_s {r = Ok tt} _ (rw c.bytes-in-Some.ensures at c.in_ok-opens-in-Some.ensures)) (out_s _ refl c.from_residual-in_err-lines-in-Some.ensures.1)))
 
 pub include_one-returns-in_ok-lines-in-Some : goal.include_one-returns-in_ok-lines-in-Some
 unfolding include_one
-include_one-returns-in_ok-lines-in-Some g t c = then_s _ (rw c.bytes.ensures at c.in_ok-bytes.ensures) (rw c.in-Some.is (rw (c.in_ok-lines-in-Some.ensures, c.bytes-in-Some-2.ensures) at c.read_text.ensures))
+include_one-returns-in_ok-lines-in-Some g t c = then_s _ (rw c.bytes.ensures at c.in_ok-bytes.ensures) (rw c.in-Some.is (then_s _ (owned_s {r = Ok tt} _ (rw c.bytes-in-Some.ensures at c.in_ok-opens-in-Some.ensures)) (rw (c.in_ok-lines-in-Some.ensures, c.bytes-in-Some-3.ensures) at c.read_text.ensures)))
 
-pub include_one-returns-then-required : goal.include_one-returns-then-required
+pub include_one-returns-in-None : goal.include_one-returns-in-None
 unfolding include_one
-include_one-returns-then-required g t c = then_s _ (rw c.bytes.ensures at c.in_ok-bytes.ensures) (rw (c.in-None.is, c.if-required.true) (refused_s _ (rw c.bytes-then-required.ensures at c.absent.ensures)))
-
-pub include_one-returns-else-required : goal.include_one-returns-else-required
-unfolding include_one
-include_one-returns-else-required g t c = then_s _ (rw c.bytes.ensures at c.in_ok-bytes.ensures) (rw (c.in-None.is, c.if-required.false) finish_s)
+include_one-returns-in-None g t c = then_s _ (rw c.bytes.ensures at c.in_ok-bytes.ensures) (rw c.in-None.is (owned_s _ (rw c.bytes-in-None.ensures at c.lacks.ensures)))
