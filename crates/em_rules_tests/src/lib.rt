@@ -1,10 +1,13 @@
-//! Tests of the rules of makefiles, of implicit rules and of the plan.
+//! Tests of the rules of makefiles, of implicit rules, of the plan, and of makefiles that
+//! are remade.
 #![tactic(auto)]
 
 #[cfg(test)]
 mod implicit;
 #[cfg(test)]
 mod plan;
+#[cfg(test)]
+mod remake;
 #[cfg(test)]
 mod rules;
 #[cfg(test)]

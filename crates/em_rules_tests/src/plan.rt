@@ -34,7 +34,7 @@ fn add(alloc: Global, book: &mut Book, written: &[u8]) -> Result<(), BookNo> {
 }
 
 /// A makefile's rules, separated by `;`.
-fn book(alloc: Global, makefile: &[u8]) -> Result<Book, BookNo> {
+pub fn book(alloc: Global, makefile: &[u8]) -> Result<Book, BookNo> {
     let mut book = Book::new(alloc)?;
     for written in makefile.split(|b| *b == b';') {
         add(alloc, &mut book, written)?;

@@ -4,7 +4,7 @@ use em_rules::{RecipeLine, Rule};
 use em_wordlist::{join_texts, texts};
 use std::alloc::Global;
 
-fn place(alloc: Global) -> Result<Place, NoMemory> {
+pub fn place(alloc: Global) -> Result<Place, NoMemory> {
     let file = Text::from_slice(alloc, b"Makefile")?;
     Ok(Place { file, line: 1 })
 }

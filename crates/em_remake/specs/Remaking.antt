@@ -1,0 +1,52 @@
+-- Makefiles that are remade before anything else is made.
+--     candidates r                       the files that were read, then those that aren't there, each where it first stands and without leading `./`
+--     is_goal book tree cwd name         the name isn't phony, and a rule for it has a recipe or a pattern rule is found for it
+--     goals_of r tree cwd                the candidates that are goals, in order
+--     stamp_at tree cwd name             the stamp of what stands at the name
+--     changed before after names cwd     a name has another stamp in the one tree than in the other
+use Rattle.std.specs.Prelude.{ℕ, ◌&&◌, ◌||◌, not, nat_eq, Bool, List, [], ◌++◌, map, Option, Some, None, is_some}
+use Rattle.std.specs.List.{filter, list_any}
+use Rattle.std.specs.Option.{option_eq}
+use Rattle.std.specs.FinMap.{get}
+use Rattle.em_path.specs.declared.path.PathNo.{PathNo}
+use Rattle.em_path.specs.Reading.{read_fault, resolved_text}
+use Rattle.em_tree.specs.Trees.{Table, stamp_of}
+use Rattle.em_rules.specs.declared.book.Book.{Book}
+use Rattle.em_rules.specs.Rules.{recipe_rule, is_phony}
+use Rattle.em_implicit.specs.Implicit.{found}
+use Rattle.em_plan.specs.Plans.{each_once}
+use Rattle.em_reader.specs.declared.makefiles.Round.{Round}
+
+abbrev pub candidates : Round → List (List ℕ)
+candidates r = each_once [] (r.files ++ map (λ m. m.name) r.missing)
+
+-- ---- which of them are goals
+
+-- a recipe may be empty
+abbrev pub has_way : Book → Table → List ℕ → List ℕ → Bool
+has_way book tree cwd name = is_some (recipe_rule book.rules name) || is_some (found book.rules book.patterns tree cwd name)
+
+abbrev pub is_goal : Book → Table → List ℕ → List ℕ → Bool
+is_goal book tree cwd name = not (is_phony book.rules name) && has_way book tree cwd name
+
+abbrev pub goals_among : Book → Table → List ℕ → List (List ℕ) → List (List ℕ)
+goals_among book tree cwd names = filter (is_goal book tree cwd) names
+
+unfoldable pub goals_of : Round → Table → List ℕ → List (List ℕ)
+goals_of r tree cwd = goals_among r.book tree cwd (candidates r)
+
+-- ---- whether they were remade
+
+-- a name that is no path has none
+abbrev pub stamp_by : Option PathNo → Table → List ℕ → List ℕ → Option ℕ
+stamp_by None tree cwd name = stamp_of (get tree (resolved_text cwd name))
+stamp_by (Some fault) tree cwd name = None
+
+abbrev pub stamp_at : Table → List ℕ → List ℕ → Option ℕ
+stamp_at tree cwd name = stamp_by (read_fault cwd name) tree cwd name
+
+abbrev pub is_changed : Table → Table → List ℕ → List ℕ → Bool
+is_changed before after cwd name = not (option_eq nat_eq (stamp_at before cwd name) (stamp_at after cwd name))
+
+abbrev pub changed : Table → Table → List (List ℕ) → List ℕ → Bool
+changed before after names cwd = list_any (is_changed before after cwd) names
