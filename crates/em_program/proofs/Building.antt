@@ -1,9 +1,8 @@
--- From the build of the jobs to the build of the project.
---     finishes                      a build that came to its end, and what follows it
---     breaks, breaks_early, breaks_late      the run broke off on the way, before the first job, and behind the jobs
+-- From the build of the jobs to a project's.
+--     ended_so                      the outcomes tell whether a job ended the run
+--     runs, breaks, breaks_early    the jobs have run; the run broke off on the way, and before the first job
 use Rattle.std.proofs.Common.{◌≡◌, ◌==◌, ℕ, suc, Bool, true, false, ◌||◌, List, [], ◌∷◌, ◌++◌, length, Option, None, Result, Ok, Err, refl, sym, ap, subst, ◌∙◌, append-nil, append_assoc, arith}
 use Rattle.std.specs.Prelude.{IsErrAnd, All}
-use Rattle.std.specs.FinMap.{len}
 use Rattle.std.specs.List.{list_any}
 use Rattle.std.proofs.lemmas.List.{length-append}
 use Rattle.std.proofs.lemmas.List.Elements.{All-nil, All-cons, All-head, All-tail}
@@ -21,21 +20,24 @@ use Rattle.em_job.specs.Effects.{Makes}
 use Rattle.em_job.specs.Making.{ends_after, flags_of}
 use Rattle.em_workers.specs.declared.builder.Built.{Built}
 use Rattle.em_workers.specs.declared.no.BuildNo.{BuildNo}
+use Rattle.em_workers.specs.declared.no.BuildNo.TheVariants as build_no
 use Rattle.em_engine.specs.declared.note.Note.{Note}
 use Rattle.em_workers.specs.Builds.{Builds, IsOnce}
 use Rattle.em_workers.specs.Notes.{AreNotes, IsNoteOf}
 use Rattle.em_workers.proofs.Saying.{said_says}
-use Rattle.em_program.specs.declared.build.Finished.{Finished}
+use Rattle.em_program.specs.declared.build.JobsDone.{JobsDone}
 use Rattle.em_program.specs.declared.project.Project.{Project}
 use Rattle.em_program.specs.declared.stop.Stop.{Stop}
-use Rattle.em_program.specs.declared.stop.Stop.TheVariants.{NoMemory}
+use Rattle.em_program.specs.declared.stop.Stop.TheVariants.{End, NoMemory}
 use Rattle.em_program.specs.declared.verdict.Verdict.{Verdict}
 use Rattle.em_program.specs.Closing.{has_ended}
-use Rattle.em_program.specs.Course.{Follows, stop_of_build}
-use Rattle.em_program.specs.Endings.{finish, fuel_of, is_early, is_whole, building, IsBuild}
+use Rattle.em_program.specs.Course.{Follows, say_all, stop_of_build}
+use Rattle.em_program.specs.Endings.{IsRan}
+use Rattle.em_program.specs.Rounds.{Build, is_early, left_by}
 use Rattle.em_program.specs.Projects.{IsReady}
 use Rattle.em_program.specs.Serial.{ends}
-use Rattle.em_program.proofs.Following.{then, leave, out, said_all, not_said_all}
+use Rattle.em_program.proofs.Following.{out, said_all, not_said_all}
+use Rattle.em_program.proofs.Steady.{ok_err}
 
 -- ---- the outcomes tell whether a job ended the run
 
@@ -57,47 +59,21 @@ whole_by true m n h = refl
 whole_by false m n h = let e : m ≡ n = h refl in grind (arith, e)
 
 module _ (p : Project) (ready : IsReady p) where
-  ended_so : (made : List Made) → Ran Makes ends p.start p.specs made → has_ended p.terms.order (state_after p.start made).outcomes ≡ is_early p made
-  ended_so made ran =
-      ap (λ (os : List Outcome). has_ended p.terms.order os) (outcomes_after p.start made ∙ ap (λ (os : List Outcome). os ++ outcomes_of made) ready.bare)
-      ∙ sym (early_by (flags_of p.terms.order) p.start p.specs made ready.flags ran)
+  pub ended_so : (b : Build) → Ran Makes ends p.start p.specs b.made → has_ended p.terms.order (left_by p b).outcomes ≡ is_early p b
+  ended_so b ran =
+      ap (λ (os : List Outcome). has_ended p.terms.order os) (outcomes_after p.start b.made ∙ ap (λ (os : List Outcome). os ++ outcomes_of b.made) ready.bare)
+      ∙ sym (early_by (flags_of p.terms.order) p.start p.specs b.made ready.flags ran)
 
-  -- ---- the build
+-- ---- the jobs have run
 
-  module _ {d : Built} {x y : Option Outside} (b : Builds Makes ends p.start p.specs p.terms.order.workers (Ok d) x y) where
-    follows : {early : Bool} {r : Result Verdict Stop} {z : Option Outside} → early ≡ has_ended p.terms.order d.state.outcomes → Follows (finish p.terms d.notes d.fuel early d.state) r y z → Follows (building p b.made d.notes) r x z
-    follows {early} {r} {z} by finished =
-        let same : early ≡ is_early p b.made = by ∙ ap (λ (s : State). has_ended p.terms.order s.outcomes) b.built.state ∙ ended_so b.made b.ran in
-        let at_end : is_whole p b.made ≡ true = whole_by (is_early p b.made) (length b.made) (length p.specs) b.built.serial.whole in
-        let fuel = subst (λ (f : List ℕ). Follows (finish p.terms d.notes f early d.state) r y z) b.built.fuel finished in
-        let told = subst (λ (s : State). Follows (finish p.terms d.notes (fuel_of b.made) (is_early p b.made) s) r y z) b.built.state
-        (subst (λ (e : Bool). Follows (finish p.terms d.notes (fuel_of b.made) e d.state) r y z) same fuel) in
-        then _ (said_all (outputs_of b.made) b.printed) (rw at_end told)
-
-    pub finishes : {early : Bool} {f : Finished} {z : Option Outside} → f.notes ≡ d.notes → f.jobs ≡ length p.terms.plan.jobs → f.nodes ≡ len d.state.tree → early ≡ has_ended p.terms.order d.state.outcomes
-        → Follows (finish p.terms d.notes d.fuel early d.state) (Ok f.verdict) y z → IsBuild p (Ok f) x z
-    finishes {f = f} notes jobs nodes by finished = record {
-      made = b.made;
-      notes = d.notes;
-      ran = b.ran;
-      noted = b.built.notes;
-      alone = b.built.alone;
-      whole = record { serial = b.built.serial; notes_are = notes; jobs = jobs; nodes = nodes ∙ ap (λ (s : State). len s.tree) b.built.state };
-      follows = follows by finished;
-    }
-
-    -- behind the jobs
-    pub breaks_late : {early : Bool} {e : Stop} {r : Result Finished Stop} {z : Option Outside} → IsErrAnd r (λ s. s ≡ e) → early ≡ has_ended p.terms.order d.state.outcomes → Follows (finish p.terms d.notes d.fuel early d.state) (Err e) y z → IsBuild p r x z
-    breaks_late {r = Ok f} is by finished = absurd is
-    breaks_late {e} {r = Err s} {z} is by finished = record {
-      made = b.made;
-      notes = d.notes;
-      ran = b.ran;
-      noted = b.built.notes;
-      alone = b.built.alone;
-      whole = tt;
-      follows = subst (λ (t : Stop). Follows (building p b.made d.notes) (Err t) x z) (sym is) (follows by finished);
-    }
+pub runs : (p : Project) {d : JobsDone} {x y : Option Outside} → d.terms ≡ p.terms → Builds Makes ends p.start p.specs p.terms.order.workers (Ok d.built) x y → IsRan p (Ok d) x y
+runs p {d} same b = record {
+  build = record { made = b.made; notes = d.built.notes };
+  has = record { ran = b.ran; noted = b.built.notes; alone = b.built.alone };
+  whole = record { serial = b.built.serial; terms = same; state = b.built.state; fuel = b.built.fuel; notes = refl };
+  short = λ verdict e. absurd (ok_err e);
+  follows = said_all (outputs_of b.made) b.printed;
+}
 
 -- ---- the run broke off: each job that was run was run once, as far as anybody was told
 
@@ -119,28 +95,35 @@ clean_once : (job : ℕ) (made : List Made) → All IsOnce (clean job made)
 clean_once job [] = All-nil IsOnce
 clean_once job (m ∷ ms) = All-cons IsOnce (clean_note job) (clean (suc job) ms) refl (clean_once (suc job) ms)
 
+no_end : {s e : Stop} → s ≡ e → ((verdict : Verdict) → e ≡ End verdict → ⊥) → (verdict : Verdict) → (let x : Result JobsDone Stop = Err s in let y : Result JobsDone Stop = Err (End verdict) in x ≡ y) → ⊥
+no_end is other verdict e = other verdict (sym is ∙ err_is e)
+  where
+    err_is : {A E : Type 0} {d e : E} → (let x : Result A E = Err d in let y : Result A E = Err e in x ≡ y) → d ≡ e
+    err_is g = cc
+
+not_end : (no : BuildNo) (verdict : Verdict) → stop_of_build no ≡ End verdict → ⊥
+not_end build_no.Host verdict e = absurd cc
+not_end build_no.NoMemory verdict e = absurd cc
+
 -- on the way
-pub breaks : (p : Project) {no : BuildNo} {r : Result Finished Stop} {x y : Option Outside} → IsErrAnd r (λ s. s ≡ stop_of_build no) → Builds Makes ends p.start p.specs p.terms.order.workers (Err no) x y → IsBuild p r x y
-breaks p {r = Ok f} is b = absurd is
+pub breaks : (p : Project) {no : BuildNo} {r : Result JobsDone Stop} {x y : Option Outside} → IsErrAnd r (λ s. s ≡ stop_of_build no) → Builds Makes ends p.start p.specs p.terms.order.workers (Err no) x y → IsRan p r x y
+breaks p {r = Ok d} is b = absurd is
 breaks p {no} {r = Err s} {x} {y} is b = record {
-  made = b.made;
-  notes = clean 0 b.made;
-  ran = b.ran;
-  noted = clean_noted p.start [] b.made;
-  alone = λ one. clean_once 0 b.made;
+  build = record { made = b.made; notes = clean 0 b.made };
+  has = record { ran = b.ran; noted = clean_noted p.start [] b.made; alone = λ one. clean_once 0 b.made };
   whole = tt;
-  follows = leave _ is (not_said_all (outputs_of b.made) Built no (Tells-weaken x y (λ u v h. said_says {A = Built} (outputs_of b.made) (Err no) u v h) b.printed));
+  short = no_end is (not_end no);
+  follows = subst (λ (t : Stop). Follows (say_all (outputs_of b.made)) (Err t) x y) (sym is)
+      (not_said_all (outputs_of b.made) Built no (Tells-weaken x y (λ u v h. said_says {A = Built} (outputs_of b.made) (Err no) u v h) b.printed));
 }
 
 -- before the first job
-pub breaks_early : (p : Project) {r : Result Finished Stop} {x : Option Outside} → IsErrAnd r (λ s. s ≡ NoMemory) → IsBuild p r x x
-breaks_early p {r = Ok f} is = absurd is
+pub breaks_early : (p : Project) {r : Result JobsDone Stop} {x : Option Outside} → IsErrAnd r (λ s. s ≡ NoMemory) → IsRan p r x x
+breaks_early p {r = Ok d} is = absurd is
 breaks_early p {r = Err s} {x} is = record {
-  made = [];
-  notes = [];
-  ran = tt;
-  noted = tt;
-  alone = λ one. All-nil IsOnce;
+  build = record { made = []; notes = [] };
+  has = record { ran = tt; noted = tt; alone = λ one. All-nil IsOnce };
   whole = tt;
-  follows = subst (λ (t : Stop). Follows (building p [] []) (Err t) x x) (sym is) out;
+  short = no_end is (λ verdict e. absurd cc);
+  follows = subst (λ (t : Stop). Follows (say_all []) (Err t) x x) (sym is) out;
 }

@@ -1,8 +1,7 @@
 -- What the parts before a build come to.
 --     failed-so          a refusal of the image is what reading gives
---     base-bound         the greatest stamp of an image that is read
 --     entered_dir, book_ok ..      the working directory, and the makefiles
-use Rattle.std.proofs.Common.{◌≡◌, ℕ, ◌≤◌, ◌^◌, Bool, true, false, cond, ◌||◌, List, [], ◌∷◌, length, map, Some, None, Result, Ok, Err, nat_lt, refl, sym, ap, ◌∙◌, arith}
+use Rattle.std.proofs.Common.{◌≡◌, ℕ, ◌≤◌, ◌<◌, ◌^◌, Bool, true, false, cond, ◌||◌, List, [], ◌∷◌, length, map, Some, None, Result, Ok, Err, nat_lt, refl, sym, ap, ◌∙◌, arith}
 use Rattle.std.specs.Prelude.{IfOk, IsErr}
 use Rattle.std.specs.List.{list_any}
 use Rattle.std.specs.FinMap.{entries, get}
@@ -24,12 +23,13 @@ use Rattle.em_image.specs.declared.no.ImageNo.TheVariants as no
 use Rattle.em_image.specs.declared.no.Which.{Which}
 use Rattle.em_image.specs.declared.no.Which.TheVariants as which
 use Rattle.em_cmdline.specs.declared.order.Order.{Order}
-use Rattle.em_rules.specs.declared.book.Book.{Book}
+use Rattle.em_reader.specs.declared.makefiles.Round.{Round}
 use Rattle.em_reading.specs.declared.no.ReadNo.{ReadNo}
 use Rattle.em_program.specs.declared.verdict.Verdict.TheVariants.{Faulty}
 use Rattle.em_program.specs.Course.{◌>>=◌, done, say, stop}
-use Rattle.em_program.specs.Messages.{read_line}
-use Rattle.em_program.specs.Projects.{no_dir, as_dir, as_path, entered, as_book, book_of}
+use Rattle.em_program.specs.Messages.{image_line, read_line}
+use Rattle.em_program.specs.Projects.{no_dir, as_dir, as_path, entered, as_round, round_of}
+use Rattle.em_program.specs.Rounds.{based}
 
 -- an answer other than want of memory is what reading gives
 pub failed-so : {Y : Type 0} (e : ImageNo) (read : Result Y ImageNo) → (e ≡ no.NoMemory → ⊥) → Fails e read → read ≡ Err e
@@ -42,36 +42,6 @@ failed-so (no.Short at) read other h = h
 failed-so (no.Rest at) read other h = h
 failed-so (no.Limit w at) read other h = h
 failed-so no.NoMemory read other h = absurd (other refl)
-
--- ---- the greatest stamp of an image that is read
-
-or_false : (a b : Bool) → (a || b) ≡ false → (a ≡ false) × (b ≡ false)
-or_false true b e = absurd (false≢true (sym e))
-or_false false b e = (refl, e)
-
-not_less : (m n : ℕ) → nat_lt m n ≡ false → n ≤ m
-not_less m n e = grind (arith, e)
-
-greatest-bound : (es : List (List ℕ × Node)) → list_any (is_too_late limits) es ≡ false → greatest (map (λ e. e.1) es) ≤ 2 ^ 62
-greatest-bound [] h = omega arith
-greatest-bound (e ∷ es) h =
-    let parts = or_false (is_too_late limits e) (list_any (is_too_late limits) es) h in
-    let here : stamp_in e.1 ≤ 2 ^ 62 = not_less (2 ^ 62) (stamp_in e.1) parts.0 in
-    let others : greatest (map (λ f. f.1) es) ≤ 2 ^ 62 = greatest-bound es parts.1 in
-    omega arith
-
-last_of_four : (a b c d : Bool) (w x y z : Which) → cond a (Some w) (cond b (Some x) (cond c (Some y) (cond d (Some z) None))) ≡ None → d ≡ false
-last_of_four true b c d w x y z e = absurd (cc)
-last_of_four false true c d w x y z e = absurd (cc)
-last_of_four false false true d w x y z e = absurd (cc)
-last_of_four false false false true w x y z e = absurd (cc)
-last_of_four false false false false w x y z e = refl
-
-pub base-bound : (t : Table) → broken limits t ≡ None → base_of t ≤ 2 ^ 62
-base-bound t e =
-    greatest-bound (entries t)
-    (last_of_four (nat_lt limits.image (length (entries_text (entries t)))) (nat_lt limits.nodes (length (entries t))) (list_any (is_too_big limits) (entries t)) (list_any (is_too_late limits) (entries t))
-    which.Image which.Nodes which.File which.Stamp e)
 
 -- ---- the parts of a project
 
@@ -92,18 +62,32 @@ entered_other t name path none is other =
 pub entered_none : (t : Table) (name : List ℕ) (e : PathNo) → read_fault root_text name ≡ Some e → entered t name ≡ no_dir name
 entered_none t name e named = ap (as_path t name) named
 
-abbrev pub reading_from : Order → State → List ℕ → Result (Book × List ℕ) (ReadNo × List ℕ)
-reading_from order start said = (makefiles.reading order (resolved_text root_text order.dir) [] said (snapshot start) makefiles.fresh).0
+abbrev pub reading_from : Order → State → List ℕ → Result (Round × List ℕ) (ReadNo × List ℕ)
+reading_from order start said = (makefiles.round order (resolved_text root_text order.dir) [] said (snapshot start) makefiles.fresh).0
 
 -- what was said before is nothing
-pub book_ok : (order : Order) (start : State) (book : Book) (none said : List ℕ) → none ≡ [] → (let r : Result (Book × List ℕ) (ReadNo × List ℕ) = Ok (book, said) in r ≡ reading_from order start none)
-    → book_of order start ≡ (say said >>= (λ (u : Unit {0}). done book))
-book_ok order start book none said empty e = ap as_book (sym (e ∙ ap (reading_from order start) empty))
+pub round_ok : (order : Order) (start : State) (found : Round) (none said : List ℕ) → none ≡ [] → (let r : Result (Round × List ℕ) (ReadNo × List ℕ) = Ok (found, said) in r ≡ reading_from order start none)
+    → round_of order start ≡ (say said >>= (λ (u : Unit {0}). done found))
+round_ok order start found none said empty e = ap as_round (sym (e ∙ ap (reading_from order start) empty))
 
-pub book_err : (order : Order) (start : State) (fault : ReadNo) (none said : List ℕ) → none ≡ [] → (let r : Result (Book × List ℕ) (ReadNo × List ℕ) = Err (fault, said) in r ≡ reading_from order start none)
-    → book_of order start ≡ (say said >>= (λ (u : Unit {0}). stop (read_line fault) Faulty))
-book_err order start fault none said empty e = ap as_book (sym (e ∙ ap (reading_from order start) empty))
+pub round_err : (order : Order) (start : State) (fault : ReadNo) (none said : List ℕ) → none ≡ [] → (let r : Result (Round × List ℕ) (ReadNo × List ℕ) = Err (fault, said) in r ≡ reading_from order start none)
+    → round_of order start ≡ (say said >>= (λ (u : Unit {0}). stop (read_line fault) Faulty))
+round_err order start fault none said empty e = ap as_round (sym (e ∙ ap (reading_from order start) empty))
 
 pub if_err : {A E : Type 0} (P : A → Type 0) (r : Result A E) → IsErr r → IfOk r P
 if_err P (Ok a) h = absurd (false≢true h)
 if_err P (Err e) h = tt
+
+-- ---- the base of a round
+
+is_less : (m n : ℕ) → m < n → nat_lt m n ≡ true
+is_less m n low = grind (arith, low)
+
+is_no_less : (m n : ℕ) → n ≤ m → nat_lt m n ≡ false
+is_no_less m n low = grind (arith, low)
+
+pub base_high : (t : Table) → 2 ^ 62 < base_of t → based t ≡ stop (image_line (no.Limit which.Stamp 0)) Faulty
+base_high t high = rw (is_less (2 ^ 62) (base_of t) high) refl
+
+pub base_low : (t : Table) → base_of t ≤ 2 ^ 62 → based t ≡ done tt
+base_low t low = rw (is_no_less (2 ^ 62) (base_of t) low) refl

@@ -1,23 +1,17 @@
 -- Where each job was run once nothing is learnt.
 --     none_learnt      no pair
 --     still            a history without a new pair is as it was
---     untouched        what a site comes to hangs on no history
-use Rattle.std.proofs.Common.{◌++◌, Result, Ok, Err, ◌≡◌, ◌⊎◌, inl, ⊎_elim, List, [], ◌∷◌, Option, Some, None, refl, sym, ap, ◌∙◌, arith}
+use Rattle.std.proofs.Common.{◌≡◌, ◌⊎◌, inl, ⊎_elim, List, [], ◌∷◌, Option, Some, None, refl, sym, ap, ◌∙◌, arith}
 use Rattle.std.specs.Prelude.{All, ◌↔◌, filter_map}
 use Rattle.std.specs.List.{Contains}
 use Rattle.std.specs.Option.{option_and_then}
 use Rattle.std.specs.Prelude.{slice_get}
 use Rattle.std.proofs.lemmas.List.Elements.{All-head, All-tail}
-use Rattle.em_host.specs.declared.call.Call.{Call}
-use Rattle.em_host.specs.Outside.{Files}
-use Rattle.em_host.specs.Calls.{files_after}
 use Rattle.em_tree.specs.Trees.{Changes}
 use Rattle.em_tree.specs.declared.state.State.{State}
 use Rattle.em_view.specs.Serial.{after}
 use Rattle.em_history.specs.Histories.{Pair, IsHistory, united, collected}
 use Rattle.em_run.specs.Serial.{Made}
-use Rattle.em_rules.specs.declared.book.Book.{Book}
-use Rattle.em_plan.specs.declared.planned.Plan.{Plan}
 use Rattle.em_plan.specs.declared.planned.PlanJob.{PlanJob}
 use Rattle.em_engine.specs.declared.note.Cause.{Cause}
 use Rattle.em_engine.specs.declared.note.Note.{Note}
@@ -25,11 +19,6 @@ use Rattle.em_workers.specs.Builds.{IsOnce}
 use Rattle.em_workers.specs.Notes.{AreNotes}
 use Rattle.em_workers.specs.Turns.{runs_for}
 use Rattle.em_learning.specs.Learnt.{changer_in, targets, pair_of, learnt}
-use Rattle.em_program.specs.declared.project.Project.{Project}
-use Rattle.em_program.specs.declared.site.Site.{Site}
-use Rattle.em_program.specs.declared.verdict.Verdict.{Verdict}
-use Rattle.em_program.specs.Course.{Trace, Course, go_on, ◌>>=◌, done}
-use Rattle.em_program.specs.Projects.{entered, book_of, planned, assembled, EndAlike, IsUntouched}
 
 no_cause : (c : Option Cause) → 1 ≡ runs_for c → c ≡ None
 no_cause None e = refl
@@ -74,30 +63,3 @@ still history both collects one ps is =
   where
     none : (p : Pair) → Contains [] p → ⊥
     none p (k, low, at) = absurd (omega (arith, low))
-
--- ---- what a history doesn't change
-
-record SameTrace (x y : Trace Project) : Type 0 where
-  pub calls : x.calls ≡ y.calls
-  pub end : EndAlike x.end y.end
-
-module _ {A : Type 0} (m : Course A) (k l : A → Course Project) (files : Files) where
-  same_on : (calls : List Call) (end : Result A Verdict) → ((a : A) (f : Files) → SameTrace (k a f) (l a f)) → SameTrace (go_on calls end k files) (go_on calls end l files)
-  same_on calls (Ok a) both = record { calls = ap (λ (c : List Call). calls ++ c) (both a (files_after calls files)).calls; end = (both a (files_after calls files)).end }
-  same_on calls (Err v) both = record { calls = refl; end = refl }
-
-  same_then : ((a : A) (f : Files) → SameTrace (k a f) (l a f)) → SameTrace ((m >>= k) files) ((m >>= l) files)
-  unfolding ◌>>=◌
-  same_then both = same_on (m files).calls (m files).end both
-
-same_done : (s : Site) (old : List Pair) (book : Book) (plan : Plan) (f : Files) → SameTrace (done (assembled (record s { old = old }) book plan) f) (done (assembled s book plan) f)
-unfolding done
-same_done s old book plan f = record { calls = refl; end = record { order = refl; plan = refl; start = refl; specs = refl } }
-
-pub untouched : (s : Site) (old : List Pair) (files : Files) → IsUntouched s old files
-untouched s old files =
-    let same = same_then (entered s.start.tree s.order.dir) _ _ files (λ cwd f.
-    same_then (book_of s.order s.start) _ _ f (λ book g.
-    same_then (planned book s.order s.start.tree cwd) _ _ g (λ plan h.
-    same_done s old book plan h))) in
-    record { calls = same.calls; end = same.end }

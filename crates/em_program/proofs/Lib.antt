@@ -3,6 +3,9 @@ pub mod Ends
 pub mod Numbers
 pub mod Building
 pub mod Fronts
+pub mod Steady
+pub mod Rounding
 pub mod Working
 pub mod Reaching
 pub mod Learning
+pub mod Untouched

@@ -72,12 +72,14 @@ module _ (silent : Bool) (plan : Plan) (outcomes : List Outcome) where
 
 -- ---- the status
 
--- asked: it was only asked whether something is to be made. broken: the new image breaks a limit
-abbrev pub status_of : Bool → Bool → List Outcome → Verdict
-status_of asked broken outcomes =
-    if list_any is_spent outcomes then Spent
-    else if list_any is_refused outcomes then Refused
-    else if broken || list_any is_faulty outcomes then Faulty
+-- asked: it was only asked whether something is to be made. broken: the new image breaks a limit.
+-- earlier: of the jobs of the builds before the last one, which are makefiles'. Those were made
+-- whatever was asked
+abbrev pub status_of : Bool → Bool → List Outcome → List Outcome → Verdict
+status_of asked broken earlier outcomes =
+    if list_any is_spent earlier || list_any is_spent outcomes then Spent
+    else if list_any is_refused earlier || list_any is_refused outcomes then Refused
+    else if broken || (list_any is_faulty earlier || list_any is_faulty outcomes) then Faulty
     else if asked && list_any is_made outcomes then Outdated
     else Done
 

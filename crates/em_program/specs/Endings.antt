@@ -1,13 +1,17 @@
--- What a run comes to, from the words, the host's files, what the jobs made, and the notes of them.
---     ended words made notes     all that `emake` calls on the host, and the status: it does nothing else
---     building p made notes      the jobs of a project, and its end
---     IsBuild p result ..        a build of the project answered so
---     IsWork, IsCount s result ..       a project and its build, at the site, answered so; and where it is only counted
-use Rattle.std.specs.Prelude.{◌≡◌, ℕ, Bool, true, false, ◌||◌, ◌==◌, List, [], ◌++◌, length, map, Option, Some, None, Result, Ok, Err, if◌then◌else◌, IfOk, OnErr, All}
+-- What a run comes to, from the words, the host's files, and its builds: what their jobs made, and
+-- the notes of them.
+--     ended words builds         all that `emake` calls on the host, and the status: it does nothing else
+--     run_from builds st         the builds from this step on, and the end
+--     AreRun, AreAll builds st   these builds are serial runs of what there was to build; and there is no other
+--     IsRan p result ..          the jobs of a project have run so
+--     IsRun, IsWork, IsCount ..  the builds from a step on, those of a site, and where they are only counted
+use Rattle.std.specs.Prelude.{◌≡◌, ℕ, Bool, true, false, ◌||◌, ◌==◌, List, [], ◌∷◌, ◌++◌, length, map, Option, Some, None, Result, Ok, Err, if◌then◌else◌, IfOk, OnErr, All}
+use Rattle.std.specs.List.{flat_map}
 use Rattle.std.specs.FinMap.{empty, len}
 use Rattle.em_host.specs.declared.call.Call.{Call}
 use Rattle.em_host.specs.Calls.{printed_by}
 use Rattle.em_host.specs.Outside.{Files, Outside}
+use Rattle.em_tree.specs.declared.outcome.Outcome.{Outcome}
 use Rattle.em_tree.specs.declared.state.State.{State}
 use Rattle.em_history.specs.Histories.{text_of, united}
 use Rattle.em_image.specs.Image.{limits, writing}
@@ -15,38 +19,42 @@ use Rattle.em_image.specs.declared.no.ImageNo.{ImageNo}
 use Rattle.em_learning.specs.Learnt.{learnt}
 use Rattle.em_learning.specs.Telling.{report_of}
 use Rattle.em_report.specs.Reports.{report_text}
-use Rattle.em_run.specs.Serial as run
-use Rattle.em_run.specs.Serial.{Made, outputs_of, state_after, Ran, IsSerial}
+use Rattle.em_run.specs.Serial.{Made, outputs_of, Ran, IsSerial}
 use Rattle.em_cmdline.specs.declared.order.HistoryMode.{HistoryMode}
 use Rattle.em_cmdline.specs.declared.order.HistoryMode.TheVariants as mode
+use Rattle.em_cmdline.specs.declared.order.Order.{Order}
 use Rattle.em_job.specs.Effects.{Makes}
 use Rattle.em_engine.specs.declared.note.Note.{Note}
 use Rattle.em_workers.specs.Builds.{IsOnce}
 use Rattle.em_workers.specs.Notes.{AreNotes}
 use Rattle.em_program.specs.declared.build.Finished.{Finished}
+use Rattle.em_program.specs.declared.build.JobsDone.{JobsDone}
 use Rattle.em_program.specs.declared.project.Project.{Project}
 use Rattle.em_program.specs.declared.project.Terms.{Terms}
+use Rattle.em_program.specs.declared.rounds.Remaking.{Remaking}
+use Rattle.em_program.specs.declared.rounds.Step.{Step}
 use Rattle.em_program.specs.declared.site.Site.{Site}
 use Rattle.em_program.specs.declared.stop.Stop.{Stop}
-use Rattle.em_program.specs.declared.stop.Stop.TheVariants.{End}
+use Rattle.em_program.specs.declared.stop.Stop.TheVariants.{End, Failed, NoMemory}
 use Rattle.em_program.specs.declared.verdict.Verdict.{Verdict}
 use Rattle.em_program.specs.declared.verdict.Verdict.TheVariants.{Faulty}
 use Rattle.em_program.specs.Closing.{closing, code_of, status_of}
 use Rattle.em_program.specs.Course.{Trace, Course, ◌>>=◌, done, say, say_all, keep, stop, Follows, Meets}
 use Rattle.em_program.specs.Messages.{image_line, summary}
-use Rattle.em_program.specs.Projects.{site, project}
+use Rattle.em_program.specs.Projects.{site}
+use Rattle.em_program.specs.Rounds.{Build, is_early, left_by, first, goes_on}
 use Rattle.em_program.specs.Serial.{ends}
 
 -- the closing text, the new image and the status; an image that breaks a limit isn't written, and
 -- its refusal is the last line
-abbrev pub closed : List ℕ → List ℕ → State → Result (List ℕ) ImageNo → Course Verdict
-closed image text s (Ok bytes) = do
+abbrev pub closed : List ℕ → List ℕ → List Outcome → State → Result (List ℕ) ImageNo → Course Verdict
+closed image text earlier s (Ok bytes) = do
   u ← say text
   v ← keep image bytes
-  done (status_of false false s.outcomes)
-closed image text s (Err e) = do
+  done (status_of false false earlier s.outcomes)
+closed image text earlier s (Err e) = do
   u ← say (text ++ image_line e)
-  done (status_of false true s.outcomes)
+  done (status_of false true earlier s.outcomes)
 
 abbrev pub written : State → Result (List ℕ) ImageNo
 written s = writing limits s.tree
@@ -73,131 +81,178 @@ module _ (t : Terms) (notes : List Note) where
   abbrev pub replaced : Option (List ℕ) → List ℕ → List ℕ → State → Course Verdict
   replaced None fuel text s = do
     u ← say text
-    done (status_of false false s.outcomes)
+    done (status_of false false t.earlier.outcomes s.outcomes)
   replaced (Some image) fuel text s = do
-    verdict ← closed image text s (written s)
+    verdict ← closed image text t.earlier.outcomes s (written s)
     u ← history_kept t.order.mode
     v ← report_kept fuel verdict
     done verdict
 
-  -- under `-q` nothing is said or replaced
-  abbrev pub finish : List ℕ → Bool → State → Course Verdict
-  finish fuel early s =
-      if t.order.question then done (status_of true false s.outcomes)
+  -- asked: under `-q` nothing is said or replaced
+  abbrev pub finish : Bool → List ℕ → Bool → State → Course Verdict
+  finish asked fuel early s =
+      if asked then done (status_of true false t.earlier.outcomes s.outcomes)
       else replaced t.order.image fuel (closing t.order.silent t.plan s.outcomes early) s
-
--- where the run broke off nothing more is called, and nothing is counted. The verdict isn't looked
--- at: the status is then 3 or 7
-abbrev pub broken_off : Course Verdict
-broken_off = done Faulty
 
 abbrev pub fuel_of : List Made → List ℕ
 fuel_of made = map (λ m. m.fuel) made
 
-module _ (p : Project) (made : List Made) where
-  abbrev pub is_early : Bool
-  is_early = run.is_early Makes ends p.specs made
+-- ---- the builds, one behind another
 
-  -- a job ended the run, or all have run
-  abbrev pub is_whole : Bool
-  is_whole = is_early || length made == length p.specs
+-- a job ended the run, or all have run
+abbrev pub is_whole : Project → Build → Bool
+is_whole p b = is_early p b || length b.made == length p.specs
 
-  abbrev pub after_jobs : List Note → Course Verdict
-  after_jobs notes = if is_whole then finish p.terms notes (fuel_of made) is_early (state_after p.start made) else broken_off
-
-  -- what the jobs say, in order, and the end
-  abbrev pub building : List Note → Course Verdict
-  building notes = do
-    u ← say_all (outputs_of made)
-    after_jobs notes
-
--- ---- what a build answers
-
-abbrev pub verdict_in : Result Finished Stop → Result Verdict Stop
-verdict_in (Ok f) = Ok f.verdict
-verdict_in (Err e) = Err e
-
--- none of a run that broke off
-abbrev pub notes_in : Result Finished Stop → List Note
-notes_in (Ok f) = f.notes
-notes_in (Err e) = []
-
--- these jobs are all of the serial run, with a note for each
-pub record IsWhole (p : Project) (made : List Made) (notes : List Note) (f : Finished) : Type 0 where
-  pub serial : IsSerial Makes ends p.start p.specs made
-  pub notes_are : f.notes ≡ notes
-  pub jobs : f.jobs ≡ length p.terms.plan.jobs
-  pub nodes : f.nodes ≡ len (state_after p.start made).tree
-
--- the jobs that were run have run so in the serial run; unless the run broke off, they are all of
--- it
-pub record IsBuild (p : Project) (result : Result Finished Stop) (before after : Option Outside) : Type 0 where
-  pub made : List Made
-  pub notes : List Note
-  pub ran : Ran Makes ends p.start p.specs made
-  pub noted : AreNotes p.start [] made notes
-  -- one worker runs each job once
-  pub alone : p.terms.order.workers ≡ 1 → All IsOnce notes
-  pub whole : IfOk result (IsWhole p made notes)
-  pub follows : Follows (building p made notes) (verdict_in result) before after
-
--- ---- a project and its build
-
--- what a build comes to, as it is counted, and whether it is the whole of it
+-- what the builds come to, as it is counted: how many jobs the last plan has, and how many nodes the
+-- last tree; and whether it is the whole of it
 pub record Tally : Type 0 where
   pub verdict : Verdict
   pub jobs : ℕ
   pub nodes : ℕ
   pub whole : Bool
 
-abbrev pub tally_of : Project → List Made → Verdict → Tally
-tally_of p made verdict = record { verdict = verdict; jobs = length p.terms.plan.jobs; nodes = len (state_after p.start made).tree; whole = is_whole p made }
+-- where the run broke off nothing more is called, and nothing is counted. The verdict isn't looked
+-- at: the status is then 3 or 7
+abbrev pub broken_off : Course Tally
+broken_off = done (record { verdict = Faulty; jobs = 0; nodes = 0; whole = false })
+
+-- `-q`, which a round's own order lacks
+abbrev pub asked_by : Order → Option Remaking → Bool
+asked_by order None = order.question
+asked_by order (Some m) = m.order.question
+
+abbrev pub is_asked : Step → Bool
+is_asked st = asked_by st.project.terms.order st.remaking
+
+-- the end, behind the last build
+abbrev pub tally_of : Terms → State → Verdict → Tally
+tally_of t s verdict = record { verdict = verdict; jobs = length t.plan.jobs; nodes = len s.tree; whole = true }
+
+abbrev pub last_by : Terms → List Note → Bool → List ℕ → Bool → State → Course Tally
+last_by t notes asked fuel early s = do
+  verdict ← finish t notes asked fuel early s
+  done (tally_of t s verdict)
+
+abbrev pub last_of : Step → Build → Course Tally
+last_of st b = last_by st.project.terms b.notes (is_asked st) (fuel_of b.made) (is_early st.project b) (left_by st.project b)
+
+abbrev pub next_or_last : (Step → Course Tally) → Step → Build → Option (Course Step) → Course Tally
+next_or_last later st b None = last_of st b
+next_or_last later st b (Some next) = next >>= later
+
+abbrev pub after_jobs : (Step → Course Tally) → Step → Build → Course Tally
+after_jobs later st b = if is_whole st.project b then next_or_last later st b (goes_on st b) else broken_off
+
+-- what the jobs of each build say, in order, and what follows them
+unfoldable pub run_from : List Build → Step → Course Tally
+run_from [] st = broken_off
+run_from (b ∷ bs) st = do
+  u ← say_all (outputs_of b.made)
+  after_jobs (run_from bs) st b
+
+-- ---- what is so of the builds
+
+-- each job has run so in the serial run, once, or twice and for a cause that is so on the state that
+-- the jobs before it left; one worker has run each job once
+pub record HasRun (p : Project) (b : Build) : Type 0 where
+  pub ran : Ran Makes ends p.start p.specs b.made
+  pub noted : AreNotes p.start [] b.made b.notes
+  pub alone : p.terms.order.workers ≡ 1 → All IsOnce b.notes
+
+-- a fact of a step, where nothing is refused on the way to it. What is refused doesn't hang on the
+-- host's files
+abbrev pub Given : Course Step → (Step → Type 0) → Type 0
+Given next P = (st : Step) → (next empty).end ≡ Ok st → P st
+
+-- a fact of what follows a build
+abbrev pub Behind : Option (Course Step) → (Step → Type 0) → Type 0
+Behind None P = Unit {0}
+Behind (Some next) P = Given next P
+
+abbrev pub AreRun : List Build → Step → Type 0
+AreRun [] st = Unit {0}
+AreRun (b ∷ bs) st = HasRun st.project b × Behind (goes_on st b) (AreRun bs)
+
+-- each of them is all of its serial run, and none is missing
+abbrev pub AllAt : List Build → Result Step Verdict → (Step → Type 0) → Type 0
+AllAt bs (Ok st) P = P st
+AllAt bs (Err verdict) P = bs ≡ []
+
+abbrev pub AllBehind : List Build → Option (Course Step) → (Step → Type 0) → Type 0
+AllBehind bs None P = bs ≡ []
+AllBehind bs (Some next) P = AllAt bs (next empty).end P
+
+abbrev pub AreAll : List Build → Step → Type 0
+AreAll [] st = ⊥
+AreAll (b ∷ bs) st = IsSerial Makes ends st.project.start st.project.specs b.made × AllBehind bs (goes_on st b) (AreAll bs)
+
+abbrev pub notes_of : List Build → List Note
+notes_of builds = flat_map (λ b. b.notes) builds
+
+-- ---- what the parts of a run answer
+
+abbrev pub verdict_in : Result Finished Stop → Result Verdict Stop
+verdict_in (Ok f) = Ok f.verdict
+verdict_in (Err e) = Err e
+
+-- none of a run that broke off, or that was refused
+abbrev pub notes_in : Result Finished Stop → List Note
+notes_in (Ok f) = f.notes
+notes_in (Err e) = []
 
 abbrev pub tally_in : Result Finished Stop → Result Tally Stop
 tally_in (Ok f) = Ok (record { verdict = f.verdict; jobs = f.jobs; nodes = f.nodes; whole = true })
 tally_in (Err e) = Err e
 
-abbrev pub working : List Made → List Note → Site → Course Tally
-working made notes s = do
-  p ← project s
-  verdict ← building p made notes
-  done (tally_of p made verdict)
+-- the run came to its end, or to a refusal
+abbrev pub IsOver : Result Finished Stop → Type 0
+IsOver (Ok f) = Unit {0}
+IsOver (Err (End verdict)) = Unit {0}
+IsOver (Err Failed) = ⊥
+IsOver (Err NoMemory) = ⊥
 
--- a fact of the project, where nothing is refused before the build
-abbrev pub Given : Site → Files → (Project → Type 0) → Type 0
-Given s files P = (p : Project) → (project s files).end ≡ Ok p → P p
+abbrev pub unit_in : Result JobsDone Stop → Result (Unit {0}) Stop
+unit_in (Ok d) = Ok tt
+unit_in (Err e) = Err e
 
-abbrev pub HasRun : List Made → Project → Type 0
-HasRun made p = Ran Makes ends p.start p.specs made
+-- what the jobs of a project leave, once all have run or one has ended the run
+pub record IsDone (p : Project) (b : Build) (d : JobsDone) : Type 0 where
+  pub serial : IsSerial Makes ends p.start p.specs b.made
+  pub terms : d.terms ≡ p.terms
+  pub state : d.built.state ≡ left_by p b
+  pub fuel : d.built.fuel ≡ fuel_of b.made
+  pub notes : d.built.notes ≡ b.notes
 
-abbrev pub HasRunWhole : List Made → Project → Type 0
-HasRunWhole made p = IsSerial Makes ends p.start p.specs made
+-- the jobs that were run have run so in the serial run; unless the run broke off, they are all of
+-- it. They are never refused
+pub record IsRan (p : Project) (result : Result JobsDone Stop) (before after : Option Outside) : Type 0 where
+  pub build : Build
+  pub has : HasRun p build
+  pub whole : IfOk result (IsDone p build)
+  pub short : (verdict : Verdict) → result ≡ Err (End verdict) → ⊥
+  pub follows : Follows (say_all (outputs_of build.made)) (unit_in result) before after
 
--- each job was run once, or twice and for a cause that is so on the state that the jobs before it
--- left
-abbrev pub HasNotes : List Made → List Note → Project → Type 0
-HasNotes made notes p = AreNotes p.start [] made notes
+pub record IsRun (st : Step) (result : Result Finished Stop) (before after : Outside) : Type 0 where
+  pub builds : List Build
+  pub run : AreRun builds st
+  pub all : IsOver result → AreAll builds st
+  pub notes : IfOk result (λ f. f.notes ≡ st.project.terms.earlier.notes ++ notes_of builds)
+  pub meets : Meets (run_from builds st before.files) (tally_in result) before after
 
--- one worker has run each job once
-abbrev pub IsAlone : List Note → Project → Type 0
-IsAlone notes p = p.terms.order.workers ≡ 1 → All IsOnce notes
+-- ---- what is built at a site
 
--- what is so of the jobs that were run and of their notes, where the parts before the build gave a
--- project from these files
-pub record AreSo (s : Site) (files : Files) (made : List Made) (notes : List Note) (result : Result Finished Stop) : Type 0 where
-  pub ran : Given s files (HasRun made)
-  pub noted : Given s files (HasNotes made notes)
-  pub alone : Given s files (IsAlone notes)
-  pub whole : IfOk result (λ f. Given s files (λ p. IsWhole p made notes f))
-  pub refused : OnErr (project s files).end (notes_in result ≡ [])
-  -- a verdict before the end
-  pub early : (verdict : Verdict) → result ≡ Err (End verdict) → Given s files (λ p. ⊥)
+abbrev pub working : List Build → Site → Course Tally
+working builds s = first s >>= run_from builds
+
+pub record AreSo (s : Site) (builds : List Build) (result : Result Finished Stop) : Type 0 where
+  pub run : Given (first s) (AreRun builds)
+  pub all : IsOver result → AllAt builds (first s empty).end (AreAll builds)
+  pub notes : IfOk result (λ f. f.notes ≡ s.earlier.notes ++ notes_of builds)
 
 pub record IsWork (s : Site) (result : Result Finished Stop) (before after : Outside) : Type 0 where
-  pub made : List Made
-  pub notes : List Note
-  pub so : AreSo s before.files made notes result
-  pub meets : Meets (working made notes s before.files) (tally_in result) before after
+  pub builds : List Build
+  pub so : AreSo s builds result
+  pub meets : Meets (working builds s before.files) (tally_in result) before after
 
 -- ---- all of it
 
@@ -217,10 +272,9 @@ counted steps = counted_as steps.calls steps.end
 
 -- a generated project is built beside the host, without a file of it
 pub record IsCount (s : Site) (result : Result Finished Stop) (before after : Outside) : Type 0 where
-  pub made : List Made
-  pub notes : List Note
-  pub so : AreSo s empty made notes result
-  pub meets : Meets (counted (working made notes s empty) before.files) (verdict_in result) before after
+  pub builds : List Build
+  pub so : AreSo s builds result
+  pub meets : Meets (counted (working builds s empty) before.files) (verdict_in result) before after
 
 abbrev pub answered : Option ℕ → Course Tally → Course Verdict
 answered None work = do
@@ -228,8 +282,8 @@ answered None work = do
   done t.verdict
 answered (Some n) work = counted (work empty)
 
-unfoldable pub ended_at : List Made → List Note → Site → Course Verdict
-ended_at made notes s = answered s.order.generate (working made notes s)
+unfoldable pub ended_at : List Build → Site → Course Verdict
+ended_at builds s = answered s.order.generate (working builds s)
 
-abbrev pub ended : List (List ℕ) → List Made → List Note → Course Verdict
-ended words made notes = site words >>= ended_at made notes
+abbrev pub ended : List (List ℕ) → List Build → Course Verdict
+ended words builds = site words >>= ended_at builds

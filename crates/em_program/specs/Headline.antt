@@ -1,24 +1,24 @@
 -- What `emake` promises over a host that tells its files, what was printed, and its calls.
---     Headline words status notes before after      there are effects of the jobs in the serial run, and notes of them, such that the run made the
---                                                   ending's calls for both; at the statuses 3 and 7 effects of a front of the jobs, and a
---                                                   front of the calls
+--     Headline words status notes before after      there are builds, whose jobs have run as in their serial runs, and notes of these, such
+--                                                   that the run made the ending's calls for them; at the statuses 3 and 7 a front of the jobs,
+--                                                   and a front of the calls
 --     Exits words status before after               the same of who hands on the status alone
-use Rattle.std.specs.Prelude.{◌≡◌, ◌≢◌, ℕ, true, List, [], ◌++◌, take, Result, Ok, Err, IfOk, OnErr, ◌⊎◌}
+use Rattle.std.specs.Prelude.{◌≡◌, ◌≢◌, ℕ, true, List, [], ◌++◌, take, Result, Ok, Err, IfOk, ◌⊎◌}
 use Rattle.em_host.specs.declared.call.Call.{Call}
 use Rattle.em_host.specs.Outside.{Outside, Files}
 use Rattle.em_host.specs.Calls.{printed_by, files_after, Makes, FailsIn}
-use Rattle.em_run.specs.Serial.{Made}
 use Rattle.em_engine.specs.declared.note.Note.{Note}
 use Rattle.em_workers.specs.Printing.{RunsOut}
 use Rattle.em_program.specs.declared.build.Finished.{Finished}
-use Rattle.em_program.specs.declared.project.Project.{Project}
+use Rattle.em_program.specs.declared.rounds.Step.{Step}
 use Rattle.em_program.specs.declared.verdict.Verdict.{Verdict}
 use Rattle.em_program.specs.declared.stop.Stop.{Stop}
 use Rattle.em_program.specs.declared.stop.Stop.TheVariants.{End, Failed, NoMemory}
 use Rattle.em_program.specs.Closing.{code_of}
-use Rattle.em_program.specs.Course.{Trace, Meets}
-use Rattle.em_program.specs.Endings.{ended, verdict_in, notes_in, IsWhole, HasRun, HasRunWhole, HasNotes, IsAlone}
-use Rattle.em_program.specs.Projects.{project_in}
+use Rattle.em_program.specs.Course.{Trace, ◌>>=◌, Meets}
+use Rattle.em_program.specs.Endings.{ended, verdict_in, notes_of, AllAt, AreAll, AreRun, IsOver}
+use Rattle.em_program.specs.Projects.{site}
+use Rattle.em_program.specs.Rounds.{Build, first}
 
 abbrev pub verdict_of : Result Verdict Verdict → Verdict
 verdict_of (Ok verdict) = verdict
@@ -47,35 +47,36 @@ pub record Comes (ending : Trace Verdict) (code : ℕ) (before after : Outside) 
   pub short : code ≡ 7 → RunsOut ending.calls before after
   pub cut : (code ≡ 3) ⊎ (code ≡ 7) → IsCut ending.calls before after
 
--- a fact of what there is to build, where nothing is refused before the build
-abbrev pub Built : List (List ℕ) → Files → (Project → Type 0) → Type 0
-Built words files P = (p : Project) → project_in words files ≡ Ok p → P p
+-- the first build of the words, or why there is none
+abbrev pub first_in : List (List ℕ) → Files → Result Step Verdict
+first_in words files = ((site words >>= first) files).end
+
+-- a fact of it, where nothing is refused before it
+abbrev pub Built : List (List ℕ) → Files → (Step → Type 0) → Type 0
+Built words files P = (st : Step) → first_in words files ≡ Ok st → P st
+
+-- the notes of all builds, unless the run was refused
+abbrev pub told_of : List Build → Result Verdict Verdict → List Note
+told_of builds (Ok verdict) = notes_of builds
+told_of builds (Err verdict) = []
 
 -- the same of what a run answered
 pub record Reaches (words : List (List ℕ)) (result : Result Finished Stop) (before after : Outside) : Type 0 where
-  pub made : List Made
-  pub made_notes : List Note
-  pub ran : Built words before.files (HasRun made)
-  pub noted : Built words before.files (HasNotes made made_notes)
-  pub alone : Built words before.files (IsAlone made_notes)
-  pub whole : IfOk result (λ f. Built words before.files (λ p. IsWhole p made made_notes f))
-  pub refused : OnErr (project_in words before.files) (notes_in result ≡ [])
-  pub early : (verdict : Verdict) → result ≡ Err (End verdict) → Built words before.files (λ p. ⊥)
-  pub meets : Meets (ended words made made_notes before.files) (verdict_in result) before after
+  pub builds : List Build
+  pub run : Built words before.files (AreRun builds)
+  pub all : IsOver result → AllAt builds (first_in words before.files) (AreAll builds)
+  pub notes : IfOk result (λ f. f.notes ≡ notes_of builds)
+  pub meets : Meets (ended words builds before.files) (verdict_in result) before after
 
 pub record Headline (words : List (List ℕ)) (code : ℕ) (notes : List Note) (before after : Outside) : Type 0 where
-  -- of each job its effect on the state that the jobs before it left
-  pub made : List Made
-  -- one for each of them, in order: what the history and the report tell
-  pub made_notes : List Note
-  pub ran : Built words before.files (HasRun made)
-  pub whole : code ≢ 3 → code ≢ 7 → Built words before.files (HasRunWhole made)
-  pub noted : Built words before.files (HasNotes made made_notes)
-  pub alone : Built words before.files (IsAlone made_notes)
-  pub notes_are : code ≢ 3 → code ≢ 7 → Built words before.files (λ p. notes ≡ made_notes)
+  -- of each build, of each of its jobs the effect on the state that the jobs before it left; and
+  -- notes of these, in order, which history and report tell
+  pub builds : List Build
+  pub run : Built words before.files (AreRun builds)
+  pub all : code ≢ 3 → code ≢ 7 → AllAt builds (first_in words before.files) (AreAll builds)
+  pub notes_are : code ≢ 3 → code ≢ 7 → notes ≡ told_of builds (ended words builds before.files).end
   pub none : (code ≡ 3) ⊎ (code ≡ 7) → notes ≡ []
-  pub refused : OnErr (project_in words before.files) (notes ≡ [])
-  pub comes : Comes (ended words made made_notes before.files) code before after
+  pub comes : Comes (ended words builds before.files) code before after
 
 abbrev pub Exits : List (List ℕ) → ℕ → Outside → Outside → Type 0
 Exits words code before after = (notes : List Note) × Headline words code notes before after

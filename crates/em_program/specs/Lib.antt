@@ -5,5 +5,7 @@ pub mod Closing
 pub mod Explaining
 pub mod Projects
 pub mod Serial
+pub mod Rounds
+pub mod Alike
 pub mod Endings
 pub mod Headline

@@ -1,5 +1,6 @@
 -- What `emake` says besides its jobs.
 --     word_line e, image_line e, dir_line name, read_line e, plan_line found e     why there is no build
+--     still_changing                                                               why rounds come to no end
 --     report_line at, insight_line e                                               why a report isn't explained
 --     not_remade, nothing_to_do, up_to_date                                        the closing text's lines
 --     summary jobs printed nodes status                                            what a generated project's build comes to
@@ -132,6 +133,10 @@ plan_text found plan.NoMemory = []
 
 abbrev pub plan_line : Bool → PlanNo → List ℕ
 plan_line found e = stopped (plan_text found e)
+
+-- the last round has changed a makefile again
+abbrev pub still_changing : List ℕ
+still_changing = stopped (codes "Makefiles still change after 8 readings")
 
 abbrev pub not_remade : List ℕ → List ℕ
 not_remade goal = codes "emake: Target " ++ quoted goal ++ codes " not remade because of errors.\n"

@@ -2,10 +2,9 @@
 -- Each part gives what the next one needs, or ends the run with its refusal: nothing is replaced
 -- then.
 --     site words         the order, the tree from which the build starts, and the history
---     project s          what is built there, in order
---     project_in words files      both
---     IsUntouched s old ..       a history changes nothing but waits
---     IsSite s, IsReady p         what a project is made of, and what a build asks of it
+--     round_of order start      what the makefiles say, and which of them are there
+--     project_at s book cwd     the jobs that the goals need
+--     IsSite s, IsReady p       what a project is made of, and what a build asks of it
 use Rattle.std.specs.Prelude.{◌≡◌, ◌<◌, ◌≤◌, ◌^◌, ℕ, Bool, List, [], Option, Some, None, Result, Ok, Err, All, length, slice_index_or}
 use Rattle.std.specs.FinMap.{get}
 use Rattle.em_host.specs.Outside.{Files}
@@ -30,6 +29,7 @@ use Rattle.em_cmdline.specs.Words.{HasRanges}
 use Rattle.em_rules.specs.declared.book.Book.{Book}
 use Rattle.em_reading.specs.declared.no.ReadNo.{ReadNo}
 use Rattle.em_reader.specs.Makefiles as makefiles
+use Rattle.em_reader.specs.declared.makefiles.Round.{Round}
 use Rattle.em_plan.specs.declared.no.PlanNo.{PlanNo}
 use Rattle.em_plan.specs.declared.planned.Plan.{Plan}
 use Rattle.em_plan.specs.Plans.{plan_of}
@@ -39,6 +39,7 @@ use Rattle.em_job.specs.Making.{flags_of, jobs_of}
 use Rattle.em_engine.specs.Fronts.{AreNumbered}
 use Rattle.em_program.specs.declared.project.Project.{Project}
 use Rattle.em_program.specs.declared.project.Terms.{Terms}
+use Rattle.em_program.specs.declared.site.Earlier.{Earlier}
 use Rattle.em_program.specs.declared.site.Site.{Site}
 use Rattle.em_program.specs.declared.verdict.Verdict.{Verdict}
 use Rattle.em_program.specs.declared.verdict.Verdict.TheVariants.{Faulty}
@@ -113,16 +114,17 @@ abbrev pub start_of : Table → State
 start_of t = record { tree = t; outcomes = [] }
 
 -- what was said while they were read, also before a fault
-abbrev pub as_book : Result (Book × List ℕ) (ReadNo × List ℕ) → Course Book
-as_book (Ok p) = do
+abbrev pub as_round : Result (Round × List ℕ) (ReadNo × List ℕ) → Course Round
+as_round (Ok p) = do
   u ← say p.1
   done p.0
-as_book (Err p) = do
+as_round (Err p) = do
   u ← say p.1
   stop (read_line p.0) Faulty
 
-abbrev pub book_of : Order → State → Course Book
-book_of order start = as_book (makefiles.reading order (resolved_text root_text order.dir) [] [] (snapshot start) makefiles.fresh).0
+-- a file that an `include` names and that isn't there is noted
+abbrev pub round_of : Order → State → Course Round
+round_of order start = as_round (makefiles.round order (resolved_text root_text order.dir) [] [] (snapshot start) makefiles.fresh).0
 
 -- ---- the plan
 
@@ -137,6 +139,10 @@ planned book order t cwd = as_plan book.found (plan_of book order.goals t cwd)
 
 -- ---- all of it
 
+-- before the first build
+abbrev pub none_earlier : Earlier
+none_earlier = record { notes = []; outcomes = [] }
+
 -- where the build takes place; a page and an explanation end the run before
 abbrev pub site : List (List ℕ) → Course Site
 site words = do
@@ -144,10 +150,10 @@ site words = do
   u ← explained order
   tree ← tree_in order.generate order.image
   old ← recalled order.mode order.history
-  done (record { order = order; start = start_of tree; old = old })
+  done (record { order = order; start = start_of tree; old = old; earlier = none_earlier })
 
 abbrev pub terms_of : Site → Plan → Terms
-terms_of s plan = record { order = s.order; old = s.old; plan = plan; waits = waits_with s.old plan.jobs }
+terms_of s plan = record { order = s.order; old = s.old; earlier = s.earlier; plan = plan; waits = waits_with s.old plan.jobs }
 
 abbrev pub assembled : Site → Book → Plan → Project
 assembled s book plan = record {
@@ -157,42 +163,20 @@ assembled s book plan = record {
 }
 
 -- the history tells only what jobs wait for
-abbrev pub project : Site → Course Project
-project s = do
-  cwd ← entered s.start.tree s.order.dir
-  book ← book_of s.order s.start
+abbrev pub project_at : Site → Book → List ℕ → Course Project
+project_at s book cwd = do
   plan ← planned book s.order s.start.tree cwd
   done (assembled s book plan)
-
--- what there is to build, where nothing is refused before the build
-abbrev pub project_in : List (List ℕ) → Files → Result Project Verdict
-project_in words files = ((site words >>= project) files).end
-
--- ---- what a history doesn't change
-
--- they are built alike: only what jobs wait for, and the pairs that were known, may differ
-pub record AreAlike (p q : Project) : Type 0 where
-  pub order : p.terms.order ≡ q.terms.order
-  pub plan : p.terms.plan ≡ q.terms.plan
-  pub start : p.start ≡ q.start
-  pub specs : p.specs ≡ q.specs
-
-abbrev pub EndAlike : Result Project Verdict → Result Project Verdict → Type 0
-EndAlike (Ok p) (Ok q) = AreAlike p q
-EndAlike (Err v) (Err w) = v ≡ w
-EndAlike _ _ = ⊥
-
--- what a site with these pairs comes to
-pub record IsUntouched (s : Site) (old : List Pair) (files : Files) : Type 0 where
-  pub calls : (project (record s { old = old }) files).calls ≡ (project s files).calls
-  pub end : EndAlike (project (record s { old = old }) files).end (project s files).end
 
 -- ---- what a project is made of, and what a build asks of it
 
 pub record IsSite (s : Site) : Type 0 where
   pub bare : s.start.outcomes ≡ []
-  pub base : base_of s.start.tree ≤ 2 ^ 62
   pub ranges : HasRanges s.order
+
+-- numbers are left for the changes of a build
+abbrev pub HasRoom : Table → Type 0
+HasRoom t = base_of t ≤ 2 ^ 62
 
 pub record IsReady (p : Project) : Type 0 where
   pub bare : p.start.outcomes ≡ []

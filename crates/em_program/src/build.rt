@@ -1,35 +1,46 @@
-//! The build of a project.
-ghost use Rattle.std.specs.Prelude.{◌≡◌, IfOk};
-ghost use Rattle.em_program.specs.Closing as closing;
+//! The builds, one behind another.
+ghost use Rattle.std.specs.Prelude.{◌≡◌, ◌++◌, IfOk};
+ghost use Rattle.em_host.specs.Outside.{Tells};
 ghost use Rattle.em_program.specs.Course.{Follows, faults_after};
 ghost use Rattle.em_program.specs.Endings as endings;
+ghost use Rattle.em_program.specs.Endings.{IsRan, IsRun, tally_in};
 ghost use Rattle.em_program.specs.Projects.{IsReady};
+ghost use Rattle.em_program.specs.Rounds.{IsStep};
 
 use crate::closing::has_ended;
 use crate::ending::finish;
 use crate::project::{Project, Terms};
+use crate::rounds::{Step, behind, joined};
+use crate::site::Earlier;
 use crate::stop::Stop;
 use crate::verdict::Verdict;
 use em_base::{NoMemory, Seq};
 use em_engine::Note;
 use em_host::Host;
-use em_job::JobSpec;
+use em_job::{JobSpec, JobWork};
 use em_run::Work;
-use em_workers::{Built, Gate, build};
+use em_workers::{Built, Gate, OpenGate, build};
 use std::alloc::Global;
 use std::sync::Wait;
 use std::thread::Threads;
 
-/// What a build comes to, unless it breaks off.
+/// What a run comes to, unless it is refused or breaks off.
 #[derive(Drop)]
 pub struct Finished {
     pub verdict: Verdict,
-    /// One for each job of the serial run, in order.
+    /// One for each job of the serial runs, in order.
     pub notes: Seq<Note>,
-    /// How many jobs the plan has.
+    /// How many jobs the last plan has.
     pub jobs: usize,
-    /// How many nodes the new tree has.
+    /// How many nodes the last tree has.
     pub nodes: usize,
+}
+
+/// What the jobs of a project leave, once all have run or one has ended the run.
+#[derive(Drop)]
+pub struct JobsDone {
+    pub terms: Terms,
+    pub built: Built,
 }
 
 /// Equal waits.
@@ -43,37 +54,17 @@ fn copied(alloc: Global, waits: &[Seq<u32>]) -> Result<Seq<Seq<u32>>, NoMemory>
     Ok(copy)
 }
 
-/// The end of a build, behind what its jobs left.
-fn ended<H: Host>(alloc: Global, terms: &Terms, done: &Built, host: &mut H) -> Result<Verdict, Stop>
-    ensures told { Follows (endings.finish terms.now done.now.notes done.now.fuel
-        (closing.has_ended terms.now.order done.now.state.outcomes) done.now.state)
-        result (H.told host.old) (H.told host.new) }
-    ensures faults { H.faults host.new ≡ faults_after result (H.faults host.old) }
-{
-    let early = has_ended(&terms.order, done.state.outcomes.items());
-    finish(
-        alloc,
-        terms,
-        &done.notes,
-        &done.fuel,
-        early,
-        &done.state,
-        host,
-    )
-}
-
-/// Builds the project: runs its jobs with the workers of its order, says the closing text and
-/// replaces the files.
-pub fn built<R: Threads + Wait + Sync, W: Work<JobSpec> + Sync, G: Gate + Sync, H: Host>(
+/// Runs the jobs of the project, with the workers of its order.
+fn ran<R: Threads + Wait + Sync, W: Work<JobSpec> + Sync, G: Gate + Sync, H: Host>(
     rt: &R,
     alloc: Global,
     project: Project,
     w: &W,
     gate: &G,
     host: &mut H,
-) -> Result<Finished, Stop>
+) -> Result<JobsDone, Stop>
     requires { IsReady project }
-    ensures builds { endings.IsBuild project result (H.told host.old) (H.told host.new) }
+    ensures ran { IsRan project result (H.told host.old) (H.told host.new) }
     ensures faults { H.faults host.new ≡ faults_after result (H.faults host.old) }
 {
     let Project {
@@ -83,12 +74,85 @@ pub fn built<R: Threads + Wait + Sync, W: Work<JobSpec> + Sync, G: Gate + Sync, 
     } = project;
     let waits = copied(alloc, terms.waits.items())?;
     let workers = terms.order.workers;
-    let done = build(rt, alloc, start, specs, waits, workers, w, gate, host)?;
-    let verdict = ended(alloc, &terms, &done, host)?;
+    let built = build(rt, alloc, start, specs, waits, workers, w, gate, host)?;
+    Ok(JobsDone { terms, built })
+}
+
+/// The end, behind the last build: says the closing text and replaces the files.
+fn ended<H: Host>(
+    alloc: Global,
+    asked: bool,
+    early: bool,
+    done: JobsDone,
+    host: &mut H,
+) -> Result<Finished, Stop>
+    ensures told { Follows
+        (endings.last_by done.terms done.built.notes asked done.built.fuel early done.built.state)
+        (tally_in result) (H.told host.old) (H.told host.new) }
+    ensures faults { H.faults host.new ≡ faults_after result (H.faults host.old) }
+    ensures notes { IfOk result (λ f. f.notes ≡ done.terms.earlier.notes ++ done.built.notes) }
+{
+    let JobsDone { terms, built } = done;
+    let verdict = finish(
+        alloc,
+        &terms,
+        &built.notes,
+        asked,
+        &built.fuel,
+        early,
+        &built.state,
+        host,
+    )?;
+    let jobs = terms.plan.jobs.len();
+    let nodes = built.state.tree.count();
+    let Terms {
+        order: _,
+        old: _,
+        earlier,
+        plan: _,
+        waits: _,
+    } = terms;
+    let Earlier { notes, outcomes: _ } = earlier;
+    let Built {
+        state: _,
+        notes: last,
+        fuel: _,
+    } = built;
     Ok(Finished {
         verdict,
-        jobs: terms.plan.jobs.len(),
-        nodes: done.state.tree.count(),
-        notes: done.notes,
+        notes: joined(notes, last)?,
+        jobs,
+        nodes,
     })
+}
+
+/// The builds from this step on. Each round has one call in another, at most eight.
+#[cycle(builds)]
+pub fn run_from<R: Threads + Wait + Sync, H: Host>(
+    rt: &R,
+    alloc: Global,
+    step: Step,
+    host: &mut H,
+) -> Result<Finished, Stop>
+    requires { IsStep step }
+    ensures told { Tells (IsRun step result) (H.told host.old) (H.told host.new) }
+    ensures faults { H.faults host.new ≡ faults_after result (H.faults host.old) }
+{
+    let Step { project, remaking } = step;
+    let work = JobWork::new();
+    let done = ran(rt, alloc, project, &work, &OpenGate, host)?;
+    let early = has_ended(&done.terms.order, done.built.state.outcomes.items());
+    match remaking {
+        None => {
+            let asked = done.terms.order.question;
+            ended(alloc, asked, early, done, host)
+        }
+        Some(remaking) => {
+            if early {
+                return ended(alloc, remaking.order.question, early, done, host);
+            }
+            let step = behind(alloc, remaking, done, host)?;
+            run_from(rt, alloc, step, host)
+        }
+    }
 }

@@ -161,16 +161,17 @@ pub fn closing_text(
 
 // ---- the status
 
-/// The build's status, by its outcomes; `asked` tells that it was only asked whether something is
-/// to be made, and `broken` that the new image breaks a limit.
-pub fn status_of(asked: bool, broken: bool, outcomes: &[Outcome]) -> Verdict
-    ensures { result ≡ closing.status_of asked broken outcomes.now }
+/// The run's status, by the outcomes of its last build, and of the builds before; `asked` tells that
+/// it was only asked whether something is to be made, and `broken` that the new image breaks a
+/// limit. Linear in all of them.
+pub fn status_of(asked: bool, broken: bool, earlier: &[Outcome], outcomes: &[Outcome]) -> Verdict
+    ensures { result ≡ closing.status_of asked broken earlier.now outcomes.now }
 {
-    if has_spent(outcomes) {
+    if has_spent(earlier) || has_spent(outcomes) {
         Verdict::Spent
-    } else if has_refused(outcomes) {
+    } else if has_refused(earlier) || has_refused(outcomes) {
         Verdict::Refused
-    } else if broken || has_faulty(outcomes) {
+    } else if broken || has_faulty(earlier) || has_faulty(outcomes) {
         Verdict::Faulty
     } else if asked && has_made(outcomes) {
         Verdict::Outdated

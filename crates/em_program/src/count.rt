@@ -7,15 +7,13 @@ ghost use Rattle.em_program.specs.Endings.{IsCount, IsWork};
 ghost use Rattle.em_program.specs.Messages as messages;
 ghost use Rattle.em_program.specs.Projects.{IsSite};
 
-use crate::build::{Finished, built};
-use crate::project::project_of;
+use crate::build::{Finished, run_from};
+use crate::rounds::first;
 use crate::say::{say, stop};
 use crate::site::Site;
 use crate::stop::Stop;
 use em_base::{NoMemory, Text};
 use em_host::{Host, MemHost};
-use em_job::JobWork;
-use em_workers::OpenGate;
 use itoa::Buffer;
 use std::alloc::Global;
 use std::sync::Wait;
@@ -52,9 +50,8 @@ pub fn work<R: Threads + Wait + Sync, H: Host>(
     ensures told { Tells (IsWork site result) (H.told host.old) (H.told host.new) }
     ensures faults { H.faults host.new ≡ faults_after result (H.faults host.old) }
 {
-    let project = project_of(alloc, site, host)?;
-    let work = JobWork::new();
-    built(rt, alloc, project, &work, &OpenGate, host)
+    let step = first(alloc, site, host)?;
+    run_from(rt, alloc, step, host)
 }
 
 /// Builds beside the host, and says only how much there was; where the build is refused, what it

@@ -19,7 +19,7 @@ use em_host::Host;
 use em_image::{ImageNo, write_image};
 use em_learning::{learnt, report_of};
 use em_report::write;
-use em_tree::State;
+use em_tree::{Outcome, State};
 use std::alloc::Global;
 
 /// The closing text with the line of the image's refusal.
@@ -36,10 +36,12 @@ fn close<H: Host>(
     alloc: Global,
     image: &[u8],
     text: Text,
+    earlier: &[Outcome],
     state: &State,
     host: &mut H,
 ) -> Result<Verdict, Stop>
-    ensures told { Follows (endings.closed image.now text state.now (endings.written state.now))
+    ensures told { Follows
+        (endings.closed image.now text earlier.now state.now (endings.written state.now))
         result (H.told host.old) (H.told host.new) }
     ensures faults { H.faults host.new ≡ faults_after result (H.faults host.old) }
 {
@@ -48,14 +50,14 @@ fn close<H: Host>(
         Ok(written) => {
             say(host, text.bytes())?;
             keep(alloc, host, image, written.bytes())?;
-            Ok(status_of(false, false, outcomes))
+            Ok(status_of(false, false, earlier, outcomes))
         }
         Err(no) => match no {
             ImageNo::NoMemory => Err(Stop::NoMemory),
             _ => {
                 let last = refused_closing(alloc, text, no)?;
                 say(host, last.bytes())?;
-                Ok(status_of(false, true, outcomes))
+                Ok(status_of(false, true, earlier, outcomes))
             }
         },
     }
@@ -164,13 +166,14 @@ fn replace_all<H: Host>(
         result (H.told host.old) (H.told host.new) }
     ensures faults { H.faults host.new ≡ faults_after result (H.faults host.old) }
 {
+    let earlier = terms.earlier.outcomes.items();
     match &terms.order.image {
         None => {
             say(host, text.bytes())?;
-            Ok(status_of(false, false, state.outcomes.items()))
+            Ok(status_of(false, false, earlier, state.outcomes.items()))
         }
         Some(image) => {
-            let verdict = close(alloc, image.bytes(), text, state, host)?;
+            let verdict = close(alloc, image.bytes(), text, earlier, state, host)?;
             keep_history(alloc, terms, notes, host)?;
             keep_report(alloc, terms, notes, fuel, verdict, host)?;
             Ok(verdict)
@@ -178,24 +181,26 @@ fn replace_all<H: Host>(
     }
 }
 
-/// The end of a build: the closing text, and the files that are replaced. Under `-q` there is
-/// neither.
+/// The end of the last build: the closing text, and the files that are replaced. Where it was only
+/// asked there is neither.
 pub fn finish<H: Host>(
     alloc: Global,
     terms: &Terms,
     notes: &Seq<Note>,
+    asked: bool,
     fuel: &Seq<u64>,
     early: bool,
     state: &State,
     host: &mut H,
 ) -> Result<Verdict, Stop>
-    ensures told { Follows (endings.finish terms.now notes.now fuel.now early state.now) result
+    ensures told { Follows
+        (endings.finish terms.now notes.now asked fuel.now early state.now) result
         (H.told host.old) (H.told host.new) }
     ensures faults { H.faults host.new ≡ faults_after result (H.faults host.old) }
 {
     let outcomes = state.outcomes.items();
-    if terms.order.question {
-        return Ok(status_of(true, false, outcomes));
+    if asked {
+        return Ok(status_of(true, false, terms.earlier.outcomes.items(), outcomes));
     }
     let text = closing_text(alloc, terms.order.silent, &terms.plan, outcomes, early)?;
     replace_all(alloc, terms, notes, fuel, text, state, host)

@@ -8,6 +8,7 @@ mod ending;
 mod explain;
 mod messages;
 mod project;
+mod rounds;
 mod say;
 mod site;
 mod stop;

@@ -17,6 +17,8 @@ pub const BAD_WORDS: &[u8] = b"emake: *** bad words.  Stop.\n";
 
 pub const NO_IMAGE: &[u8] = b"emake: *** image: absent.  Stop.\n";
 
+pub const STILL_CHANGING: &[u8] = b"emake: *** Makefiles still change after 8 readings.  Stop.\n";
+
 pub const NO_REPORT: &[u8] = b"emake: *** report: absent.  Stop.\n";
 
 /// A text with a name in quotes behind it.

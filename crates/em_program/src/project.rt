@@ -5,11 +5,11 @@ ghost use Rattle.em_path.specs.Paths.{root_text};
 ghost use Rattle.em_path.specs.Reading.{read_fault};
 ghost use Rattle.em_program.specs.Course.{Follows, faults_after};
 ghost use Rattle.em_program.specs.Projects as projects;
-ghost use Rattle.em_program.specs.Projects.{IsReady, IsSite};
+ghost use Rattle.em_program.specs.Projects.{HasRoom, IsReady, IsSite};
 
 use crate::messages::{dir_line, fault_line, plan_line};
 use crate::say::{say, stop};
-use crate::site::Site;
+use crate::site::{Earlier, Site};
 use crate::stop::Stop;
 use crate::verdict::Verdict;
 use em_base::{NoMemory, Seq, Text};
@@ -21,7 +21,7 @@ use em_learning::waits_with;
 use em_path::{Path, PathNo};
 use em_plan::laws::{law_limit, law_once, law_waits};
 use em_plan::{Plan, PlanNo, plan};
-use em_reader::{ReadNo, read_makefiles};
+use em_reader::{ReadNo, Round, read_round};
 use em_rules::Book;
 use em_tree::{Kind, State, Tree};
 use std::alloc::Global;
@@ -30,8 +30,9 @@ use std::alloc::Global;
 #[derive(Drop)]
 pub struct Terms {
     pub order: Order,
-    /// What the history's file told.
+    /// What the history's file told, and what the builds before have shown.
     pub old: History,
+    pub earlier: Earlier,
     pub plan: Plan,
     /// Of each job of the plan the jobs that it waits for.
     pub waits: Seq<Seq<u32>>,
@@ -58,7 +59,7 @@ fn no_dir<H: Host>(alloc: Global, name: &[u8], host: &mut H) -> Result<Path, Sto
 }
 
 /// The working directory: `-C` names a directory of the tree.
-fn entered<H: Host>(alloc: Global, tree: &Tree, name: &[u8], host: &mut H) -> Result<Path, Stop>
+pub fn entered<H: Host>(alloc: Global, tree: &Tree, name: &[u8], host: &mut H) -> Result<Path, Stop>
     ensures told { Follows (projects.entered tree.now name.now) result
         (H.told host.old) (H.told host.new) }
     ensures faults { H.faults host.new ≡ faults_after result (H.faults host.old) }
@@ -76,18 +77,24 @@ fn entered<H: Host>(alloc: Global, tree: &Tree, name: &[u8], host: &mut H) -> Re
     }
 }
 
-/// What the makefiles say.
-fn book_of<H: Host>(alloc: Global, order: &Order, start: &State, host: &mut H) -> Result<Book, Stop>
+/// What the makefiles say, and which of them are there: a file that an `include` names and that
+/// isn't there is noted.
+pub fn round_of<H: Host>(
+    alloc: Global,
+    order: &Order,
+    start: &State,
+    host: &mut H,
+) -> Result<Round, Stop>
     requires { read_fault root_text order.now.dir ≡ None }
-    ensures told { Follows (projects.book_of order.now start.now) result
+    ensures told { Follows (projects.round_of order.now start.now) result
         (H.told host.old) (H.told host.new) }
     ensures faults { H.faults host.new ≡ faults_after result (H.faults host.old) }
 {
     let mut said = Text::new(alloc);
-    match read_makefiles(alloc, start, order, &mut said) {
-        Ok(book) => {
+    match read_round(alloc, start, order, &mut said) {
+        Ok(round) => {
             say(host, said.bytes())?;
-            Ok(book)
+            Ok(round)
         }
         Err(no) => match no {
             ReadNo::NoMemory => Err(Stop::NoMemory),
@@ -136,19 +143,26 @@ fn planned<H: Host>(
 /// All of it put together.
 fn assembled(alloc: Global, site: Site, book: &Book, plan: Plan) -> Result<Project, NoMemory>
     requires site { IsSite site }
+    requires room { HasRoom site.start.tree }
     requires dir { read_fault root_text site.order.dir ≡ None }
     requires few { length plan.jobs ≤ 65536 }
     requires planned { ArePlanned plan.jobs }
     ensures project { IfOk result (λ p. p ≡ projects.assembled site book.now plan) }
     ensures ready { IfOk result IsReady }
 {
-    let Site { order, start, old } = site;
+    let Site {
+        order,
+        start,
+        old,
+        earlier,
+    } = site;
     let specs = specs(alloc, &plan, book, &order, start.tree.base())?;
     let waits = waits_with(alloc, &old, plan.jobs.items())?;
     Ok(Project {
         terms: Terms {
             order,
             old,
+            earlier,
             plan,
             waits,
         },
@@ -157,16 +171,24 @@ fn assembled(alloc: Global, site: Site, book: &Book, plan: Plan) -> Result<Proje
     })
 }
 
-/// What there is to build at the site. Linear in what is read of makefiles, but for what
-/// `read_makefiles`, `plan`, `specs` and `waits_with` take.
-pub fn project_of<H: Host>(alloc: Global, site: Site, host: &mut H) -> Result<Project, Stop>
-    requires { IsSite site }
-    ensures told { Follows (projects.project site) result (H.told host.old) (H.told host.new) }
+/// What there is to build at the site, in this working directory, by what the makefiles say. It
+/// takes what `plan`, `specs` and `waits_with` take.
+pub fn project_at<H: Host>(
+    alloc: Global,
+    site: Site,
+    book: &Book,
+    cwd: &Path,
+    host: &mut H,
+) -> Result<Project, Stop>
+    requires site { IsSite site }
+    requires room { HasRoom site.start.tree }
+    requires dir { read_fault root_text site.order.dir ≡ None }
+    ensures told { Follows (projects.project_at site book.now cwd.now) result
+        (H.told host.old) (H.told host.new) }
     ensures faults { H.faults host.new ≡ faults_after result (H.faults host.old) }
     ensures ready { IfOk result IsReady }
+    ensures earlier { IfOk result (λ p. p.terms.earlier ≡ site.earlier) }
 {
-    let cwd = entered(alloc, &site.start.tree, site.order.dir.bytes(), host)?;
-    let book = book_of(alloc, &site.order, &site.start, host)?;
-    let plan = planned(alloc, &book, &site.order, &site.start.tree, &cwd, host)?;
-    Ok(assembled(alloc, site, &book, plan)?)
+    let plan = planned(alloc, book, &site.order, &site.start.tree, cwd, host)?;
+    Ok(assembled(alloc, site, book, plan)?)
 }

@@ -1,7 +1,6 @@
 //! Where a build takes place: the order, the tree from which it starts, and the history.
-ghost use Rattle.std.specs.Prelude.{◌≡◌, ◌≤◌, ◌^◌, IfOk};
+ghost use Rattle.std.specs.Prelude.{◌≡◌, [], IfOk};
 ghost use Rattle.em_cmdline.specs.Words.{HasRanges};
-ghost use Rattle.em_tree.specs.Trees.{base_of};
 ghost use Rattle.em_program.specs.Course.{Follows, faults_after};
 ghost use Rattle.em_program.specs.Projects as projects;
 
@@ -11,8 +10,9 @@ use crate::say::{stop, take};
 use crate::stop::Stop;
 use crate::verdict::Verdict;
 use crate::words::ordered;
-use em_base::{NoMemory, Text};
+use em_base::{NoMemory, Seq, Text};
 use em_cmdline::{HistoryMode, Order};
+use em_engine::Note;
 use em_gen::project;
 use em_history::History;
 use em_host::Host;
@@ -20,14 +20,24 @@ use em_image::{ImageNo, read_text};
 use em_tree::{Outcomes, State, Tree};
 use std::alloc::Global;
 
+/// What the builds before have done.
+#[derive(Drop)]
+pub struct Earlier {
+    /// One for each of their jobs, in order.
+    pub notes: Seq<Note>,
+    /// How these jobs ended, in order.
+    pub outcomes: Outcomes,
+}
+
 /// Where a build takes place.
 #[derive(Drop)]
 pub struct Site {
     pub order: Order,
     /// The tree from which it starts, with no outcomes.
     pub start: State,
-    /// What the history's file tells.
+    /// What the history's file tells, and what the builds before have shown.
     pub old: History,
+    pub earlier: Earlier,
 }
 
 /// The image's bytes.
@@ -45,7 +55,6 @@ fn image_in<H: Host>(alloc: Global, name: &[u8], host: &mut H) -> Result<Text, S
 fn tree_of<H: Host>(alloc: Global, bytes: Text, host: &mut H) -> Result<Tree, Stop>
     ensures told { Follows (projects.tree_of bytes) result (H.told host.old) (H.told host.new) }
     ensures faults { H.faults host.new ≡ faults_after result (H.faults host.old) }
-    ensures base { IfOk result (λ tree. base_of tree ≤ 2 ^ 62) }
 {
     match read_text(alloc, bytes) {
         Ok(tree) => Ok(tree),
@@ -65,7 +74,6 @@ fn tree_in<H: Host>(alloc: Global, order: &Order, host: &mut H) -> Result<Tree, 
     ensures told { Follows (projects.tree_in order.now.generate order.now.image) result
         (H.told host.old) (H.told host.new) }
     ensures faults { H.faults host.new ≡ faults_after result (H.faults host.old) }
-    ensures base { IfOk result (λ tree. base_of tree ≤ 2 ^ 62) }
 {
     match order.generate {
         Some(n) => Ok(project(alloc, n)?),
@@ -116,21 +124,35 @@ fn recalled<H: Host>(alloc: Global, order: &Order, host: &mut H) -> Result<Histo
     }
 }
 
+/// A state of which no job has ended.
+pub fn fresh(alloc: Global, tree: Tree) -> State
+    ensures { result ≡ projects.start_of tree }
+{
+    State {
+        tree,
+        outcomes: Outcomes::new(alloc),
+    }
+}
+
 /// Where the words order to build; a page and an explanation end the run before. Linear in the
 /// image and in the history.
 pub fn site_of<H: Host>(alloc: Global, words: &[Text], host: &mut H) -> Result<Site, Stop>
     ensures told { Follows (projects.site words.now) result (H.told host.old) (H.told host.new) }
     ensures faults { H.faults host.new ≡ faults_after result (H.faults host.old) }
     ensures is { IfOk result projects.IsSite }
+    ensures new { IfOk result (λ s. s.earlier.notes ≡ []) }
 {
     let order = ordered(alloc, words, host)?;
     explained(alloc, &order, host)?;
     let tree = tree_in(alloc, &order, host)?;
     let old = recalled(alloc, &order, host)?;
-    let outcomes = Outcomes::new(alloc);
     Ok(Site {
         order,
-        start: State { tree, outcomes },
+        start: fresh(alloc, tree),
         old,
+        earlier: Earlier {
+            notes: Seq::new(alloc),
+            outcomes: Outcomes::new(alloc),
+        },
     })
 }

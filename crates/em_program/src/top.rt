@@ -4,6 +4,7 @@ ghost use Rattle.em_host.specs.Outside.{Files, Tells};
 ghost use Rattle.em_host.specs.Faults.{next_count};
 ghost use Rattle.em_tree.specs.declared.state.State.{State};
 ghost use Rattle.em_history.specs.Histories.{Pair, IsHistory, united};
+ghost use Rattle.em_cmdline.specs.declared.order.Order.{Order};
 ghost use Rattle.em_learning.specs.Learnt as shown;
 ghost use Rattle.em_plan.specs.declared.planned.PlanJob.{PlanJob};
 ghost use Rattle.em_engine.specs.declared.note.Note.{Note};
@@ -15,8 +16,11 @@ ghost use Rattle.em_job.specs.Effects.{Makes};
 ghost use Rattle.em_program.specs.Course.{faults_after};
 ghost use Rattle.em_program.specs.Endings.{verdict_in, notes_in};
 ghost use Rattle.em_program.specs.Headline.{Headline, Exits, Reaches, exit_status};
-ghost use Rattle.em_program.specs.Projects.{IsUntouched};
+ghost use Rattle.em_program.specs.Alike.{AreProjects, AreSites, IsSame};
+ghost use Rattle.em_program.specs.Rounds.{first, following, moved};
 ghost use Rattle.em_program.specs.Serial.{ends};
+ghost use Rattle.em_program.specs.declared.project.Project.{Project};
+ghost use Rattle.em_program.specs.declared.rounds.Remaking.{Remaking};
 ghost use Rattle.em_program.specs.declared.site.Site.{Site};
 ghost use Rattle.em_program.specs.Words.{words_of};
 
@@ -44,8 +48,8 @@ pub struct Ended {
     /// 0: nothing went wrong. 1: `-q` was given, and something is to be made. 2: a fault. 3: the
     /// host failed. 4: a construct was refused. 5: fuel was spent. 7: memory ran out.
     pub status: u8,
-    /// One for each job of the serial run, in order: in how many runs it came to be committed, and
-    /// why in two. None where there is no build, and at 3 and 7.
+    /// One for each job of the serial runs of all builds, in order: in how many runs it came to be
+    /// committed, and why in two. None where something was refused, and at 3 and 7.
     pub notes: Seq<Note>,
 }
 
@@ -89,14 +93,16 @@ fn notes_in(alloc: Global, answer: Result<Finished, Stop>) -> Seq<Note>
 
 /// Does all that the program does, in this order: reads the words, the image, the history and the
 /// makefiles, plans, runs the jobs, says the closing text and replaces the image, the history and
-/// the report. A generated project is built beside the host: only a summary is said, and nothing is
-/// replaced. `--explain` says what a report tells, `--help` and `--version` print a page, and
-/// nothing else is done.
+/// the report. Makefiles that rules make are made first, as goals of a build of their own: where one
+/// changed, the makefiles are read anew, at most eight times. A generated project is built beside
+/// the host: only a summary is said, and nothing is replaced. `--explain` says what a report tells,
+/// `--help` and `--version` print a page, and nothing else is done.
 ///
 /// Over a host that tells its files and what was printed, and with a status other than 3 and 7, the
-/// printed bytes grew by exactly what the serial run says, the image is the serial run's, and so is
-/// the status, for every number of workers that the words order, and whatever the history tells
-/// (`law_history`). The history and the report tell the notes. At 3 and 7 a front of this was done.
+/// printed bytes grew by exactly what the serial runs of the builds say, the image is that of the
+/// last one, and so is the status, for every number of workers that the words order, and whatever
+/// the history tells (`law_history`). The history tells the notes of all builds, the report those of
+/// the last one. At 3 and 7 a front of this was done.
 /// No other file is touched. Status 3 comes only where a call on the host failed, and where one
 /// failed the status is 3 or 7 and nothing more is called.
 ///
@@ -105,8 +111,9 @@ fn notes_in(alloc: Global, answer: Result<Finished, Stop>) -> Seq<Note>
 /// want of memory. With one worker each note has one run. With more the call may wait.
 ///
 /// Besides the jobs themselves it takes time linear in the image, in the history, in what is read
-/// of makefiles and in the plan, with searches by name or path for each name and each change, and a
-/// sort of the pairs that were learnt; with more than one worker also what a board takes of them.
+/// of makefiles and in the plans, with searches by name or path for each name and each change, and a
+/// sort of the pairs that were learnt; with more than one worker also what a board takes of them. A
+/// round that makes makefiles copies the tree, whose files share their bytes.
 pub fn emake<R: Threads + Wait + Sync, H: Host>(
     rt: &R,
     alloc: Global,
@@ -149,9 +156,15 @@ pub fn law_alone()
 }
 
 /// A history changes nothing of what there is to build but what jobs wait for: not what is said on
-/// the way, the order, the plan, the jobs or the tree from which they start.
+/// the way, the order, the plan, the jobs or the tree from which they start. So it is of the first
+/// build, and of each behind one whose jobs have made the same.
 pub fn law_history()
-    ensures { (s : Site) (old : List Pair) (files : Files) → IsUntouched s old files }
+    ensures first { (s t : Site) (files : Files) → AreSites s t → IsSame (first s) (first t) files }
+    ensures following { (m : Remaking) (s t : Site) (files : Files) → AreSites s t
+        → IsSame (following m s) (following m t) files }
+    ensures moved { (order : Order) (p q : Project) (s : State) (notes others : List Note)
+        → AreProjects p q
+        → AreSites (moved order p.terms s notes) (moved order q.terms s others) }
 {}
 
 /// The program, from the words that the system gives to the exit status.

@@ -5,6 +5,8 @@
 --     IsQuiet Agree A m      no file is replaced, what is printed and the end are the same on files that agree, and no status of its own is 1
 --     Gives m text a         it ends with this value and prints this text, on whatever files
 --     Keeps name m           it leaves the file of this name
+--     Every P m              each value with which it ends is so
+--     end_behind, left_behind      what follows behind a part that leaves the files
 use Rattle.std.proofs.Common.{◌≡◌, ◌≢◌, ℕ, suc, Bool, true, false, cond, ◌==◌, List, [], ◌∷◌, ◌++◌, length, Option, Some, Result, Ok, Err, refl, sym, ap, subst, ◌∙◌, append-nil, arith}
 use Rattle.std.specs.Ordering.{eq_by_cmp}
 use Rattle.std.specs.FinMap.{get, insert}
@@ -71,6 +73,14 @@ module _ {A B : Type 0} (m : Course A) (k : A → Course B) (f : Files) where
 pub left_done : {A B : Type 0} (m : Course A) (h : A → B) (f : Files) → left (m >>= (λ a. done (h a))) f ≡ left m f
 unfolding done
 left_done m h f = in_case (m f).end _ (λ a e. left_then m (λ a. done (h a)) f a e) (λ v e. left_stop m (λ a. done (h a)) f v e)
+
+-- behind a part that leaves the files as they are
+module _ {A B : Type 0} (m : Course A) (k : A → Course B) (f : Files) (a : A) (ends : (m f).end ≡ Ok a) (still : left m f ≡ f) where
+  pub end_behind : ((m >>= k) f).end ≡ (k a f).end
+  end_behind = ap (λ (t : Trace B). t.end) (trace_then m k f a ends) ∙ ap (λ (g : Files). (k a g).end) still
+
+  pub left_behind : left (m >>= k) f ≡ left (k a) f
+  left_behind = left_then m k f a ends ∙ ap (λ (g : Files). left (k a) g) still
 
 -- ---- what is said
 
@@ -164,6 +174,32 @@ module _ (Agree : Files → Files → Type 0) where
 
   pub quiet_stop : (A : Type 0) (text : List ℕ) (v : Verdict) → code_of v ≢ 1 → IsQuiet A (stop text v)
   quiet_stop A text v not_so = quiet_then (say text) (λ u. quit v) (quiet_say text) (λ u. quiet_quit A v not_so)
+
+  pub quiet_if : {A : Type 0} (b : Bool) (m n : Course A) → IsQuiet A m → IsQuiet A n → IsQuiet A (cond b m n)
+  quiet_if true m n p q = p
+  quiet_if false m n p q = q
+
+-- ---- what is so of each value
+
+abbrev pub Every : {A : Type 0} → (A → Type 0) → Course A → Type 0
+Every {A} P m = (f : Files) (a : A) → (m f).end ≡ Ok a → P a
+
+pub every_after : {A B : Type 0} (Q : A → Type 0) (P : B → Type 0) (m : Course A) (k : A → Course B) → Every Q m → ((a : A) → Q a → Every P (k a)) → Every P (m >>= k)
+every_after Q P m k first each f b e = ok_then m k f b (P b) e (λ a i j. each a (first f a i) (left m f) b j)
+
+pub every_then : {A B : Type 0} (P : B → Type 0) (m : Course A) (k : A → Course B) → ((a : A) → Every P (k a)) → Every P (m >>= k)
+every_then P m k each f b e = ok_then m k f b (P b) e (λ a i j. each a (left m f) b j)
+
+pub every_done : {A : Type 0} (P : A → Type 0) (a : A) → P a → Every P (done a)
+unfolding done
+every_done P a is f b e = subst P (ok_same e) is
+
+pub every_stop : {A : Type 0} (P : A → Type 0) (text : List ℕ) (v : Verdict) → Every P (stop {A = A} text v)
+every_stop {A} P text v f a e = absurd (ok_err (sym e ∙ stop_end A text v f))
+
+pub every_if : {A : Type 0} (P : A → Type 0) (b : Bool) (m n : Course A) → Every P m → Every P n → Every P (cond b m n)
+every_if P true m n p q = p
+every_if P false m n p q = q
 
 -- ---- a value and a text, on whatever files
 

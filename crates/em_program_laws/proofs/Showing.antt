@@ -1,9 +1,12 @@
--- What of the host's files shows in a run: the image, or the report to explain, and no other.
+-- What of the host's files shows in a run: the image, or the report to explain, and no other; and of
+-- its builds what their jobs made, and not their notes.
 --     Twin R x y         two traces print the same, and end with values that R relates, or with the same verdict
---     twin_site, twin_project      the site and the project, but for the history's pairs
---     twin_ended         the ending
---     same_image         the image behind it
-use Rattle.std.proofs.Common.{◌≡◌, ◌≢◌, ℕ, true, false, cond, List, [], ◌++◌, length, Option, Some, None, Result, Ok, Err, refl, sym, ap, subst, ◌∙◌}
+--     twin_site          the site, but for the history's pairs
+--     twin_ways          the ways to a step, but for those and for notes
+--     Shows R m n f g    two courses are twins on their files, and leave the same image
+--     shows_run          the builds of a run
+--     shown              the ending
+use Rattle.std.proofs.Common.{◌≡◌, ◌≢◌, ℕ, Bool, true, false, cond, List, [], ◌∷◌, ◌++◌, length, Option, Some, None, Result, Ok, Err, refl, sym, ap, subst, ◌∙◌}
 use Rattle.std.specs.Prelude.{IfSome}
 use Rattle.std.specs.FinMap.{get, insert, empty}
 use Rattle.em_base.proofs.Lemmas.{by_cases}
@@ -12,29 +15,31 @@ use Rattle.em_host.specs.Outside.{Files}
 use Rattle.em_host.specs.Calls.{printed_by}
 use Rattle.em_host.proofs.Telling.{printed_by-append}
 use Rattle.em_history.specs.Histories.{Pair}
-use Rattle.em_image.specs.declared.no.ImageNo.{ImageNo}
 use Rattle.em_cmdline.specs.declared.order.HistoryMode.{HistoryMode}
 use Rattle.em_cmdline.specs.declared.order.HistoryMode.TheVariants as mode
 use Rattle.em_cmdline.specs.declared.order.Order.{Order}
 use Rattle.em_cmdline.specs.Words.{order_of, refusal}
-use Rattle.em_learning.specs.Waits.{waits_with}
-use Rattle.em_run.specs.Serial.{Made, state_after}
+use Rattle.em_run.specs.Serial.{outputs_of}
 use Rattle.em_engine.specs.declared.note.Note.{Note}
-use Rattle.em_program.specs.declared.project.Project.{Project}
+use Rattle.em_program.specs.declared.rounds.Remaking.{Remaking}
+use Rattle.em_program.specs.declared.rounds.Step.{Step}
 use Rattle.em_program.specs.declared.site.Site.{Site}
 use Rattle.em_program.specs.declared.verdict.Verdict.{Verdict}
-use Rattle.em_program.specs.Closing.{closing, code_of, status_of}
-use Rattle.em_program.specs.Course.{Trace, Course, behind, ◌>>=◌, done, quit, say, take, stop}
+use Rattle.em_program.specs.Alike.{AreSites, AreSteps, EndAlike, IsSame}
+use Rattle.em_program.specs.Closing.{code_of}
+use Rattle.em_program.specs.Course.{Trace, Course, behind, ◌>>=◌, done, quit, say, say_all, take, stop}
 use Rattle.em_program.specs.Explaining.{explained}
 use Rattle.em_program.specs.Messages.{summary}
-use Rattle.em_program.specs.Projects.{tree_in, pairs_of, recalled, entered, book_of, planned, assembled, site, project, project_in}
+use Rattle.em_program.specs.Projects.{tree_in, pairs_of, recalled, site}
+use Rattle.em_program.specs.Rounds.{Build, is_early, left_by, first, moved, following, goes_by, goes_on}
 use Rattle.em_program.specs.Words.{ordered}
-use Rattle.em_program.specs.Endings.{written, replaced, finish, broken_off, fuel_of, is_early, is_whole, building, Tally, tally_of, working, summed, counted_as, counted, answered, ended_at, ended}
-use Rattle.em_program_laws.specs.Laws.{files_left, AreSeenAlike, IsSameEnd}
-use Rattle.em_program_laws.proofs.Courses.{ok_same, ok_err, err_same, in_case, left, trace_then, trace_stop, IsQuiet, Gives, gives_done, gives_then, get_other}
-use Rattle.em_program_laws.proofs.Parts.{site_quiet, project_quiet, quiet_ordered, quiet_explained, quiet_tree, quiet_entered, quiet_book, quiet_planned, ordered_is, IsOf, found}
-use Rattle.em_program_laws.proofs.Leaving.{left_none, left_generated, left_built, replacing, after_left, text_for, verdict_for, building_gives}
-use Rattle.em_program_laws.proofs.Replacing.{puts, stays, names_of, apart}
+use Rattle.em_program.specs.Endings.{written, broken_off, is_whole, is_asked, last_of, next_or_last, after_jobs, run_from, Tally, working, summed, counted_as, counted, answered, ended_at, ended}
+use Rattle.em_program.proofs.Untouched.{firsts, followings, moves}
+use Rattle.em_program_laws.specs.Laws.{AreSeenAlike, AreMadeAlike, IsSameEnd}
+use Rattle.em_program_laws.proofs.Courses.{ok_same, ok_err, err_same, in_case, left, trace_then, trace_stop, left_behind, left_stop, left_done, all_still, IsQuiet, Gives, get_other}
+use Rattle.em_program_laws.proofs.Parts.{site_quiet, quiet_ordered, quiet_explained, quiet_tree, quiet_first, quiet_following, ordered_is, Any, IsOf, IsSet, site_is, IsOn, first_on, following_on}
+use Rattle.em_program_laws.proofs.Leaving.{counted_left, text_for, tally_for, last_gives}
+use Rattle.em_program_laws.proofs.Replacing.{names_of, apart, image_closed, last_leaves}
 
 -- ---- two traces
 
@@ -138,13 +143,6 @@ twin_recalled m name f g =
           (subst (λ (y : Result (List Pair) Verdict). Both (λ (a b : List Pair). Unit {0}) (Ok p.old) y) (sym q.end) tt);
     }
 
--- one site but for the history's pairs, and one project but for them and for what jobs wait for
-abbrev pub AreSites : Site → Site → Type 0
-AreSites s t = (old : List Pair) × (t ≡ record s { old = old })
-
-abbrev pub AreProjects : Project → Project → Type 0
-AreProjects p q = (old : List Pair) × (waits : List (List ℕ)) × (q ≡ record p { terms = record p.terms { old = old; waits = waits } })
-
 seen_as : (a b : Option (List ℕ)) (f g : Files) → a ≡ b → IfSome b (λ name. get f name ≡ get g name) → IfSome a (λ name. get f name ≡ get g name)
 seen_as a b f g e h = subst (λ (o : Option (List ℕ)). IfSome o (λ name. get f name ≡ get g name)) (sym e) h
 
@@ -155,152 +153,249 @@ named I (Some n) h = h
 pub twin_site : (words : List (List ℕ)) (f g : Files) → AreSeenAlike (order_of words) f g → Twin AreSites (site words f) (site words g)
 twin_site words f g seen =
     twin_quiet AreSites (AreSeenAlike (order_of words)) (ordered words) _ _ f g (quiet_ordered (AreSeenAlike (order_of words)) words) seen (λ o e.
-    let is = ordered_is words f o e in
+    let is = (ordered_is words f o e).order in
     twin_quiet AreSites (AreSeenAlike o) (explained o) _ _ f g (quiet_explained (AreSeenAlike o) o.explain o.agents (named (AreSeenAlike o) o.explain (λ x y h. h.explain))) (of_order o is) (λ u _.
     twin_quiet AreSites (AreSeenAlike o) (tree_in o.generate o.image) _ _ f g (quiet_tree (AreSeenAlike o) o.generate o.image (named (AreSeenAlike o) o.image (λ x y h. h.image))) (of_order o is) (λ tree _.
     twin_then (λ (a b : List Pair). Unit {0}) AreSites (recalled o.mode o.history) _ (recalled o.mode o.history) _ f g (is_recalled o.mode o.history f).still (is_recalled o.mode o.history g).still (twin_recalled o.mode o.history f g) (λ a b _ _.
-    twin_done AreSites _ _ f g (b, refl)))))
+    twin_done AreSites _ _ f g (record { order = refl; start = refl; outcomes = refl })))))
   where
     of_order : (o : Order) → IsOf words o → AreSeenAlike o f g
     of_order o is = record { image = seen_as o.image (order_of words).image f g is.image seen.image; explain = seen_as o.explain (order_of words).explain f g is.explain seen.explain }
 
--- ---- the project
+-- ---- the steps
 
-abbrev Any : Files → Files → Type 0
-Any f g = Unit {0}
+to_both : (x y : Result Step Verdict) → EndAlike x y → Both AreSteps x y
+to_both (Ok u) (Ok v) e = e
+to_both (Ok u) (Err w) e = absurd e
+to_both (Err v) (Ok w) e = absurd e
+to_both (Err v) (Err w) e = e
 
-pub twin_project : (s : Site) (old : List Pair) (f g : Files) → Twin AreProjects (project s f) (project (record s { old = old }) g)
-twin_project s old f g =
-    twin_quiet AreProjects Any (entered s.start.tree s.order.dir) _ _ f g (quiet_entered Any s.start.tree s.order.dir) tt (λ cwd _.
-    twin_quiet AreProjects Any (book_of s.order s.start) _ _ f g (quiet_book Any s.order s.start) tt (λ book _.
-    twin_quiet AreProjects Any (planned book s.order s.start.tree cwd) _ _ f g (quiet_planned Any book s.order s.start.tree cwd) tt (λ plan _.
-    twin_done AreProjects (assembled s book plan) (assembled (record s { old = old }) book plan) f g (old, waits_with old plan.jobs, refl))))
+-- ways to a step that are the same on the same files are twins on any
+twin_ways : (c d : Course Step) (f g : Files) → IsSame c d f → IsQuiet Any Step d → Twin AreSteps (c f) (d g)
+twin_ways c d f g is quiet = record {
+  printed = ap printed_by is.calls ∙ quiet.printed f g tt;
+  end = subst (λ (y : Result Step Verdict). Both AreSteps (c f).end y) (quiet.same f g tt) (to_both (c f).end (d f).end is.end);
+}
 
-pub twin_found : (words : List (List ℕ)) (f g : Files) → AreSeenAlike (order_of words) f g → Twin AreProjects ((site words >>= project) f) ((site words >>= project) g)
-twin_found words f g seen = twin_then AreSites AreProjects (site words) project (site words) project f g ((site_quiet words).still f) ((site_quiet words).still g) (twin_site words f g seen)
-    (λ s t _ same. subst (λ (u : Site). Twin AreProjects (project s f) (project u g)) (sym same.1) (twin_project s same.0 f g))
+-- a step that is alike is this one with other pairs, notes and waits
+abbrev other_step : Step → List Pair → List Note → List (List ℕ) → Step
+other_step u old notes waits = record {
+  project = record {
+    terms = record { order = u.project.terms.order; old = old; earlier = record { notes = notes; outcomes = u.project.terms.earlier.outcomes }; plan = u.project.terms.plan; waits = waits };
+    start = u.project.start;
+    specs = u.project.specs;
+  };
+  remaking = u.remaking;
+}
+
+is_other_step : (u v : Step) → AreSteps u v → other_step u v.project.terms.old v.project.terms.earlier.notes v.project.terms.waits ≡ v
+is_other_step u v same = λ i. record {
+  project = record {
+    terms = record {
+      order = same.project.order i;
+      old = v.project.terms.old;
+      earlier = record { notes = v.project.terms.earlier.notes; outcomes = same.project.outcomes i };
+      plan = same.project.plan i;
+      waits = v.project.terms.waits;
+    };
+    start = same.project.start i;
+    specs = same.project.specs i;
+  };
+  remaking = same.remaking i;
+}
+
+abbrev other_build : Build → List Note → Build
+other_build b notes = record { made = b.made; notes = notes }
+
+is_other_build : (b c : Build) → b.made ≡ c.made → other_build b c.notes ≡ c
+is_other_build b c same = λ i. record { made = same i; notes = c.notes }
+
+heads : {A : Type 0} {a b : A} {xs ys : List A} → a ∷ xs ≡ b ∷ ys → a ≡ b
+heads e = cc
+
+tails : {A : Type 0} {a b : A} {xs ys : List A} → a ∷ xs ≡ b ∷ ys → xs ≡ ys
+tails e = cc
+
+first_made : (b c : Build) (bs cs : List Build) → AreMadeAlike (b ∷ bs) (c ∷ cs) → b.made ≡ c.made
+first_made b c bs cs e = heads e
+
+rest_made : (b c : Build) (bs cs : List Build) → AreMadeAlike (b ∷ bs) (c ∷ cs) → AreMadeAlike bs cs
+rest_made b c bs cs e = tails e
+
+-- ---- the summary
+
+twin_counted : (c d : List Call) (end : Result Tally Verdict) (f g : Files) → printed_by c ≡ printed_by d → Twin Alike (counted_as c end f) (counted_as d end g)
+unfolding ◌>>=◌ say quit done
+twin_counted c d (Ok t) f g same = by_cases t.whole (λ b. Twin Alike (cond b (summed c t) (done t.verdict) f) (cond b (summed d t) (done t.verdict) g))
+    (λ _. subst (λ (text : List ℕ). Twin Alike (summed c t f) ((say (summary t.jobs (length text) t.nodes (code_of t.verdict)) >>= (λ u. done t.verdict)) g)) same (record { printed = refl; end = refl }))
+    (λ _. record { printed = refl; end = refl })
+twin_counted c d (Err v) f g same = subst (λ (text : List ℕ). Twin Alike (stop {A = Verdict} (printed_by c) v f) (stop {A = Verdict} text v g)) same (record { printed = refl; end = refl })
+
+twin_sum : (x y : Trace Tally) (f g : Files) → Twin Alike x y → Twin Alike (counted x f) (counted y g)
+twin_sum x y f g p = subst (λ (e : Result Tally Verdict). Twin Alike (counted_as x.calls x.end f) (counted_as y.calls e g)) (both_is x.end y.end p.end) (twin_counted x.calls y.calls x.end f g p.printed)
+
+-- ---- two courses that show the same
+
+module _ (words : List (List ℕ)) where
+  -- the image's file is the same
+  abbrev Agrees : Files → Files → Type 0
+  Agrees f g = IfSome (order_of words).image (λ name. get f name ≡ get g name)
+
+  agrees_as : (x y f g : Files) → x ≡ f → y ≡ g → Agrees f g → Agrees x y
+  agrees_as x y f g e i same = subst (λ (u : Files). Agrees u y) (sym e) (subst (λ (u : Files). Agrees f u) (sym i) same)
+
+  agrees_with : (o : Option (List ℕ)) (f : Files) → IfSome o (λ name. get f name ≡ get f name)
+  agrees_with None f = tt
+  agrees_with (Some name) f = refl
+
+  record Shows {A B : Type 0} (R : A → B → Type 0) (m : Course A) (n : Course B) (f g : Files) : Type 0 where
+    twin : Twin R (m f) (n g)
+    files : Agrees (left m f) (left n g)
+
+  module _ {A B C D : Type 0} (R : A → C → Type 0) (S : B → D → Type 0) (m : Course A) (k : A → Course B) (n : Course C) (l : C → Course D) (f g : Files) (still : left m f ≡ f) (quiet : left n g ≡ g)
+      (twin : Twin R (m f) (n g)) (same : Agrees f g) (more : (a : A) (b : C) → (m f).end ≡ Ok a → R a b → Shows S (k a) (l b) f g) where
+    both_end : (x : Result A Verdict) (y : Result C Verdict) → (m f).end ≡ x → (n g).end ≡ y → Both R x y
+    both_end x y e i = subst (λ (u : Result C Verdict). Both R x u) i (subst (λ (u : Result A Verdict). Both R u (n g).end) e twin.end)
+
+    files_then : Agrees (left (m >>= k) f) (left (n >>= l) g)
+    files_then = in_case (m f).end (Agrees (left (m >>= k) f) (left (n >>= l) g))
+        (λ a e. in_case (n g).end (Agrees (left (m >>= k) f) (left (n >>= l) g))
+        (λ b i. agrees_as _ _ (left (k a) f) (left (l b) g) (left_behind m k f a e still) (left_behind n l g b i quiet) (more a b e (both_end (Ok a) (Ok b) e i)).files)
+        (λ w i. absurd (both_end (Ok a) (Err w) e i)))
+        (λ v e. in_case (n g).end (Agrees (left (m >>= k) f) (left (n >>= l) g))
+        (λ b i. absurd (both_end (Err v) (Ok b) e i))
+        (λ w i. agrees_as _ _ f g (left_stop m k f v e ∙ still) (left_stop n l g w i ∙ quiet) same))
+
+    shows_then : Shows S (m >>= k) (n >>= l) f g
+    shows_then = record { twin = twin_then R S m k n l f g still quiet twin (λ a b e r. (more a b e r).twin); files = files_then }
+
+  module _ (f g : Files) (seen : Agrees f g) where
+    shows_broken : Shows Alike broken_off broken_off f g
+    unfolding done
+    shows_broken = record { twin = record { printed = refl; end = refl }; files = seen }
+
+    -- ---- a build, and what follows it
+
+    module _ (u : Step) (b : Build) (old : List Pair) (earlier : List Note) (waits : List (List ℕ)) (notes : List Note) (on : IsOn words u) where
+      abbrev v : Step
+      v = other_step u old earlier waits
+
+      abbrev c : Build
+      c = other_build b notes
+
+      alike_steps : AreSteps u v
+      alike_steps = record { project = record { order = refl; outcomes = refl; plan = refl; start = refl; specs = refl }; remaking = refl }
+
+      on_other : IsOn words v
+      on_other = record { from = on.from; asked = on.asked; set = on.set }
+
+      last_files : (o : Option (List ℕ)) → (order_of words).image ≡ o → IfSome o (λ name. get f name ≡ get g name) → IfSome o (λ name. get (left (last_of u b) f) name ≡ get (left (last_of v c) g) name)
+      last_files None e h = tt
+      last_files (Some name) e h =
+          last_leaves words name e u b f on
+          ∙ ap (λ (o : Option (List ℕ)). cond (is_asked u) o (image_closed (written (left_by u.project b)) o)) h
+          ∙ sym (last_leaves words name e v c g on_other)
+
+      shows_last : Shows Alike (last_of u b) (last_of v c) f g
+      shows_last = record {
+        twin = twin_gives (last_of u b) (last_of v c) (text_for u b) (tally_for u b) f g (last_gives u b) (last_gives v c);
+        files = last_files (order_of words).image refl seen;
+      }
+
+      module _ (later past : Step → Course Tally) (more : (n w : Step) → AreSteps n w → IsOn words n → Shows Alike (later n) (past w) f g) where
+        module _ (m : Remaking) (some : u.remaking ≡ Some m) where
+          abbrev here : Site
+          here = moved m.order u.project.terms (left_by u.project b) b.notes
+
+          abbrev there : Site
+          there = moved m.order v.project.terms (left_by u.project b) notes
+
+          set : IsSet words m.order
+          set = subst (λ (o : Option Remaking). IfSome o (λ m. IsSet words m.order)) some on.set
+
+          shows_way : Shows Alike (following m here >>= later) (following m there >>= past) f g
+          shows_way =
+              let quiet = quiet_following Any m there in
+              shows_then AreSteps Alike (following m here) later (following m there) past f g ((quiet_following Any m here).still f) (quiet.still g)
+              (twin_ways (following m here) (following m there) f g (followings m here there f (moves m.order u.project v.project (left_by u.project b) b.notes notes alike_steps.project)) quiet) seen
+              (λ n w e same. more n w same (following_on words m here set f n e))
+
+          by_early : (early : Bool) → Shows Alike (next_or_last later u b (cond early None (Some (following m here)))) (next_or_last past v c (cond early None (Some (following m there)))) f g
+          by_early true = shows_last
+          by_early false = shows_way
+
+        by_remaking : (o : Option Remaking) → u.remaking ≡ o → Shows Alike (next_or_last later u b (goes_by o u.project b)) (next_or_last past v c (goes_by o v.project c)) f g
+        by_remaking None e = shows_last
+        by_remaking (Some m) e = by_early m e (is_early u.project b)
+
+        shows_jobs : Shows Alike (after_jobs later u b) (after_jobs past v c) f g
+        shows_jobs = by_cases (is_whole u.project b) (λ w. Shows Alike (cond w (next_or_last later u b (goes_on u b)) broken_off) (cond w (next_or_last past v c (goes_on v c)) broken_off) f g)
+            (λ _. by_remaking u.remaking refl)
+            (λ _. shows_broken)
+
+        shows_said : (texts : List (List ℕ)) → Shows Alike (say_all texts >>= (λ x. after_jobs later u b)) (say_all texts >>= (λ x. after_jobs past v c)) f g
+        unfolding say_all
+        shows_said texts = shows_then (Alike {A = Unit {0}}) Alike (say_all texts) _ (say_all texts) _ f g (all_still texts f) (all_still texts g) (record { printed = refl; end = refl }) seen (λ x y e same. shows_jobs)
+
+    shows_build : (b c : Build) (bs cs : List Build) (u v : Step) → b.made ≡ c.made → AreSteps u v → IsOn words u
+        → ((n w : Step) → AreSteps n w → IsOn words n → Shows Alike (run_from bs n) (run_from cs w) f g)
+        → Shows Alike (run_from (b ∷ bs) u) (run_from (c ∷ cs) v) f g
+    unfolding run_from
+    shows_build b c bs cs u v made same on more =
+        subst (λ (w : Step). Shows Alike (run_from (b ∷ bs) u) (run_from (c ∷ cs) w) f g) (is_other_step u v same)
+        (subst (λ (d : Build). Shows Alike (run_from (b ∷ bs) u) (run_from (d ∷ cs) (other_step u v.project.terms.old v.project.terms.earlier.notes v.project.terms.waits)) f g) (is_other_build b c made)
+        (shows_said u b v.project.terms.old v.project.terms.earlier.notes v.project.terms.waits c.notes on (run_from bs) (run_from cs) more (outputs_of b.made)))
+
+    shows_run : (builds others : List Build) → AreMadeAlike builds others → (u v : Step) → AreSteps u v → IsOn words u → Shows Alike (run_from builds u) (run_from others v) f g
+    unfolding run_from
+    shows_run [] [] made u v same on = shows_broken
+    shows_run [] (c ∷ cs) made u v same on = absurd cc
+    shows_run (b ∷ bs) [] made u v same on = absurd cc
+    shows_run (b ∷ bs) (c ∷ cs) made u v same on = shows_build b c bs cs u v (first_made b c bs cs made) same on (λ n w alike is. shows_run bs cs (rest_made b c bs cs made) n w alike is)
 
 -- ---- the ending
 
-module _ (made : List Made) (notes others : List Note) where
-  gives_tally : (some : List Note) (p : Project) → Gives (building p made some >>= (λ v. done (tally_of p made v))) (text_for p made ++ []) (tally_of p made (verdict_for p made))
-  gives_tally some p = gives_then (building p made some) _ (text_for p made) [] (verdict_for p made) _ (building_gives p made some) (gives_done _)
+module _ (words : List (List ℕ)) (builds others : List Build) (made : AreMadeAlike builds others) where
+  module _ (s t : Site) (same : AreSites s t) (set : IsSet words s.order) where
+    shows_work : (f g : Files) → Agrees words f g → Shows words Alike (working builds s) (working others t) f g
+    shows_work f g seen =
+        let quiet = quiet_first Any t in
+        shows_then words AreSteps Alike (first s) (run_from builds) (first t) (run_from others) f g ((quiet_first Any s).still f) (quiet.still g) (twin_ways (first s) (first t) f g (firsts s t f same) quiet) seen
+        (λ u v e alike. shows_run words f g seen builds others made u v alike (first_on words s set f u e))
 
-  twin_working : (s : Site) (old : List Pair) (f g : Files) → Twin Alike (working made notes s f) (working made others (record s { old = old }) g)
-  twin_working s old f g = twin_then AreProjects Alike (project s) _ (project (record s { old = old })) _ f g ((project_quiet s).still f) ((project_quiet (record s { old = old })).still g) (twin_project s old f g) (λ p q _ same.
-      twin_gives _ _ (text_for p made ++ []) (tally_of p made (verdict_for p made)) f g (gives_tally notes p)
-      (subst (λ (r : Project). Gives (building r made others >>= (λ v. done (tally_of r made v))) (text_for p made ++ []) (tally_of p made (verdict_for p made))) (sym same.2)
-      (gives_tally others (record p { terms = record p.terms { old = same.0; waits = same.1 } }))))
+    shows_answered : (n : Option ℕ) (f g : Files) → Agrees words f g → Shows words Alike (answered n (working builds s)) (answered n (working others t)) f g
+    shows_answered None f g seen =
+        let work = shows_work f g seen in
+        record {
+          twin = twin_then_left Alike Alike (working builds s) _ (working others t) _ f g work.twin (λ x y _ alike.
+              subst (λ (z : Tally). Twin Alike (done x.verdict (left (working builds s) f)) (done z.verdict (left (working others t) g))) alike (twin_done Alike x.verdict x.verdict _ _ refl));
+          files = agrees_as words _ _ (left (working builds s) f) (left (working others t) g) (left_done (working builds s) (λ (x : Tally). x.verdict) f) (left_done (working others t) (λ (x : Tally). x.verdict) g) work.files;
+        }
+    shows_answered (Some n) f g seen = record {
+      twin = twin_sum (working builds s empty) (working others t empty) f g (shows_work empty empty (agrees_with words (order_of words).image empty)).twin;
+      files = agrees_as words _ _ f g (counted_left (working builds s empty).calls (working builds s empty).end f) (counted_left (working others t empty).calls (working others t empty).end g) seen;
+    }
 
-  -- the summary
-  twin_counted : (c d : List Call) (end : Result Tally Verdict) (f g : Files) → printed_by c ≡ printed_by d → Twin Alike (counted_as c end f) (counted_as d end g)
-  unfolding ◌>>=◌ say quit done
-  twin_counted c d (Ok t) f g same = by_cases t.whole (λ b. Twin Alike (cond b (summed c t) (done t.verdict) f) (cond b (summed d t) (done t.verdict) g))
-      (λ _. subst (λ (text : List ℕ). Twin Alike (summed c t f) ((say (summary t.jobs (length text) t.nodes (code_of t.verdict)) >>= (λ u. done t.verdict)) g)) same (record { printed = refl; end = refl }))
-      (λ _. record { printed = refl; end = refl })
-  twin_counted c d (Err v) f g same = subst (λ (text : List ℕ). Twin Alike (stop {A = Verdict} (printed_by c) v f) (stop {A = Verdict} text v g)) same (record { printed = refl; end = refl })
+    shows_at : (f g : Files) → Agrees words f g → Shows words Alike (ended_at builds s) (ended_at others t) f g
+    unfolding ended_at
+    shows_at f g seen = subst (λ (n : Option ℕ). Shows words Alike (answered s.order.generate (working builds s)) (answered n (working others t)) f g) (ap (λ (o : Order). o.generate) same.order) (shows_answered s.order.generate f g seen)
 
-  twin_sum : (x y : Trace Tally) (f g : Files) → Twin Alike x y → Twin Alike (counted x f) (counted y g)
-  twin_sum x y f g p = subst (λ (e : Result Tally Verdict). Twin Alike (counted_as x.calls x.end f) (counted_as y.calls e g)) (both_is x.end y.end p.end) (twin_counted x.calls y.calls x.end f g p.printed)
+  shows_ended : (f g : Files) → AreSeenAlike (order_of words) f g → Shows words Alike (ended words builds) (ended words others) f g
+  shows_ended f g seen = shows_then words AreSites Alike (site words) (ended_at builds) (site words) (ended_at others) f g ((site_quiet words).still f) ((site_quiet words).still g) (twin_site words f g seen) seen.image
+      (λ s t e same. shows_at s t same (site_is words f s e) f g seen.image)
 
-  twin_answered : (s : Site) (old : List Pair) (n : Option ℕ) (f g : Files) → Twin Alike (answered n (working made notes s) f) (answered n (working made others (record s { old = old })) g)
-  twin_answered s old None f g = twin_then_left Alike Alike (working made notes s) _ (working made others (record s { old = old })) _ f g (twin_working s old f g) (λ t u _ same.
-      subst (λ (x : Tally). Twin Alike (done t.verdict (left (working made notes s) f)) (done x.verdict (left (working made others (record s { old = old })) g))) same (twin_done Alike t.verdict t.verdict _ _ refl))
-  twin_answered s old (Some n) f g = twin_sum (working made notes s empty) (working made others (record s { old = old }) empty) f g (twin_working s old empty empty)
+  -- ---- the law
 
-  twin_at : (s : Site) (old : List Pair) (f g : Files) → Twin Alike (ended_at made notes s f) (ended_at made others (record s { old = old }) g)
-  unfolding ended_at
-  twin_at s old f g = twin_answered s old s.order.generate f g
-
-  twin_ended : (words : List (List ℕ)) (f g : Files) → AreSeenAlike (order_of words) f g → Twin Alike (ended words made notes f) (ended words made others g)
-  twin_ended words f g seen = twin_then AreSites Alike (site words) (ended_at made notes) (site words) (ended_at made others) f g ((site_quiet words).still f) ((site_quiet words).still g) (twin_site words f g seen)
-      (λ s t _ same. subst (λ (u : Site). Twin Alike (ended_at made notes s f) (ended_at made others u g)) (sym same.1) (twin_at s same.0 f g))
-
--- ---- the image
-
-abbrev image_closed : Result (List ℕ) ImageNo → Option (List ℕ) → Option (List ℕ)
-image_closed (Ok bytes) old = Some bytes
-image_closed (Err e) old = old
-
--- the image's file behind a build, where this was there before
-abbrev image_for : Project → List Made → Option (List ℕ) → Option (List ℕ)
-image_for p made old = cond (is_whole p made) (cond p.terms.order.question old (image_closed (written (state_after p.start made)) old)) old
-
-module _ (p : Project) (made : List Made) (notes : List Note) (name : List ℕ) (f : Files) (image : p.terms.order.image ≡ Some name) (history : p.terms.order.history ≢ Some name) (report : p.terms.order.report ≢ Some name) where
-  abbrev text : List ℕ
-  text = closing p.terms.order.silent p.terms.plan (state_after p.start made).outcomes (is_early p made)
-
-  by_written : (w : Result (List ℕ) ImageNo) → written (state_after p.start made) ≡ w → get (left (replaced p.terms notes (Some name) (fuel_of made) text (state_after p.start made)) f) name ≡ image_closed w (get f name)
-  by_written (Ok bytes) e = puts p.terms notes name (fuel_of made) text (state_after p.start made) f history report bytes e
-  by_written (Err not_so) e = stays p.terms notes name (fuel_of made) text (state_after p.start made) f history report not_so e
-
-  replacing_image : get (left (replacing made notes p) f) name ≡ image_closed (written (state_after p.start made)) (get f name)
-  replacing_image =
-      ap (λ (o : Option (List ℕ)). get (left (replaced p.terms notes o (fuel_of made) text (state_after p.start made)) f) name) image
-      ∙ by_written (written (state_after p.start made)) refl
-
-  built_image : get (left (building p made notes) f) name ≡ image_for p made (get f name)
-  unfolding done
-  built_image = ap (λ (g : Files). get g name) (after_left made notes p f)
-      ∙ by_cases (is_whole p made) (λ b. get (left (cond b (finish p.terms notes (fuel_of made) (is_early p made) (state_after p.start made)) broken_off) f) name
-      ≡ cond b (cond p.terms.order.question (get f name) (image_closed (written (state_after p.start made)) (get f name))) (get f name))
-      (λ _. by_cases p.terms.order.question (λ b. get (left (cond b (done (status_of true false (state_after p.start made).outcomes)) (replacing made notes p)) f) name
-      ≡ cond b (get f name) (image_closed (written (state_after p.start made)) (get f name)))
-      (λ _. refl) (λ _. replacing_image))
-      (λ _. refl)
-
-module _ (words : List (List ℕ)) (made : List Made) (notes others : List Note) (f g : Files) (name : List ℕ) (image : (order_of words).image ≡ Some name) (same : get f name ≡ get g name) where
-  not_history : (o : Order) → IsOf words o → o.history ≢ Some name
-  not_history o is e = apart (order_of words).image (order_of words).history name name (names_of words is.accepted).image_history image (sym is.history ∙ e) refl
-
-  not_report : (o : Order) → IsOf words o → o.report ≢ Some name
-  not_report o is e = apart (order_of words).image (order_of words).report name name (names_of words is.accepted).image_report image (sym is.report ∙ e) refl
-
-  image_built : (some : List Note) (h : Files) (p : Project) → project_in words h ≡ Ok p → p.terms.order.generate ≡ None → get (files_left words made some h) name ≡ image_for p made (get h name)
-  image_built some h p e none =
-      let is = (found words h p e).1.given.order in
-      ap (λ (u : Files). get u name) (left_built made some words h p e none)
-      ∙ built_image p made some name h (is.image ∙ image) (not_history p.terms.order is) (not_report p.terms.order is)
-
-  images : (p q : Project) → project_in words f ≡ Ok p → project_in words g ≡ Ok q → AreProjects p q → (n : Option ℕ) → p.terms.order.generate ≡ n → get (files_left words made notes f) name ≡ get (files_left words made others g) name
-  images p q e i alike None none =
-      image_built notes f p e none
-      ∙ ap (λ (old : Option (List ℕ)). image_for p made old) same
-      ∙ ap (λ (r : Project). image_for r made (get g name)) (sym alike.2)
-      ∙ sym (image_built others g q i (ap (λ (r : Project). r.terms.order.generate) alike.2 ∙ none))
-  images p q e i alike (Some n) some =
-      ap (λ (u : Files). get u name) (left_generated made notes words f p n e some)
-      ∙ same
-      ∙ sym (ap (λ (u : Files). get u name) (left_generated made others words g q n i (ap (λ (r : Project). r.terms.order.generate) alike.2 ∙ some)))
-
-  same_image : (x y : Result Project Verdict) → project_in words f ≡ x → project_in words g ≡ y → Both AreProjects x y → get (files_left words made notes f) name ≡ get (files_left words made others g) name
-  same_image (Ok p) (Ok q) e i alike = images p q e i alike p.terms.order.generate refl
-  same_image (Ok p) (Err w) e i alike = absurd alike
-  same_image (Err v) (Ok q) e i alike = absurd alike
-  same_image (Err v) (Err w) e i alike =
-      ap (λ (u : Files). get u name) (left_none made notes words f v e) ∙ same ∙ sym (ap (λ (u : Files). get u name) (left_none made others words g w i))
-
--- ---- the law
-
-module _ (words : List (List ℕ)) (made : List Made) (notes others : List Note) where
-  pub shown : (f g : Files) → AreSeenAlike (order_of words) f g → IsSameEnd words made notes others f g
+  pub shown : (f g : Files) → AreSeenAlike (order_of words) f g → IsSameEnd words builds others f g
   shown f g seen =
-      let twin = twin_ended made notes others words f g seen in
-      record {
-        printed = twin.printed;
-        end = both_is (ended words made notes f).end (ended words made others g).end twin.end;
-        image = by_image (order_of words).image refl seen.image;
-      }
-    where
-      by_image : (o : Option (List ℕ)) → (order_of words).image ≡ o → IfSome o (λ name. get f name ≡ get g name) → IfSome o (λ name. get (files_left words made notes f) name ≡ get (files_left words made others g) name)
-      by_image None e h = tt
-      by_image (Some name) e h = same_image words made notes others f g name e h (project_in words f) (project_in words g) refl refl (twin_found words f g seen).end
+      let it = shows_ended f g seen in
+      record { printed = it.twin.printed; end = both_is (ended words builds f).end (ended words others g).end it.twin.end; image = it.files }
 
   stays_seen : (o : Option (List ℕ)) (files : Files) (name bytes : List ℕ) → o ≢ Some name → IfSome o (λ n. get files n ≡ get (insert files name bytes) n)
   stays_seen None files name bytes not_so = tt
   stays_seen (Some n) files name bytes not_so = sym (get_other files name bytes n (λ e. not_so (ap Some e)))
 
-  pub other_history : (files : Files) (name bytes : List ℕ) → refusal words ≡ None → (order_of words).history ≡ Some name → (order_of words).explain ≢ Some name → IsSameEnd words made notes others files (insert files name bytes)
+  pub other_history : (files : Files) (name bytes : List ℕ) → refusal words ≡ None → (order_of words).history ≡ Some name → (order_of words).explain ≢ Some name → IsSameEnd words builds others files (insert files name bytes)
   other_history files name bytes ordered history explain = shown files (insert files name bytes) (record {
     image = stays_seen (order_of words).image files name bytes (λ e. apart (order_of words).image (order_of words).history name name (names_of words ordered).image_history e history refl);
     explain = stays_seen (order_of words).explain files name bytes explain;

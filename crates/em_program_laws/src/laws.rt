@@ -4,100 +4,101 @@ ghost use Rattle.std.specs.Prelude.{◌≡◌, ◌≢◌, ◌++◌, List, ℕ, t
 ghost use Rattle.std.specs.FinMap.{get, insert};
 ghost use Rattle.em_host.specs.Calls.{printed_by};
 ghost use Rattle.em_host.specs.Outside.{Files, Outside};
+ghost use Rattle.em_tree.specs.Trees.{Table};
 ghost use Rattle.em_image.specs.Image.{broken, image_text, limits};
 ghost use Rattle.em_engine.specs.declared.note.Note.{Note};
-ghost use Rattle.em_run.specs.Serial.{Made, state_after};
 ghost use Rattle.em_cmdline.specs.declared.order.HistoryMode.TheVariants as mode;
 ghost use Rattle.em_cmdline.specs.Words.{order_of, refusal};
 ghost use Rattle.em_cmdline.specs.Pages.{page_in};
-ghost use Rattle.em_program.specs.declared.project.Project.{Project};
+ghost use Rattle.em_program.specs.declared.rounds.Step.{Step};
 ghost use Rattle.em_program.specs.declared.verdict.Verdict.{Verdict};
 ghost use Rattle.em_program.specs.Endings.{ended};
-ghost use Rattle.em_program.specs.Headline.{Headline};
-ghost use Rattle.em_program_laws.specs.Laws.{files_left, status_in, IsOther, AreSeenAlike, IsSameEnd};
-ghost use Rattle.em_program.specs.Projects.{project_in};
+ghost use Rattle.em_program.specs.Headline.{Headline, first_in};
+ghost use Rattle.em_program.specs.Rounds.{Build};
+ghost use Rattle.em_program_laws.specs.Laws.{files_left, status_in, tree_left, IsOther, AreSeenAlike, AreMadeAlike, IsSameEnd};
 
 /// A file of the host that the words name neither as the image nor as the history nor as the report
 /// is as it was before, whatever the jobs made.
 pub fn law_others_stay()
-    ensures { (words : List (List ℕ)) (made : List Made) (notes : List Note) (files : Files)
+    ensures { (words : List (List ℕ)) (builds : List Build) (files : Files)
         (name : List ℕ) → IsOther (order_of words) name
-        → get (files_left words made notes files) name ≡ get files name }
+        → get (files_left words builds files) name ≡ get files name }
 {}
 
-/// All files of the host are as before where something is refused before the build, and so where
-/// the words are refused; where a page or an explanation is asked for; of a generated project; and
-/// under `-q`.
+/// All files of the host are as before where something is refused: the words, the image, the
+/// directory, a makefile, a round or a plan, also behind builds that ran. So are they where a page
+/// or an explanation is asked for; of a generated project; and under `-q`.
 pub fn law_nothing_replaced()
-    ensures refused { (words : List (List ℕ)) (made : List Made) (notes : List Note)
-        (files : Files) (verdict : Verdict) → project_in words files ≡ Err verdict
-        → files_left words made notes files ≡ files }
-    ensures unordered { (words : List (List ℕ)) (made : List Made) (notes : List Note)
-        (files : Files) → IsSome (refusal words) → files_left words made notes files ≡ files }
-    ensures page { (words : List (List ℕ)) (made : List Made) (notes : List Note)
-        (files : Files) → IsSome (page_in words) → files_left words made notes files ≡ files }
-    ensures explained { (words : List (List ℕ)) (made : List Made) (notes : List Note)
-        (files : Files) → IsSome (order_of words).explain
-        → files_left words made notes files ≡ files }
-    ensures generated { (words : List (List ℕ)) (made : List Made) (notes : List Note)
-        (files : Files) → IsSome (order_of words).generate
-        → files_left words made notes files ≡ files }
-    ensures asked { (words : List (List ℕ)) (made : List Made) (notes : List Note)
-        (files : Files) → (order_of words).question ≡ true
-        → files_left words made notes files ≡ files }
+    ensures refused { (words : List (List ℕ)) (builds : List Build) (files : Files)
+        (verdict : Verdict) → (ended words builds files).end ≡ Err verdict
+        → files_left words builds files ≡ files }
+    ensures unordered { (words : List (List ℕ)) (builds : List Build) (files : Files)
+        → IsSome (refusal words) → files_left words builds files ≡ files }
+    ensures page { (words : List (List ℕ)) (builds : List Build) (files : Files)
+        → IsSome (page_in words) → files_left words builds files ≡ files }
+    ensures explained { (words : List (List ℕ)) (builds : List Build) (files : Files)
+        → IsSome (order_of words).explain → files_left words builds files ≡ files }
+    ensures generated { (words : List (List ℕ)) (builds : List Build) (files : Files)
+        → IsSome (order_of words).generate → files_left words builds files ≡ files }
+    ensures asked { (words : List (List ℕ)) (builds : List Build) (files : Files)
+        → (order_of words).question ≡ true → files_left words builds files ≡ files }
 {}
 
 /// In the mode `read` the history's file is as it was before.
 pub fn law_history_read()
-    ensures { (words : List (List ℕ)) (made : List Made) (notes : List Note) (files : Files)
-        (name : List ℕ) → (order_of words).mode ≡ mode.Read
-        → (order_of words).history ≡ Some name
-        → get (files_left words made notes files) name ≡ get files name }
+    ensures { (words : List (List ℕ)) (builds : List Build) (files : Files) (name : List ℕ)
+        → (order_of words).mode ≡ mode.Read → (order_of words).history ≡ Some name
+        → get (files_left words builds files) name ≡ get files name }
 {}
 
 /// The status is 1 only where the words are in order and have `-q`.
 pub fn law_status_asked()
-    ensures question { (words : List (List ℕ)) (made : List Made) (notes : List Note)
-        (files : Files) → status_in words made notes files ≡ 1
-        → (order_of words).question ≡ true }
-    ensures ordered { (words : List (List ℕ)) (made : List Made) (notes : List Note)
-        (files : Files) → status_in words made notes files ≡ 1 → refusal words ≡ None }
+    ensures question { (words : List (List ℕ)) (builds : List Build) (files : Files)
+        → status_in words builds files ≡ 1 → (order_of words).question ≡ true }
+    ensures ordered { (words : List (List ℕ)) (builds : List Build) (files : Files)
+        → status_in words builds files ≡ 1 → refusal words ≡ None }
 {}
 
 /// Of the host's files only the image, and the report that is to be explained, bear on what is
 /// printed, on the status and on the new image; and so don't the notes of the jobs that were made.
 /// So with other bytes in the history's file all three are the same.
 pub fn law_unseen()
-    ensures seen { (words : List (List ℕ)) (made : List Made) (notes others : List Note)
-        (f g : Files) → AreSeenAlike (order_of words) f g
-        → IsSameEnd words made notes others f g }
-    ensures history { (words : List (List ℕ)) (made : List Made) (notes others : List Note)
-        (files : Files) (name bytes : List ℕ) → refusal words ≡ None
+    ensures seen { (words : List (List ℕ)) (builds others : List Build) (f g : Files)
+        → AreMadeAlike builds others → AreSeenAlike (order_of words) f g
+        → IsSameEnd words builds others f g }
+    ensures history { (words : List (List ℕ)) (builds others : List Build) (files : Files)
+        (name bytes : List ℕ) → AreMadeAlike builds others → refusal words ≡ None
         → (order_of words).history ≡ Some name → (order_of words).explain ≢ Some name
-        → IsSameEnd words made notes others files (insert files name bytes) }
+        → IsSameEnd words builds others files (insert files name bytes) }
 {}
 
-/// The headline in three sentences, where the status is neither 3 nor 7. The printed bytes grew by
+/// The headline in four sentences, where the status is neither 3 nor 7. The printed bytes grew by
 /// exactly what the ending says; the status is the ending's; and the image that the words name is
-/// the text of the tree that the jobs leave, or as before where that breaks a limit.
+/// the text of the tree that the last build leaves, or as before where that breaks a limit. There
+/// is such a tree wherever nothing was refused.
 pub fn law_headline()
     ensures printed { (words : List (List ℕ)) (status : ℕ) (notes : List Note)
         (before after : Outside) (h : Headline words status notes before after)
         → status ≢ 3 → status ≢ 7 → after.printed ≡ before.printed
-        ++ printed_by (ended words h.made h.made_notes before.files).calls }
+        ++ printed_by (ended words h.builds before.files).calls }
     ensures status { (words : List (List ℕ)) (status : ℕ) (notes : List Note)
         (before after : Outside) (h : Headline words status notes before after)
-        → status ≢ 3 → status ≢ 7 → status ≡ status_in words h.made h.made_notes before.files }
+        → status ≢ 3 → status ≢ 7 → status ≡ status_in words h.builds before.files }
     ensures image { (words : List (List ℕ)) (status : ℕ) (notes : List Note)
-        (before after : Outside) (h : Headline words status notes before after) (p : Project)
-        (name : List ℕ) → status ≢ 3 → status ≢ 7 → project_in words before.files ≡ Ok p
+        (before after : Outside) (h : Headline words status notes before after) (st : Step)
+        (t : Table) (name : List ℕ) → status ≢ 3 → status ≢ 7
+        → first_in words before.files ≡ Ok st → tree_left h.builds st ≡ Some t
         → (order_of words).image ≡ Some name → (order_of words).question ≡ false
-        → broken limits (state_after p.start h.made).tree ≡ None
-        → get after.files name ≡ Some (image_text (state_after p.start h.made).tree) }
+        → broken limits t ≡ None → get after.files name ≡ Some (image_text t) }
     ensures limit { (words : List (List ℕ)) (status : ℕ) (notes : List Note)
-        (before after : Outside) (h : Headline words status notes before after) (p : Project)
-        (name : List ℕ) → status ≢ 3 → status ≢ 7 → project_in words before.files ≡ Ok p
+        (before after : Outside) (h : Headline words status notes before after) (st : Step)
+        (t : Table) (name : List ℕ) → status ≢ 3 → status ≢ 7
+        → first_in words before.files ≡ Ok st → tree_left h.builds st ≡ Some t
         → (order_of words).image ≡ Some name → (order_of words).question ≡ false
-        → IsSome (broken limits (state_after p.start h.made).tree)
-        → get after.files name ≡ get before.files name }
+        → IsSome (broken limits t) → get after.files name ≡ get before.files name }
+    ensures tree { (words : List (List ℕ)) (status : ℕ) (notes : List Note)
+        (before after : Outside) (h : Headline words status notes before after) (st : Step)
+        (verdict : Verdict) → status ≢ 3 → status ≢ 7 → first_in words before.files ≡ Ok st
+        → (ended words h.builds before.files).end ≡ Ok verdict
+        → IsSome (tree_left h.builds st) }
 {}

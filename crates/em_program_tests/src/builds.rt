@@ -24,7 +24,7 @@ pub enum After {
 pub const PROJECT: &[u8] =
     b"EMTREE 1\nd 5 /\nf 5 240 /Makefile\nSRC := main.c util.c\nOBJ := $(SRC:.c=.o)\n.PHONY: all clean edit\nall: config.h prog\nprog: $(OBJ)\n\tcat $^ > $@\n%.o: %.c\n\tcat $< config.h > $@\nconfig.h: config.in\n\techo '#define N 1' > $@\nedit:\n\ttouch main.c\nclean:\n\trm -f $(OBJ) prog config.h\n\nf 5 2 /config.in\n1\n\nf 5 5 /main.c\nmain\n\nf 5 5 /util.c\nutil\n\n.\n";
 
-pub static BUILDS: [Build; 54] = [
+pub static BUILDS: [Build; 63] = [
     Build {
         words: "-I i",
         before: Some(b"EMTREE 1\nd 1 /\nf 1 15 /Makefile\nall:\n\t@echo hi\n\n.\n"),
@@ -428,6 +428,89 @@ pub static BUILDS: [Build; 54] = [
         after: After::Is(
             b"EMTREE 1\nd 7 /\nf 5 94 /Makefile\n.DELETE_ON_ERROR:\n.PHONY: p\nall: p u d\np:\n\techo x > p; false\nu: x\n\tfalse\nd: x\n\ttouch d; false\n\nd 3145735 /d\nf 8 2 /p\nx\n\nf 5 0 /u\n\nf 6 0 /x\n\n.\n",
         ),
+    },
+    Build {
+        words: "-I i",
+        before: Some(
+            b"EMTREE 1\nd 5 /\nf 5 53 /Makefile\ninclude c.mk\nall:\n\t@echo $(X)\nc.mk: src\n\tcp src c.mk\n\nf 5 6 /src\nX = 1\n\n.\n",
+        ),
+        printed: b"cp src c.mk\n1\n",
+        status: 0,
+        after: After::Is(
+            b"EMTREE 1\nd 1048582 /\nf 5 53 /Makefile\ninclude c.mk\nall:\n\t@echo $(X)\nc.mk: src\n\tcp src c.mk\n\nf 1048582 6 /c.mk\nX = 1\n\nf 5 6 /src\nX = 1\n\n.\n",
+        ),
+    },
+    Build {
+        words: "-I i",
+        before: None,
+        printed: b"1\n",
+        status: 0,
+        after: After::Same,
+    },
+    Build {
+        words: "-I i -q",
+        before: Some(
+            b"EMTREE 1\nd 5 /\nf 5 53 /Makefile\ninclude c.mk\nall:\n\t@echo $(X)\nc.mk: src\n\tcp src c.mk\n\nf 5 6 /src\nX = 1\n\n.\n",
+        ),
+        printed: b"cp src c.mk\n",
+        status: 1,
+        after: After::Same,
+    },
+    Build {
+        words: "-I i -n",
+        before: Some(
+            b"EMTREE 1\nd 5 /\nf 5 53 /Makefile\ninclude c.mk\nall:\n\t@echo $(X)\nc.mk: src\n\tcp src c.mk\n\nf 5 6 /src\nX = 1\n\n.\n",
+        ),
+        printed: b"cp src c.mk\necho 1\n",
+        status: 0,
+        after: After::Is(
+            b"EMTREE 1\nd 1048582 /\nf 5 53 /Makefile\ninclude c.mk\nall:\n\t@echo $(X)\nc.mk: src\n\tcp src c.mk\n\nf 1048582 6 /c.mk\nX = 1\n\nf 5 6 /src\nX = 1\n\n.\n",
+        ),
+    },
+    Build {
+        words: "-I i",
+        before: Some(
+            b"EMTREE 1\nd 5 /\nf 5 53 /Makefile\ninclude c.mk\nall:\n\t@echo $(X)\nc.mk: src\n\tcp src c.mk\n\n.\n",
+        ),
+        printed: b"emake: *** No rule to make target 'src', needed by 'c.mk'.  Stop.\n",
+        status: 2,
+        after: After::Same,
+    },
+    Build {
+        words: "-I i",
+        before: Some(
+            b"EMTREE 1\nd 5 /\nf 5 55 /Makefile\ninclude c.mk\nall:\nc.mk: FORCE\n\t@echo '#' > c.mk\nFORCE:\n\n.\n",
+        ),
+        printed: b"emake: *** Makefiles still change after 8 readings.  Stop.\n",
+        status: 2,
+        after: After::Same,
+    },
+    Build {
+        words: "-I i",
+        before: Some(
+            b"EMTREE 1\nd 5 /\nf 5 42 /Makefile\n-include d.mk\nall:\n\t@echo hi\nd.mk:\n\tfalse\n\n.\n",
+        ),
+        printed: b"false\nemake: *** [Makefile:5: d.mk] Error 1\n",
+        status: 2,
+        after: After::Same,
+    },
+    Build {
+        words: "-I i -k",
+        before: Some(
+            b"EMTREE 1\nd 5 /\nf 5 42 /Makefile\n-include d.mk\nall:\n\t@echo hi\nd.mk:\n\tfalse\n\n.\n",
+        ),
+        printed: b"false\nemake: *** [Makefile:5: d.mk] Error 1\nhi\n",
+        status: 2,
+        after: After::Same,
+    },
+    Build {
+        words: "-I i",
+        before: Some(
+            b"EMTREE 1\nd 5 /\nf 5 40 /Makefile\ninclude d.mk\nall:\n\t@echo hi\nd.mk:\n\ttrue\n\n.\n",
+        ),
+        printed: b"true\nMakefile:1: *** d.mk: absent.  Stop.\n",
+        status: 2,
+        after: After::Same,
     },
     Build {
         words: "-I i",

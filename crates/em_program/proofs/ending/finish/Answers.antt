@@ -4,10 +4,10 @@ use Rattle.em_program.specs.Closing.{closing}
 use Rattle.em_program.proofs.Following.{finish}
 use Rattle.em_program.proofs.ending.finish.Goals as goal
 
-pub returns-then-terms-clause-told : goal.returns-then-terms-clause-told
-returns-then-terms-clause-told g c = rw (c.if-terms.true, c.status_of.ensures, c.items-outcomes.ensures) finish
+pub returns-then-asked-clause-told : goal.returns-then-asked-clause-told
+returns-then-asked-clause-told g c = rw (c.if-asked.true, c.status_of.ensures, c.items.ensures, c.items-outcomes.ensures) finish
 
 pub returns-clause-told : goal.returns-clause-told
 returns-clause-told g c =
     let text = c.in_ok-text.ensures ∙ ap (λ (os : List Outcome). closing c.args.terms.now.order.silent c.args.terms.now.plan os c.args.early) c.items-outcomes.ensures in
-    rw c.if-terms.false (rw text at c.replace_all.ensures.told)
+    rw c.if-asked.false (rw text at c.replace_all.ensures.told)

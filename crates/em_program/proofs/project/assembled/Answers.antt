@@ -3,7 +3,7 @@ use Rattle.em_program.proofs.Numbers.{spec_count, numbered, flagged, waits_count
 use Rattle.em_program.proofs.project.assembled.Goals as goal
 
 pub specs-requires-clause-base : goal.specs-requires-clause-base
-specs-requires-clause-base c = rw c.base.ensures.base c.requires.site.base
+specs-requires-clause-base c = rw c.base.ensures.base c.requires.room
 
 pub returns-clause-ready : goal.returns-clause-ready
 returns-clause-ready c = record {

@@ -1,9 +1,9 @@
-use Rattle.em_program_laws.proofs.Leaving.{left_none}
+use Rattle.em_program_laws.proofs.Leaving.{left_refused}
 use Rattle.em_program_laws.proofs.Replacing.{nothing_generated, nothing_asked, nothing_explained, nothing_on_page, nothing_unordered}
 use Rattle.em_program_laws.proofs.laws.law_nothing_replaced.Goals as goal
 
 pub returns-clause-refused : goal.returns-clause-refused
-returns-clause-refused c = λ words made notes files verdict e. left_none made notes words files verdict e
+returns-clause-refused c = λ words builds files verdict e. left_refused builds words files verdict e
 
 pub returns-clause-unordered : goal.returns-clause-unordered
 returns-clause-unordered c = nothing_unordered

@@ -1,0 +1,10 @@
+use Rattle.std.proofs.Common.{◌≡◌, ◌∙◌, ◌++◌, List, ap, sym}
+use Rattle.std.proofs.lemmas.List.{map-id}
+use Rattle.std.specs.Result.{OnOk}
+use Rattle.std.proofs.lemmas.Iterator.Adapters.{fact_from_extend, YieldsList-from_vec}
+use Rattle.em_program.proofs.rounds.joined.Goals as goal
+
+pub returns : goal.returns
+returns g c =
+    let all : OnOk c.extend.result (c.extend.new.self.items ≡ c.args.first ++ c.args.more) = fact_from_extend (λ x. x) c.extend.result c.extend.ensures.ran (λ it b. YieldsList-from_vec {s = it} _ b.0 (b.1 ∙ c.into_vec.result.ok.0)) (λ xs e h. h.0 ∙ ap (λ fs. fs ++ xs) c.into_vec-all.ensures ∙ ap (λ fs. c.args.first ++ fs) (sym (map-id xs) ∙ e ∙ c.into_vec.ensures)) in
+    c.from_vec.ensures ∙ rw c.in_ok-extend.was at all
