@@ -1,8 +1,8 @@
--- How a build ends: the closing text, and the status.
+-- How a run ends: the closing text of its last build, and the status.
 --     line_of ..            what is said of a goal: that it wasn't remade, that there was nothing to do for it, or nothing
 --     goal_lines from gs    the same of several goals. The jobs that are first reached through a goal are those with numbers from one behind the
 --                           greatest of the goals before it up to its own; `from` is the first of them
---     closing, status_of    of the whole build
+--     closing, status_of    of the last build, and of all of them
 --     has_ended order os    a job ended the run, of which these are the outcomes
 use Rattle.std.specs.Prelude.{ℕ, ◌+◌, Bool, true, false, ◌||◌, ◌&&◌, List, [], ◌∷◌, ◌++◌, Option, Some, is_none, drop, take, slice_get, max, if◌then◌else◌}
 use Rattle.std.specs.List.{list_any}

@@ -126,7 +126,8 @@ fn ended<H: Host>(
     })
 }
 
-/// The builds from this step on. Each round has one call in another, at most eight.
+/// The builds from this step on. Each round has one call in another: at most nine, with that of the
+/// goals.
 #[cycle(builds)]
 pub fn run_from<R: Threads + Wait + Sync, H: Host>(
     rt: &R,

@@ -1,4 +1,4 @@
-//! How a build ends.
+//! How a run ends: the closing text, and the status.
 ghost use Rattle.std.specs.Prelude.{◌≡◌, ◌++◌, ◌<◌, ◌^◌, Some, IfOk, OnOk, take, drop};
 ghost use Rattle.std.specs.List.{list_any};
 ghost use Rattle.em_job.specs.Making.{ends_after, flags_of};

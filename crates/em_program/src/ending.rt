@@ -1,4 +1,4 @@
-//! The end of a build: the closing text, the new image, the history and the report.
+//! The end of the last build: the closing text, the new image, the history and the report.
 ghost use Rattle.std.specs.Prelude.{◌≡◌, ◌++◌, IfOk};
 ghost use Rattle.em_learning.specs.Telling as telling;
 ghost use Rattle.em_report.specs.Reports as reports;

@@ -156,7 +156,7 @@ fn assigned_of(alloc: Global, assigned: &[(Text, Text)]) -> Result<Seq<(Text, Te
 }
 
 /// The order with these goals, and without `-n`, `-q` and `-B`: makefiles are made whatever is
-/// asked, and where it is due.
+/// asked, and only where it is due.
 fn round_order(alloc: Global, order: &Order, goals: &Seq<Text>) -> Result<Order, NoMemory>
     ensures { IfOk result (λ o. o ≡ rounds.round_order order.now goals.now) }
 {

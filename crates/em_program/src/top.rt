@@ -49,7 +49,8 @@ pub struct Ended {
     /// host failed. 4: a construct was refused. 5: fuel was spent. 7: memory ran out.
     pub status: u8,
     /// One for each job of the serial runs of all builds, in order: in how many runs it came to be
-    /// committed, and why in two. None where something was refused, and at 3 and 7.
+    /// committed, and why in two. None where the words, the image, the directory, a makefile, a
+    /// round or a plan was refused, and at 3 and 7.
     pub notes: Seq<Note>,
 }
 
@@ -100,11 +101,11 @@ fn notes_in(alloc: Global, answer: Result<Finished, Stop>) -> Seq<Note>
 ///
 /// Over a host that tells its files and what was printed, and with a status other than 3 and 7, the
 /// printed bytes grew by exactly what the serial runs of the builds say, the image is that of the
-/// last one, and so is the status, for every number of workers that the words order, and whatever
-/// the history tells (`law_history`). The history tells the notes of all builds, the report those of
-/// the last one. At 3 and 7 a front of this was done.
-/// No other file is touched. Status 3 comes only where a call on the host failed, and where one
-/// failed the status is 3 or 7 and nothing more is called.
+/// last one, and the status is that of all of them, for every number of workers that the words
+/// order, and whatever the history tells (`law_history`). The history tells the notes of all builds,
+/// the report those of the last one. At 3 and 7 a front of this was done. No other file is touched.
+/// Status 3 comes only where a call on the host failed, and where one failed the status is 3 or 7
+/// and nothing more is called.
 ///
 /// Over such a host a job's note has one run, or two and why: its first run was answered otherwise
 /// than the serial run is, isn't what the board was asked, is another job's, or was given up for

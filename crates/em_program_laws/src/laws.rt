@@ -1,6 +1,6 @@
 //! What the headline comes to: laws of its definitions. Each function's contract is the law, and it
 //! does nothing.
-ghost use Rattle.std.specs.Prelude.{◌≡◌, ◌≢◌, ◌++◌, List, ℕ, true, false, Some, None, Ok, Err, IsSome};
+ghost use Rattle.std.specs.Prelude.{◌≡◌, ◌≢◌, ◌++◌, List, [], ℕ, true, false, Some, None, Ok, Err, IsSome};
 ghost use Rattle.std.specs.FinMap.{get, insert};
 ghost use Rattle.em_host.specs.Calls.{printed_by};
 ghost use Rattle.em_host.specs.Outside.{Files, Outside};
@@ -14,7 +14,11 @@ ghost use Rattle.em_program.specs.declared.rounds.Step.{Step};
 ghost use Rattle.em_program.specs.declared.verdict.Verdict.{Verdict};
 ghost use Rattle.em_program.specs.Endings.{ended};
 ghost use Rattle.em_program.specs.Headline.{Headline, first_in};
-ghost use Rattle.em_program.specs.Rounds.{Build};
+ghost use Rattle.em_program.specs.Rounds.{Build, by_goals, final, goes_on};
+ghost use Rattle.em_program.specs.declared.project.Project.{Project};
+ghost use Rattle.em_program.specs.declared.site.Site.{Site};
+ghost use Rattle.em_reader.specs.declared.makefiles.Round.{Round};
+ghost use Rattle.em_remake.specs.Remaking.{goals_of};
 ghost use Rattle.em_program_laws.specs.Laws.{files_left, status_in, tree_left, IsOther, AreSeenAlike, AreMadeAlike, IsSameEnd};
 
 /// A file of the host that the words name neither as the image nor as the history nor as the report
@@ -101,4 +105,14 @@ pub fn law_headline()
         (verdict : Verdict) → status ≢ 3 → status ≢ 7 → first_in words before.files ≡ Ok st
         → (ended words h.builds before.files).end ≡ Ok verdict
         → IsSome (tree_left h.builds st) }
+{}
+
+/// Where no makefile is a goal there are no rounds: behind the reading what is built are the goals,
+/// and nothing is built behind them.
+pub fn law_no_rounds()
+    ensures first { (left : ℕ) (s : Site) (cwd : List ℕ) (r : Round)
+        → goals_of r s.start.tree cwd ≡ []
+        → by_goals left s cwd r (goals_of r s.start.tree cwd) ≡ final s cwd r }
+    ensures last { (p : Project) (b : Build)
+        → goes_on (record { project = p; remaking = None }) b ≡ None }
 {}
