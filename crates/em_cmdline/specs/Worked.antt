@@ -8,6 +8,7 @@ use Rattle.em_cmdline.specs.declared.order.HistoryMode.TheVariants.{Create, Merg
 use Rattle.em_cmdline.specs.declared.order.WordNo.{WordNo}
 use Rattle.em_cmdline.specs.declared.order.WordNo.TheVariants.{BadName, BadNumber, Missing, SameName, Unknown}
 use Rattle.em_cmdline.specs.Words.{order_of, refusal}
+use Rattle.em_cmdline.specs.SubWords.{sub_order, sub_refusal}
 
 abbrev pub reading_of : Option WordNo → Order → Result Order WordNo
 reading_of None o = Ok o
@@ -139,3 +140,42 @@ refused =
     ∷ (codes "-I|i|a:=c", BadName (codes "a:=c"))
     ∷ (codes "-I|i|--report|i|=x", BadName (codes "=x"))
     ∷ (codes "-I|i|--report|i", SameName (codes "i")) ∷ []
+
+-- ---- the words of a sub-make
+
+abbrev pub sub_reading : List Text → Result Order WordNo
+sub_reading words = reading_of (sub_refusal words) (sub_order words)
+
+-- the order of no word
+abbrev pub plain_sub : Order
+plain_sub = record plain_order { image = None; dir = codes "." }
+
+abbrev pub sub_ordering : List (List ℕ × Order)
+sub_ordering =
+    (codes "x", record plain_sub { goals = codes "x" ∷ [] })
+    ∷ (
+      codes "-f|m|-C|d|-k|-s|-i|-B|a|A=b",
+      record plain_sub {
+        makefile = Some (codes "m");
+        dir = codes "d";
+        keep_going = true;
+        silent = true;
+        ignore = true;
+        always = true;
+        goals = codes "a" ∷ [];
+        assigned = (codes "A", codes "b") ∷ [];
+      },
+    )
+    ∷ (codes "-kj|8|--no-print-directory", record plain_sub { keep_going = true })
+    ∷ (codes "--|-n", record plain_sub { goals = codes "-n" ∷ [] }) ∷ []
+
+abbrev pub sub_refused : List (List ℕ × WordNo)
+sub_refused =
+    (codes "-n", Unknown)
+    ∷ (codes "-q", Unknown)
+    ∷ (codes "-I|i", Unknown)
+    ∷ (codes "--fuel|5", Unknown)
+    ∷ (codes "-C|a|-C|b", Unknown)
+    ∷ (codes "-j", Unknown)
+    ∷ (codes "-j|0|=x", BadNumber (codes "0"))
+    ∷ (codes "x|a:=c", BadName (codes "a:=c")) ∷ []

@@ -45,7 +45,7 @@ pub(crate) fn mode(found: &ArgMatches<'_>) -> Option<HistoryMode>
 }
 
 /// The value where it is no number from 1 to the limit.
-fn bad_value<'a>(limit: u64, value: Option<&'a str>) -> Option<&'a str>
+pub(crate) fn bad_value<'a>(limit: u64, value: Option<&'a str>) -> Option<&'a str>
     ensures { option_map (λ s. s.now) result
         ≡ spec.bad_value limit (option_map (λ s. s.now) value.entry) }
 {
@@ -94,7 +94,7 @@ fn has_bad_name(word: &str) -> bool
 }
 
 /// The first such word.
-fn bad_name<'a>(found: &ArgMatches<'a>) -> Option<&'a str>
+pub(crate) fn bad_name<'a>(found: &ArgMatches<'a>) -> Option<&'a str>
     ensures { option_map (λ s. s.now) result ≡ spec.bad_name (rows_of (found_of found.now)) }
 {
     others(found)?

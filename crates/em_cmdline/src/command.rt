@@ -2,7 +2,7 @@
 ghost use Rattle.std.specs.Prelude.{◌≡◌, ◌≢◌, ◌⊎◌, [], map, true, false, length, codes, option_map, unwrap_or, IfOk, IfErr};
 ghost use Rattle.std.specs.List.{list_all};
 ghost use Rattle.std.specs.Str.{is_utf8};
-ghost use Rattle.clap.specs.Words.{all_of, app_of, first_of, found_of, rows_of, rule_of};
+ghost use Rattle.clap.specs.Words.{all_of, app_of, fault_of, first_of, found_of, is_simple_and_free, matches_of, rows_of, rule_of};
 ghost use Rattle.em_cmdline.specs.Words.{order_app, faults, other_words};
 ghost use Rattle.em_cmdline.specs.Words as spec;
 
@@ -13,7 +13,7 @@ use em_base::Text;
 use std::alloc::{AllocError, Global};
 
 /// An option that takes a value.
-fn valued<'a>(alloc: Global, id: &'a str) -> Arg<'a>
+pub(crate) fn valued<'a>(alloc: Global, id: &'a str) -> Arg<'a>
     ensures rule { rule_of result ≡ spec.valued id.entry.now }
     ensures local { result.global ≡ false }
 {
@@ -21,7 +21,7 @@ fn valued<'a>(alloc: Global, id: &'a str) -> Arg<'a>
 }
 
 /// An option that takes none.
-fn flag<'a>(alloc: Global, id: &'a str) -> Arg<'a>
+pub(crate) fn flag<'a>(alloc: Global, id: &'a str) -> Arg<'a>
     ensures rule { rule_of result ≡ spec.flag id.entry.now }
     ensures local { result.global ≡ false }
 {
@@ -74,7 +74,32 @@ pub(crate) fn texts(alloc: Global, words: &[Text]) -> Result<Vec<&str>, WordNo>
     Ok(texts)
 }
 
-/// What the words give the command. `Unknown` comes exactly where clap refuses them.
+/// What the words give a command. `Unknown` comes exactly where clap refuses them.
+pub(crate) fn matches_by<'a>(
+    command: Command<'a>,
+    words: &'a [&'a str],
+) -> Result<ArgMatches<'a>, WordNo>
+    requires { is_simple_and_free (app_of command) ≡ true }
+    ensures ok { IfOk result
+        (λ m. (fault_of (app_of command.entry) (map (λ s. s.now) words.entry.now) ≡ [])
+        × (rows_of (found_of m)
+        ≡ matches_of (app_of command.entry) (map (λ s. s.now) words.entry.now))) }
+    ensures err { IfErr result
+        (λ e. (e ≡ WordNo.NoMemory)
+        ⊎ ((e ≡ WordNo.Unknown)
+        × (fault_of (app_of command.entry) (map (λ s. s.now) words.entry.now) ≢ []))) }
+{
+    match command.try_get_matches_from(words) {
+        Ok(found) => Ok(found),
+        Err(e) => match e.kind() {
+            ErrorKind::OutOfMemory => Err(WordNo::NoMemory),
+            _ => Err(WordNo::Unknown),
+        },
+    }
+}
+
+/// What the words give the command of this program. `Unknown` comes exactly where clap refuses
+/// them.
 pub(crate) fn matches<'a>(alloc: Global, words: &'a [&'a str]) -> Result<ArgMatches<'a>, WordNo>
     ensures ok { IfOk result
         (λ m. (faults (map (λ s. s.now) words.entry.now) ≡ [])
@@ -83,13 +108,8 @@ pub(crate) fn matches<'a>(alloc: Global, words: &'a [&'a str]) -> Result<ArgMatc
         (λ e. (e ≡ WordNo.NoMemory)
         ⊎ ((e ≡ WordNo.Unknown) × (faults (map (λ s. s.now) words.entry.now) ≢ []))) }
 {
-    match command(alloc)?.try_get_matches_from(words) {
-        Ok(found) => Ok(found),
-        Err(e) => match e.kind() {
-            ErrorKind::OutOfMemory => Err(WordNo::NoMemory),
-            _ => Err(WordNo::Unknown),
-        },
-    }
+    let command = command(alloc)?;
+    matches_by(command, words)
 }
 
 /// The value of an option.

@@ -7,7 +7,9 @@ pub mod laws;
 mod order;
 mod page;
 mod read;
+mod sub;
 
 pub use order::{HistoryMode, Order, WordNo};
 pub use page::{Page, page_in};
 pub use read::read_words;
+pub use sub::read_sub_words;

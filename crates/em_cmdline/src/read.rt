@@ -13,7 +13,7 @@ use em_base::{NoMemory, Seq, Text};
 use std::alloc::Global;
 
 /// The text as a text of its own.
-fn own(alloc: Global, text: Option<&str>) -> Result<Option<Text>, NoMemory>
+pub(crate) fn own(alloc: Global, text: Option<&str>) -> Result<Option<Text>, NoMemory>
     ensures { IfOk result (λ t. t ≡ option_map (λ s. s.now) text.entry) }
 {
     match text {
@@ -41,7 +41,7 @@ fn size(found: &ArgMatches<'_>) -> Option<u32>
 }
 
 /// The words that are no assignments.
-fn goals(alloc: Global, words: &[&str]) -> Result<Seq<Text>, NoMemory>
+pub(crate) fn goals(alloc: Global, words: &[&str]) -> Result<Seq<Text>, NoMemory>
     ensures { IfOk result (λ g. g ≡ filter spec.is_goal (map (λ s. s.now) words.now)) }
 {
     let mut goals = Seq::new(alloc);
@@ -54,7 +54,7 @@ fn goals(alloc: Global, words: &[&str]) -> Result<Seq<Text>, NoMemory>
 }
 
 /// The assignments, each as its name and its value.
-fn assigned(alloc: Global, words: &[&str]) -> Result<Seq<(Text, Text)>, NoMemory>
+pub(crate) fn assigned(alloc: Global, words: &[&str]) -> Result<Seq<(Text, Text)>, NoMemory>
     ensures { IfOk result (λ a. a ≡ filter_map spec.assignment (map (λ s. s.now) words.now)) }
 {
     let mut assigned = Seq::new(alloc);

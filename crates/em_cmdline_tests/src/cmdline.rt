@@ -1,5 +1,5 @@
 use em_base::Text;
-use em_cmdline::{HistoryMode, Order, Page, WordNo, page_in, read_words};
+use em_cmdline::{HistoryMode, Order, Page, WordNo, page_in, read_sub_words, read_words};
 use em_states::put_all;
 use std::alloc::Global;
 use std::process::Abort;
@@ -412,5 +412,34 @@ fn a_word_alone_asks_for_a_page(rt: HostRuntime) -> Result<(), Fail> {
     }
     assert!(rt; Page::Usage.text().starts_with(b"usage: emake -I IMAGE "));
     assert!(rt; Page::Version.text().starts_with(b"emake "));
+    Ok(())
+}
+
+/// What is read of the words of a sub-make.
+fn sub_read(alloc: Global, line: &[u8]) -> Result<Text, Fail> {
+    let words = words(alloc, line)?;
+    let given = read_sub_words(alloc, words.as_slice());
+    let mut out = Text::new(alloc);
+    show(alloc, &mut out, &given)?;
+    Ok(out)
+}
+
+static SUB_MAKES: [(&str, &str); 8] = [
+    ("x", " C:. goal:x"),
+    ("-C|d|x|A=b", " C:d goal:x set:A:b"),
+    ("-f|m|-ksiB", " f:m C:. k s i B"),
+    ("-j8|--no-print-directory", " C:."),
+    ("-n", " Unknown"),
+    ("\u{ff}|-C", " Unknown"),
+    ("-j|65|=x", " BadNumber:65"),
+    ("x|a:=c", " BadName:a:=c"),
+];
+
+#[test]
+fn words_of_sub_makes_are_read(rt: HostRuntime) -> Result<(), Fail> {
+    for (line, want) in &SUB_MAKES {
+        let read = sub_read(rt.alloc(), line.as_bytes())?;
+        assert!(rt; read.bytes() == want.as_bytes(), "at {line}");
+    }
     Ok(())
 }
