@@ -1,9 +1,9 @@
 -- What the index has for a name, after one use and after many, and what it tells of the rules.
 --     noted_name      a name with its uses put in the place of those before
 --     used_twice      a use noted twice is noted once
---     told_mentioned, told_numbers, told_recipe, told_phony      what all rules' uses of a name say
+--     told_mentioned, told_numbers, told_recipe, told_single, told_double, told_phony      what all rules' uses of a name say
 use Rattle.std.proofs.Common.{◌≡◌, ◌∙◌, refl, sym, ap, subst, ℕ, suc, zero, ◌+◌, ◌-◌, ◌<◌, ◌≤◌, ◌&&◌, ◌||◌, Bool, true, false, cond, List, [], ◌∷◌, ◌++◌, length, get_or, slice_get, Option, Some, None, arith, add-zero, zero-add, ltb, lt-ltb, eq-eqb, ne_eqb, length-append, append-nil, append_assoc}
-use Rattle.std.specs.Prelude.{codes, is_some}
+use Rattle.std.specs.Prelude.{codes, is_some, not}
 use Rattle.std.specs.Ordering.{eq_by_cmp}
 use Rattle.std.specs.FinMap.{get, insert, remove, get-remove}
 use Rattle.std.specs.Cmp.Lexicographic.{nat_list_cmp_total, bytes_decides}
@@ -15,7 +15,8 @@ use Rattle.em_rules.specs.declared.uses.Use.{Use}
 use Rattle.em_rules.specs.declared.uses.Use.TheVariants.{Target, Prerequisite}
 use Rattle.em_rules.specs.declared.uses.Uses.{Uses}
 use Rattle.em_rules.specs.Rules.{is_in, has_target, needs, mentions, numbers_from, recipe_from, is_mentioned, is_target, is_phony}
-use Rattle.em_rules.specs.Index.{Index, uses_or, is_number, pushed, changed, used, noted, uses_from, uses_of, Tells}
+use Rattle.em_rules.specs.Groups.{is_number, is_double_kind, is_double, is_single}
+use Rattle.em_rules.specs.Index.{Index, uses_or, pushed, changed, used, noted, uses_from, uses_of, Tells}
 
 -- ---- one use
 
@@ -38,15 +39,15 @@ pushed_twice xs i = by_cases (is_number i (slice_get xs (length xs - 1))) (λ b.
     (λ _ is. rw is refl)
     (λ _ _. rw (last_pushed i xs) refl) refl
 
+or_twice : (a b : Bool) → ((a || b) || b) ≡ (a || b)
+or_twice true b = refl
+or_twice false true = refl
+or_twice false false = refl
+
 changed_twice : (what : Use) (u : Uses) → changed what (changed what u) ≡ changed what u
-changed_twice (Target i true) u = ap (λ xs. let v : Uses = record { targets = xs; recipe = Some i; phony = u.phony } in v) (pushed_twice u.targets i)
-changed_twice (Target i false) u = ap (λ xs. let v : Uses = record { targets = xs; recipe = u.recipe; phony = u.phony } in v) (pushed_twice u.targets i)
-changed_twice (Prerequisite p) u = ap (λ b. let v : Uses = record { targets = u.targets; recipe = u.recipe; phony = b } in v) (or_twice u.phony p)
-  where
-    or_twice : (a b : Bool) → ((a || b) || b) ≡ (a || b)
-    or_twice true b = refl
-    or_twice false true = refl
-    or_twice false false = refl
+changed_twice (Target i true d) u = rw (pushed_twice u.targets i, or_twice u.single (not d), or_twice u.double d) refl
+changed_twice (Target i false d) u = rw (pushed_twice u.targets i, or_twice u.single (not d), or_twice u.double d) refl
+changed_twice (Prerequisite p) u = rw (or_twice u.phony p) refl
 
 pub used_twice : (a b : Bool) (what : Use) (o : Option Uses) → used a what (used b what o) ≡ used (b || a) what o
 used_twice true true what o = ap Some (changed_twice what (uses_or o))
@@ -61,6 +62,12 @@ numbers_in o = (uses_or o).targets
 
 abbrev pub recipe_in : Option Uses → Option ℕ
 recipe_in o = (uses_or o).recipe
+
+abbrev pub single_in : Option Uses → Bool
+single_in o = (uses_or o).single
+
+abbrev pub double_in : Option Uses → Bool
+double_in o = (uses_or o).double
 
 abbrev pub phony_in : Option Uses → Bool
 phony_in o = (uses_or o).phony
@@ -87,45 +94,45 @@ pushed_new : (n : ℕ) (xs : List ℕ) → Below n xs → pushed xs n ≡ xs ++ 
 pushed_new n xs h = rw (is_new n xs (length xs - 1) h) refl
 
 -- a name that is a target (a), a normal one (b) or an order-only prerequisite (c) of a rule
-abbrev pub three : (a b c p : Bool) → ℕ → Bool → Option Uses → Option Uses
-three a b c p i r o = used c (Prerequisite p) (used b (Prerequisite p) (used a (Target i r) o))
+abbrev pub three : (a b c p : Bool) → ℕ → (r d : Bool) → Option Uses → Option Uses
+three a b c p i r d o = used c (Prerequisite p) (used b (Prerequisite p) (used a (Target i r d) o))
 
-three_numbers : (a b c p : Bool) (i : ℕ) (r : Bool) (o : Option Uses) → numbers_in (three a b c p i r o) ≡ cond a (pushed (numbers_in o) i) (numbers_in o)
-three_numbers true true true p i r o = refl
-three_numbers true true false p i r o = refl
-three_numbers true false true p i r o = refl
-three_numbers true false false p i r o = refl
-three_numbers false true true p i r o = refl
-three_numbers false true false p i r o = refl
-three_numbers false false true p i r o = refl
-three_numbers false false false p i r o = refl
+three_numbers : (a b c p : Bool) (i : ℕ) (r d : Bool) (o : Option Uses) → numbers_in (three a b c p i r d o) ≡ cond a (pushed (numbers_in o) i) (numbers_in o)
+three_numbers true true true p i r d o = refl
+three_numbers true true false p i r d o = refl
+three_numbers true false true p i r d o = refl
+three_numbers true false false p i r d o = refl
+three_numbers false true true p i r d o = refl
+three_numbers false true false p i r d o = refl
+three_numbers false false true p i r d o = refl
+three_numbers false false false p i r d o = refl
 
-three_recipe : (a b c p : Bool) (i : ℕ) (r : Bool) (o : Option Uses) → recipe_in (three a b c p i r o) ≡ option_or (cond (a && r) (Some i) None) (recipe_in o)
-three_recipe true b c p i true o = with_recipe b c
+three_recipe : (a b c p : Bool) (i : ℕ) (r d : Bool) (o : Option Uses) → recipe_in (three a b c p i r d o) ≡ option_or (cond (a && r) (Some i) None) (recipe_in o)
+three_recipe true b c p i true d o = with_recipe b c
   where
-    with_recipe : (b c : Bool) → recipe_in (three true b c p i true o) ≡ Some i
+    with_recipe : (b c : Bool) → recipe_in (three true b c p i true d o) ≡ Some i
     with_recipe true true = refl
     with_recipe true false = refl
     with_recipe false true = refl
     with_recipe false false = refl
-three_recipe true b c p i false o = without b c
+three_recipe true b c p i false d o = without b c
   where
-    without : (b c : Bool) → recipe_in (three true b c p i false o) ≡ recipe_in o
+    without : (b c : Bool) → recipe_in (three true b c p i false d o) ≡ recipe_in o
     without true true = refl
     without true false = refl
     without false true = refl
     without false false = refl
-three_recipe false true true p i r o = refl
-three_recipe false true false p i r o = refl
-three_recipe false false true p i r o = refl
-three_recipe false false false p i r o = refl
+three_recipe false true true p i r d o = refl
+three_recipe false true false p i r d o = refl
+three_recipe false false true p i r d o = refl
+three_recipe false false false p i r d o = refl
 
 noted_numbers : (i : ℕ) (r : Rule) (q : List ℕ) (o : Option Uses) → Below i (numbers_in o) → numbers_in (noted i r q o) ≡ cond (has_target r q) (numbers_in o ++ i ∷ []) (numbers_in o)
-noted_numbers i r q o h = three_numbers (has_target r q) (is_in r.normal q) (is_in r.order q) (has_target r (codes ".PHONY")) i (is_some r.recipe) o
+noted_numbers i r q o h = three_numbers (has_target r q) (is_in r.normal q) (is_in r.order q) (has_target r (codes ".PHONY")) i (is_some r.recipe) (is_double_kind r.kind) o
     ∙ ap (λ xs. cond (has_target r q) xs (numbers_in o)) (pushed_new i (numbers_in o) h)
 
 noted_recipe : (i : ℕ) (r : Rule) (q : List ℕ) (o : Option Uses) → recipe_in (noted i r q o) ≡ option_or (cond (has_target r q && is_some r.recipe) (Some i) None) (recipe_in o)
-noted_recipe i r q o = three_recipe (has_target r q) (is_in r.normal q) (is_in r.order q) (has_target r (codes ".PHONY")) i (is_some r.recipe) o
+noted_recipe i r q o = three_recipe (has_target r q) (is_in r.normal q) (is_in r.order q) (has_target r (codes ".PHONY")) i (is_some r.recipe) (is_double_kind r.kind) o
 
 pub told_numbers : (i : ℕ) (rules : List Rule) (q : List ℕ) (o : Option Uses) → Below i (numbers_in o) → numbers_in (uses_from i rules q o) ≡ numbers_in o ++ numbers_from i rules q
 told_numbers i [] q o h = sym (append-nil (numbers_in o))
@@ -154,45 +161,45 @@ or_assoc : (a b c : Bool) → ((a || b) || c) ≡ (a || (b || c))
 or_assoc true b c = refl
 or_assoc false b c = refl
 
-three_some : (a b c p : Bool) (i : ℕ) (r : Bool) (o : Option Uses) → is_some (three a b c p i r o) ≡ (is_some o || (a || (b || c)))
-three_some a b c p i r (Some u) = by_cases c (λ c. is_some (three a b c p i r (Some u)) ≡ true) (λ _. refl)
-    (λ _. by_cases b (λ b. is_some (three a b false p i r (Some u)) ≡ true) (λ _. refl) (λ _. by_cases a (λ a. is_some (three a false false p i r (Some u)) ≡ true) (λ _. refl) (λ _. refl)))
-three_some true true true p i r None = refl
-three_some true true false p i r None = refl
-three_some true false true p i r None = refl
-three_some true false false p i r None = refl
-three_some false true true p i r None = refl
-three_some false true false p i r None = refl
-three_some false false true p i r None = refl
-three_some false false false p i r None = refl
+three_some : (a b c p : Bool) (i : ℕ) (r d : Bool) (o : Option Uses) → is_some (three a b c p i r d o) ≡ (is_some o || (a || (b || c)))
+three_some a b c p i r d (Some u) = by_cases c (λ c. is_some (three a b c p i r d (Some u)) ≡ true) (λ _. refl)
+    (λ _. by_cases b (λ b. is_some (three a b false p i r d (Some u)) ≡ true) (λ _. refl) (λ _. by_cases a (λ a. is_some (three a false false p i r d (Some u)) ≡ true) (λ _. refl) (λ _. refl)))
+three_some true true true p i r d None = refl
+three_some true true false p i r d None = refl
+three_some true false true p i r d None = refl
+three_some true false false p i r d None = refl
+three_some false true true p i r d None = refl
+three_some false true false p i r d None = refl
+three_some false false true p i r d None = refl
+three_some false false false p i r d None = refl
 
 noted_some : (i : ℕ) (r : Rule) (q : List ℕ) (o : Option Uses) → is_some (noted i r q o) ≡ (is_some o || mentions r q)
-noted_some i r q o = three_some (has_target r q) (is_in r.normal q) (is_in r.order q) (has_target r (codes ".PHONY")) i (is_some r.recipe) o
+noted_some i r q o = three_some (has_target r q) (is_in r.normal q) (is_in r.order q) (has_target r (codes ".PHONY")) i (is_some r.recipe) (is_double_kind r.kind) o
 
 pub told_mentioned : (i : ℕ) (rules : List Rule) (q : List ℕ) (o : Option Uses) → is_some (uses_from i rules q o) ≡ (is_some o || is_mentioned rules q)
 told_mentioned i [] q o = or_false (is_some o)
 told_mentioned i (r ∷ rules) q o = told_mentioned (i + 1) rules q (noted i r q o) ∙ ap (λ b. b || is_mentioned rules q) (noted_some i r q o) ∙ or_assoc (is_some o) (mentions r q) (is_mentioned rules q)
 
-three_phony : (a b c p : Bool) (i : ℕ) (r : Bool) (o : Option Uses) → phony_in (three a b c p i r o) ≡ (phony_in o || (p && (b || c)))
-three_phony a true true p i r o = by_cases a (λ a. phony_in (three a true true p i r o) ≡ (phony_in o || (p && true))) (λ _. twice (phony_in o) p) (λ _. twice (phony_in o) p)
+three_phony : (a b c p : Bool) (i : ℕ) (r d : Bool) (o : Option Uses) → phony_in (three a b c p i r d o) ≡ (phony_in o || (p && (b || c)))
+three_phony a true true p i r d o = by_cases a (λ a. phony_in (three a true true p i r d o) ≡ (phony_in o || (p && true))) (λ _. twice (phony_in o) p) (λ _. twice (phony_in o) p)
   where
     twice : (x p : Bool) → ((x || p) || p) ≡ (x || (p && true))
     twice true p = refl
     twice false true = refl
     twice false false = refl
-three_phony a true false p i r o = by_cases a (λ a. phony_in (three a true false p i r o) ≡ (phony_in o || (p && true))) (λ _. once (phony_in o) p) (λ _. once (phony_in o) p)
+three_phony a true false p i r d o = by_cases a (λ a. phony_in (three a true false p i r d o) ≡ (phony_in o || (p && true))) (λ _. once (phony_in o) p) (λ _. once (phony_in o) p)
   where
     once : (x p : Bool) → (x || p) ≡ (x || (p && true))
     once true p = refl
     once false true = refl
     once false false = refl
-three_phony a false true p i r o = by_cases a (λ a. phony_in (three a false true p i r o) ≡ (phony_in o || (p && true))) (λ _. once (phony_in o) p) (λ _. once (phony_in o) p)
+three_phony a false true p i r d o = by_cases a (λ a. phony_in (three a false true p i r d o) ≡ (phony_in o || (p && true))) (λ _. once (phony_in o) p) (λ _. once (phony_in o) p)
   where
     once : (x p : Bool) → (x || p) ≡ (x || (p && true))
     once true p = refl
     once false true = refl
     once false false = refl
-three_phony a false false p i r o = by_cases a (λ a. phony_in (three a false false p i r o) ≡ (phony_in o || (p && false))) (λ _. none (phony_in o) p) (λ _. none (phony_in o) p)
+three_phony a false false p i r d o = by_cases a (λ a. phony_in (three a false false p i r d o) ≡ (phony_in o || (p && false))) (λ _. none (phony_in o) p) (λ _. none (phony_in o) p)
   where
     none : (x p : Bool) → x ≡ (x || (p && false))
     none true p = refl
@@ -200,11 +207,38 @@ three_phony a false false p i r o = by_cases a (λ a. phony_in (three a false fa
     none false false = refl
 
 noted_phony : (i : ℕ) (r : Rule) (q : List ℕ) (o : Option Uses) → phony_in (noted i r q o) ≡ (phony_in o || (has_target r (codes ".PHONY") && needs r q))
-noted_phony i r q o = three_phony (has_target r q) (is_in r.normal q) (is_in r.order q) (has_target r (codes ".PHONY")) i (is_some r.recipe) o
+noted_phony i r q o = three_phony (has_target r q) (is_in r.normal q) (is_in r.order q) (has_target r (codes ".PHONY")) i (is_some r.recipe) (is_double_kind r.kind) o
 
 pub told_phony : (i : ℕ) (rules : List Rule) (q : List ℕ) (o : Option Uses) → phony_in (uses_from i rules q o) ≡ (phony_in o || is_phony rules q)
 told_phony i [] q o = or_false (phony_in o)
 told_phony i (r ∷ rules) q o = told_phony (i + 1) rules q (noted i r q o) ∙ ap (λ b. b || is_phony rules q) (noted_phony i r q o) ∙ or_assoc (phony_in o) (has_target r (codes ".PHONY") && needs r q) (is_phony rules q)
+
+-- what each target adds to a test of all uses, and nothing else
+three_single : (a b c p : Bool) (i : ℕ) (r d : Bool) (o : Option Uses) → single_in (three a b c p i r d o) ≡ (single_in o || (a && not d))
+three_single a true true p i r d o = by_cases a (λ a. single_in (three a true true p i r d o) ≡ (single_in o || (a && not d))) (λ _. refl) (λ _. or_false (single_in o))
+three_single a true false p i r d o = by_cases a (λ a. single_in (three a true false p i r d o) ≡ (single_in o || (a && not d))) (λ _. refl) (λ _. or_false (single_in o))
+three_single a false true p i r d o = by_cases a (λ a. single_in (three a false true p i r d o) ≡ (single_in o || (a && not d))) (λ _. refl) (λ _. or_false (single_in o))
+three_single a false false p i r d o = by_cases a (λ a. single_in (three a false false p i r d o) ≡ (single_in o || (a && not d))) (λ _. refl) (λ _. or_false (single_in o))
+
+three_double : (a b c p : Bool) (i : ℕ) (r d : Bool) (o : Option Uses) → double_in (three a b c p i r d o) ≡ (double_in o || (a && d))
+three_double a true true p i r d o = by_cases a (λ a. double_in (three a true true p i r d o) ≡ (double_in o || (a && d))) (λ _. refl) (λ _. or_false (double_in o))
+three_double a true false p i r d o = by_cases a (λ a. double_in (three a true false p i r d o) ≡ (double_in o || (a && d))) (λ _. refl) (λ _. or_false (double_in o))
+three_double a false true p i r d o = by_cases a (λ a. double_in (three a false true p i r d o) ≡ (double_in o || (a && d))) (λ _. refl) (λ _. or_false (double_in o))
+three_double a false false p i r d o = by_cases a (λ a. double_in (three a false false p i r d o) ≡ (double_in o || (a && d))) (λ _. refl) (λ _. or_false (double_in o))
+
+noted_single : (i : ℕ) (r : Rule) (q : List ℕ) (o : Option Uses) → single_in (noted i r q o) ≡ (single_in o || (has_target r q && not (is_double_kind r.kind)))
+noted_single i r q o = three_single (has_target r q) (is_in r.normal q) (is_in r.order q) (has_target r (codes ".PHONY")) i (is_some r.recipe) (is_double_kind r.kind) o
+
+pub told_single : (i : ℕ) (rules : List Rule) (q : List ℕ) (o : Option Uses) → single_in (uses_from i rules q o) ≡ (single_in o || is_single rules q)
+told_single i [] q o = or_false (single_in o)
+told_single i (r ∷ rules) q o = told_single (i + 1) rules q (noted i r q o) ∙ ap (λ b. b || is_single rules q) (noted_single i r q o) ∙ or_assoc (single_in o) (has_target r q && not (is_double_kind r.kind)) (is_single rules q)
+
+noted_double : (i : ℕ) (r : Rule) (q : List ℕ) (o : Option Uses) → double_in (noted i r q o) ≡ (double_in o || (has_target r q && is_double_kind r.kind))
+noted_double i r q o = three_double (has_target r q) (is_in r.normal q) (is_in r.order q) (has_target r (codes ".PHONY")) i (is_some r.recipe) (is_double_kind r.kind) o
+
+pub told_double : (i : ℕ) (rules : List Rule) (q : List ℕ) (o : Option Uses) → double_in (uses_from i rules q o) ≡ (double_in o || is_double rules q)
+told_double i [] q o = or_false (double_in o)
+told_double i (r ∷ rules) q o = told_double (i + 1) rules q (noted i r q o) ∙ ap (λ b. b || is_double rules q) (noted_double i r q o) ∙ or_assoc (double_in o) (has_target r q && is_double_kind r.kind) (is_double rules q)
 
 pub option_or-None : (o : Option ℕ) → option_or o None ≡ o
 option_or-None None = refl

@@ -1,3 +1,4 @@
 pub mod Indexing
 pub mod Lawful
+pub mod Told
 pub mod Undotting

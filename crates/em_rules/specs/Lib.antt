@@ -3,6 +3,7 @@ pub use Rattle.em_wordlist.specs.Stems
 pub use Rattle.em_vars.specs.Entries
 pub mod Dots
 pub mod Rules
+pub mod Groups
 pub mod Static
 pub mod Books
 pub mod Index

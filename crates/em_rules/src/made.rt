@@ -1,12 +1,12 @@
 //! What a rule comes to: its names as they are known, and a rule for each target of a static
 //! pattern rule.
-ghost use Rattle.std.specs.Prelude.{◌≡◌, ◌<◌, map, length, slice_get, is_none, Some, None, option_map, MatchOption, IfOk};
+ghost use Rattle.std.specs.Prelude.{◌≡◌, ◌<◌, ◌++◌, ◌∷◌, [], map, length, slice_get, is_none, Some, None, option_map, MatchOption, IfOk, OnOk};
 ghost use Rattle.em_wordlist.specs.Stems.{stem_of};
 ghost use Rattle.em_rules.specs.Dots.{undotted};
 ghost use Rattle.em_rules.specs.Static as static;
 
 use crate::dots::{undot, undotted};
-use crate::rule::{RecipeLine, Rule};
+use crate::rule::{RecipeLine, Rule, RuleKind};
 use em_base::{NoMemory, Seq, Text};
 use em_wordlist::{fill, stem};
 use std::alloc::Global;
@@ -40,6 +40,7 @@ pub fn undotted_rule(alloc: Global, r: Rule) -> Result<Rule, NoMemory>
 {
     let Rule {
         targets,
+        kind,
         pattern,
         form,
         normal,
@@ -49,6 +50,7 @@ pub fn undotted_rule(alloc: Global, r: Rule) -> Result<Rule, NoMemory>
     } = r;
     Ok(Rule {
         targets: undotted_all(alloc, targets)?,
+        kind,
         pattern,
         form: undotted_form(form),
         normal: undotted_all(alloc, normal)?,
@@ -105,15 +107,28 @@ pub(crate) fn into_target(r: Rule, at: usize) -> Text
     undot(targets.swap_remove(at))
 }
 
+/// Appends the names that the patterns are with this stem, as they are known.
+fn add_made(
+    alloc: Global,
+    names: &mut Seq<Text>,
+    stem: &[u8],
+    patterns: &[Text],
+) -> Result<(), NoMemory>
+    ensures { OnOk result (names.new ≡ names.old ++ static.made stem.now patterns.now) }
+{
+    for pattern in patterns {
+        let name = fill(alloc, pattern.bytes(), stem)?;
+        names.push(Text::from_slice(alloc, undotted(name.bytes()))?)?;
+    }
+    Ok(())
+}
+
 /// The names that the patterns are with this stem, as they are known.
 fn made(alloc: Global, stem: &[u8], patterns: &[Text]) -> Result<Seq<Text>, NoMemory>
     ensures { IfOk result (λ s. s ≡ static.made stem.now patterns.now) }
 {
     let mut names = Seq::new(alloc);
-    for pattern in patterns {
-        let name = fill(alloc, pattern.bytes(), stem)?;
-        names.push(Text::from_slice(alloc, undotted(name.bytes()))?)?;
-    }
+    add_made(alloc, &mut names, stem, patterns)?;
     Ok(names)
 }
 
@@ -126,6 +141,7 @@ fn rule_for(alloc: Global, rule: &Rule, target: &Text) -> Result<Rule, NoMemory>
     let stem = rule.stem(target.bytes());
     Ok(Rule {
         targets,
+        kind: rule.kind,
         pattern: rule.pattern,
         form: copied_form(alloc, &rule.form)?,
         normal: made(alloc, stem, rule.normal.items())?,
@@ -167,15 +183,83 @@ fn rules_for(alloc: Global, rule: &Rule) -> Result<Vec<Rule>, NoMemory>
     Ok(rules)
 }
 
-/// The explicit rules that a rule comes to: one for each target of a static pattern rule, else the
-/// rule itself.
-pub(crate) fn explicit(alloc: Global, rule: Rule) -> Result<Vec<Rule>, NoMemory>
-    ensures { IfOk result (λ v. v.items ≡ static.explicit rule) }
+/// What each target makes of the patterns, in a row.
+fn in_row(alloc: Global, rule: &Rule, patterns: &[Text]) -> Result<Seq<Text>, NoMemory>
+    ensures { IfOk result (λ s. s ≡ static.in_row rule.now patterns.now) }
 {
-    if rule.form.is_some() {
-        return rules_for(alloc, &rule);
+    let mut row = Seq::new(alloc);
+    for target in rule.targets.items() {
+        add_made(alloc, &mut row, rule.stem(target.bytes()), patterns)?;
     }
+    Ok(row)
+}
+
+/// A grouped static pattern rule, with the prerequisites of its targets in a row.
+fn rule_for_all(alloc: Global, rule: Rule) -> Result<Rule, NoMemory>
+    ensures { IfOk result (λ r. r ≡ static.rule_for_all rule) }
+{
+    let normal = in_row(alloc, &rule, rule.normal.items())?;
+    let order = in_row(alloc, &rule, rule.order.items())?;
+    Ok(Rule {
+        targets: rule.targets,
+        kind: rule.kind,
+        pattern: rule.pattern,
+        form: rule.form,
+        normal,
+        order,
+        recipe: rule.recipe,
+        place: rule.place,
+    })
+}
+
+/// The same rule for one of its targets.
+fn alone(alloc: Global, rule: &Rule, target: &Text) -> Result<Rule, NoMemory>
+    ensures { IfOk result (λ r. r ≡ static.alone rule.now target.now) }
+{
+    let mut targets = Seq::new(alloc);
+    targets.push(target.copy(alloc)?)?;
+    Ok(Rule {
+        targets,
+        kind: rule.kind,
+        pattern: rule.pattern,
+        form: copied_form(alloc, &rule.form)?,
+        normal: rule.normal.copy(alloc)?,
+        order: rule.order.copy(alloc)?,
+        recipe: copied_recipe(alloc, &rule.recipe)?,
+        place: rule.place.copy(alloc)?,
+    })
+}
+
+/// The same rule for each of its targets.
+fn each_alone(alloc: Global, rule: &Rule) -> Result<Vec<Rule>, NoMemory>
+    ensures { IfOk result (λ v. v.items ≡ map (static.alone rule.now) rule.now.targets) }
+{
+    let mut rules = Vec::new(alloc);
+    for target in rule.targets.items() {
+        rules.push(alone(alloc, rule, target)?)?;
+    }
+    Ok(rules)
+}
+
+/// One rule.
+fn one(alloc: Global, rule: Rule) -> Result<Vec<Rule>, NoMemory>
+    ensures { IfOk result (λ v. v.items ≡ rule ∷ []) }
+{
     let mut rules = Vec::new(alloc);
     rules.push(rule)?;
     Ok(rules)
+}
+
+/// The explicit rules that a rule comes to: one for each target of a static pattern rule and of a
+/// double-colon rule, else the rule itself. A grouped static pattern rule stays one, with the
+/// prerequisites of its targets in a row.
+pub(crate) fn explicit(alloc: Global, rule: Rule) -> Result<Vec<Rule>, NoMemory>
+    ensures { IfOk result (λ v. v.items ≡ static.explicit rule) }
+{
+    match (rule.form.is_some(), rule.kind) {
+        (true, RuleKind::Grouped) => one(alloc, rule_for_all(alloc, rule)?),
+        (true, _) => rules_for(alloc, &rule),
+        (false, RuleKind::Double) => each_alone(alloc, &rule),
+        (false, _) => one(alloc, rule),
+    }
 }

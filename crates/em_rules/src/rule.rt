@@ -1,7 +1,9 @@
 //! One rule.
-ghost use Rattle.std.specs.Prelude.{◌≡◌, IfOk};
+ghost use Rattle.std.specs.Prelude.{◌≡◌, ◌≤◌, length, IfOk};
 ghost use Rattle.em_rules.specs.Rules.{is_in, has_target, needs};
 ghost use Rattle.em_rules.specs.Static.{stem_in, stem_text};
+ghost use Rattle.em_rules.specs.Groups as groups;
+ghost use Rattle.em_rules.specs.Groups.{is_double_kind, is_grouped_kind};
 
 use em_base::{NoMemory, Place, Seq, Text, TryClone};
 use em_wordlist::stem;
@@ -32,10 +34,39 @@ impl TryClone for RecipeLine {
     }
 }
 
+/// What a rule's targets have to do with one another, by the colon that it is written with.
+#[derive(Clone, Copy, Debug, PartialEq, Eq)]
+pub enum RuleKind {
+    /// `:`, each target is made by itself. A pattern rule with several targets makes all of them
+    /// together nonetheless.
+    Ordinary,
+    /// `&:`, one run of the recipe makes all targets.
+    Grouped,
+    /// `::`, each target is made by this rule and by each other one of this kind for it.
+    Double,
+}
+
+impl RuleKind {
+    /// `::`
+    pub fn is_double(self) -> bool
+        ensures { result ≡ is_double_kind self }
+    {
+        self == RuleKind::Double
+    }
+
+    /// `&:`
+    pub fn is_grouped(self) -> bool
+        ensures { result ≡ is_grouped_kind self }
+    {
+        self == RuleKind::Grouped
+    }
+}
+
 /// A rule: how its targets are remade from its prerequisites.
 #[derive(Debug, Drop)]
 pub struct Rule {
     pub targets: Seq<Text>,
+    pub kind: RuleKind,
     /// Whether it is a pattern rule: then targets and prerequisites are patterns, whose `%` stands
     /// for a stem.
     pub pattern: bool,
@@ -82,6 +113,58 @@ impl Rule {
             None => &[],
         }
     }
+
+    /// The normal prerequisites that the rule gives this target: those of its own in a grouped
+    /// static pattern rule of a book, else all. Steps for each target.
+    pub fn normal_for(&self, target: &[u8]) -> &[Text]
+        ensures { result.now ≡ groups.normal_for self.now target.now }
+    {
+        own_part(self, self.normal.items(), target)
+    }
+
+    /// The order-only prerequisites that the rule gives this target. Steps for each target.
+    pub fn order_for(&self, target: &[u8]) -> &[Text]
+        ensures { result.now ≡ groups.order_for self.now target.now }
+    {
+        own_part(self, self.order.items(), target)
+    }
+}
+
+/// Where the name stands among the targets; behind them where it doesn't.
+fn place_among(targets: &[Text], name: &[u8]) -> usize
+    ensures place { result ≡ groups.place_from 0 targets.now name.now }
+    ensures within { result ≤ length targets.now }
+{
+    for (i, target) in targets.iter().enumerate() {
+        if target.bytes() == name {
+            return i;
+        }
+    }
+    targets.len()
+}
+
+/// The part of this number of so many equal parts.
+fn part(count: usize, number: usize, names: &[Text]) -> &[Text]
+    requires { number ≤ count }
+    ensures { result.now ≡ groups.part count number names.now }
+{
+    if count == 0 {
+        return &[];
+    }
+    let size = names.len() / count;
+    let start = number * size;
+    &names[start..][..size.min(names.len() - start)]
+}
+
+/// Of the names that stand in a row for the targets those of this one.
+fn own_part<'a>(rule: &'a Rule, names: &'a [Text], target: &[u8]) -> &'a [Text]
+    ensures { result.now ≡ groups.own_part rule.now names.now target.now }
+{
+    if rule.kind.is_grouped() && rule.form.is_some() {
+        let targets = rule.targets.items();
+        return part(targets.len(), place_among(targets, target), names);
+    }
+    names
 }
 
 /// What the word has for the `%` of a pattern; nothing where it doesn't match.

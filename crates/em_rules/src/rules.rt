@@ -1,6 +1,9 @@
 //! Rules in order, found by name.
-ghost use Rattle.std.specs.Prelude.{◌≡◌, ◌==◌, ◌++◌, [], length, slice_get, option_copied, IfOk, OnOk, OnErr};
+ghost use Rattle.std.specs.Prelude.{◌≡◌, ◌==◌, ◌++◌, ◌∷◌, ◌&&◌, ◌||◌, [], ℕ, List, length, filter, slice_get, option_copied, is_some, IfOk, OnOk, OnErr, if◌then◌else◌};
+ghost use Rattle.std.specs.FinMap as table;
+ghost use Rattle.std.specs.Str.{bytes_eq};
 ghost use Rattle.em_rules.specs.Rules.{numbers_of, recipe_rule, is_mentioned, is_phony, is_target, prerequisites_of};
+ghost use Rattle.em_rules.specs.Groups.{is_double, is_single, is_made_by, each_once, members_at};
 
 use crate::rule::Rule;
 use crate::uses::{self, Uses, with_rules};
@@ -138,6 +141,91 @@ impl Rules {
         match &self.index {
             Some(index) => uses::is_target(index, name),
             None => walk::is_target(self.held.as_slice(), name),
+        }
+    }
+
+    /// Whether there is a double-colon rule for the name. One search.
+    pub fn is_double(&self, name: &[u8]) -> bool
+        ensures { result ≡ is_double self.now name.now }
+    {
+        match &self.index {
+            Some(index) => uses::is_double(index, name),
+            None => walk::is_double(self.held.as_slice(), name),
+        }
+    }
+
+    /// Whether there is a rule for the name that is no double-colon rule. One search.
+    pub fn is_single(&self, name: &[u8]) -> bool
+        ensures { result ≡ is_single self.now name.now }
+    {
+        match &self.index {
+            Some(index) => uses::is_single(index, name),
+            None => walk::is_single(self.held.as_slice(), name),
+        }
+    }
+
+    /// Whether the name has its recipe from the rule of this number.
+    fn is_made_by(&self, number: usize, name: &[u8]) -> bool
+        ensures { result ≡ is_made_by self.now number name.now }
+    {
+        match self.recipe_rule(name) {
+            Some(rule) => number == rule,
+            None => false,
+        }
+    }
+
+    /// Appends the target, where it has its recipe from the rule of this number and wasn't among
+    /// the members yet; `told` has those that were.
+    fn add_member(
+        &self,
+        alloc: Global,
+        members: &mut Seq<Text>,
+        told: &mut Table<()>,
+        number: usize,
+        target: &Text,
+    ) -> Result<(), NoMemory>
+        ensures members { OnOk result (members.new ≡ members.old
+            ++ (if is_some (table.get told.old target.now) then []
+            else if is_made_by self.now number target.now then target.now ∷ [] else [])) }
+        ensures told { OnOk result ((q : List ℕ) → is_some (table.get told.new q)
+            ≡ (is_some (table.get told.old q)
+            || (bytes_eq target.now q && is_made_by self.now number q))) }
+    {
+        if told.get(target.bytes()).is_some() || !self.is_made_by(number, target.bytes()) {
+            return Ok(());
+        }
+        members.push(target.copy(alloc)?)?;
+        told.insert(target.copy(alloc)?, ())?;
+        Ok(())
+    }
+
+    /// Those of the targets that have their recipe from the rule of this number, each once.
+    fn members_among(
+        &self,
+        alloc: Global,
+        number: usize,
+        targets: &[Text],
+    ) -> Result<Seq<Text>, NoMemory>
+        ensures { IfOk result
+            (λ s. s ≡ filter (is_made_by self.now number) (each_once targets.now)) }
+    {
+        let mut members = Seq::new(alloc);
+        let mut told = Table::new(alloc);
+        for target in targets {
+            self.add_member(alloc, &mut members, &mut told, number, target)?;
+        }
+        Ok(members)
+    }
+
+    /// The targets of the rule of this number, each once, but for those that another rule has the
+    /// recipe of: a later rule with a recipe takes its targets out of a group. None where there is
+    /// no such rule. Two searches for each target, and a copy of each.
+    pub fn members(&self, alloc: Global, number: usize) -> Result<Seq<Text>, NoMemory>
+        ensures { IfOk result (λ s. s ≡ members_at self.now number) }
+    {
+        match self.held.get(number) {
+            Some(rule) => self.members_among(alloc, number, rule.targets.items()),
+            None => Ok(Seq::new(alloc)),
         }
     }
 

@@ -4,8 +4,9 @@ ghost use Rattle.std.specs.Option.{ForSome};
 ghost use Rattle.em_rules.specs.declared.rule.Rule.{Rule as RuleData};
 ghost use Rattle.std.specs.FinMap as table;
 ghost use Rattle.std.specs.Str.{bytes_eq};
-ghost use Rattle.em_rules.specs.Index.{no_uses, uses_or, is_number, pushed, changed, used, noted, uses_from, Tells};
+ghost use Rattle.em_rules.specs.Index.{no_uses, uses_or, pushed, changed, used, noted, uses_from, Tells};
 ghost use Rattle.em_rules.specs.Rules.{is_in};
+ghost use Rattle.em_rules.specs.Groups.{is_number};
 
 use crate::rule::Rule;
 use em_base::{NoMemory, Seq, Table, Text};
@@ -14,10 +15,17 @@ use std::alloc::Global;
 /// What a rule uses a name for.
 #[derive(Clone, Copy, Debug)]
 pub(crate) enum Use {
-    /// As a target: the rule's number, and whether it has a recipe.
-    Target { rule: usize, recipe: bool },
+    /// As a target: the rule's number, whether it has a recipe, and whether it is a double-colon
+    /// rule.
+    Target {
+        rule: usize,
+        recipe: bool,
+        double: bool,
+    },
     /// As a prerequisite, and whether of `.PHONY`.
-    Prerequisite { phony: bool },
+    Prerequisite {
+        phony: bool,
+    },
 }
 
 /// What the rules use a name for.
@@ -27,6 +35,10 @@ pub(crate) struct Uses {
     pub targets: Seq<usize>,
     /// The number of the last of them with a recipe.
     pub recipe: Option<usize>,
+    /// Whether one of them is no double-colon rule.
+    pub single: bool,
+    /// Whether one of them is a double-colon rule.
+    pub double: bool,
     /// Whether it is a prerequisite of `.PHONY`.
     pub phony: bool,
 }
@@ -39,6 +51,8 @@ impl Uses {
         Uses {
             targets: Seq::new(alloc),
             recipe: None,
+            single: false,
+            double: false,
             phony: false,
         }
     }
@@ -50,20 +64,27 @@ impl Uses {
         let Uses {
             targets,
             recipe,
+            single,
+            double,
             phony,
         } = self;
         Ok(match new {
             Use::Target {
                 rule,
                 recipe: has_recipe,
+                double: is_double,
             } => Uses {
                 targets: pushed(targets, rule)?,
                 recipe: if has_recipe { Some(rule) } else { recipe },
+                single: single || !is_double,
+                double: double || is_double,
                 phony,
             },
             Use::Prerequisite { phony: is_phony } => Uses {
                 targets,
                 recipe,
+                single,
+                double,
                 phony: phony || is_phony,
             },
         })
@@ -142,6 +163,7 @@ fn note_rule(
     let target = Use::Target {
         rule: number,
         recipe: rule.recipe.is_some(),
+        double: rule.kind.is_double(),
     };
     note_names(alloc, index, rule.targets.items(), target)?;
     note_names(alloc, index, rule.normal.items(), prerequisite)?;
@@ -216,6 +238,26 @@ pub(crate) fn is_target(index: &Table<Uses>, name: &[u8]) -> bool
 {
     match index.get(name) {
         Some(uses) => 0 < uses.targets.len(),
+        None => false,
+    }
+}
+
+/// Whether there is a double-colon rule for the name.
+pub(crate) fn is_double(index: &Table<Uses>, name: &[u8]) -> bool
+    ensures { result ≡ (uses_or (table.get index.now name.now)).double }
+{
+    match index.get(name) {
+        Some(uses) => uses.double,
+        None => false,
+    }
+}
+
+/// Whether there is a rule for the name that is no double-colon rule.
+pub(crate) fn is_single(index: &Table<Uses>, name: &[u8]) -> bool
+    ensures { result ≡ (uses_or (table.get index.now name.now)).single }
+{
+    match index.get(name) {
+        Some(uses) => uses.single,
         None => false,
     }
 }

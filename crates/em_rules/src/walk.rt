@@ -2,6 +2,7 @@
 ghost use Rattle.std.specs.Prelude.{◌≡◌, ◌++◌, ◌∷◌, ◌&&◌, [], length, is_some, Some, None, IfOk, OnOk, if◌then◌else◌};
 ghost use Rattle.std.specs.List.{flat_map};
 ghost use Rattle.em_rules.specs.Rules.{has_target, numbers_of, recipe_rule, is_mentioned, is_target, is_phony, prerequisites_at};
+ghost use Rattle.em_rules.specs.Groups.{is_double, is_single};
 
 use crate::rule::Rule;
 use em_base::{NoMemory, Seq, Text};
@@ -71,6 +72,24 @@ pub(crate) fn is_target(rules: &[Rule], name: &[u8]) -> bool
     ensures { result ≡ is_target rules.now name.now }
 {
     rules.iter().any(|rule| rule.has_target(name))
+}
+
+/// Whether there is a double-colon rule for the name.
+pub(crate) fn is_double(rules: &[Rule], name: &[u8]) -> bool
+    ensures { result ≡ is_double rules.now name.now }
+{
+    rules
+        .iter()
+        .any(|rule| rule.has_target(name) && rule.kind.is_double())
+}
+
+/// Whether there is a rule for the name that is no double-colon rule.
+pub(crate) fn is_single(rules: &[Rule], name: &[u8]) -> bool
+    ensures { result ≡ is_single rules.now name.now }
+{
+    rules
+        .iter()
+        .any(|rule| rule.has_target(name) && !rule.kind.is_double())
 }
 
 /// Whether the name is a prerequisite of `.PHONY`.
