@@ -77,13 +77,14 @@ first_line p text = record { place = p; text = text }
 abbrev pub recipe_of : Place → Option (List ℕ) → Option (List RecipeLine)
 recipe_of p recipe = option_map (λ t. first_line p t ∷ []) recipe
 
-abbrev pub rule_of : Place → RuleLine → Option (List ℕ) → List (List ℕ) → List (List ℕ) → List (List ℕ) → Rule
-rule_of p l form targets normal order = record {
-  targets = targets;
-  pattern = is_pattern_rule form targets;
-  form = form;
-  normal = normal;
-  order = order;
+abbrev pub rule_of : Place → RuleLine → Head → Rule
+rule_of p l h = record {
+  targets = h.targets;
+  kind = h.kind;
+  pattern = is_pattern_rule h.form h.targets;
+  form = h.form;
+  normal = h.normal;
+  order = h.order;
   recipe = recipe_of p l.recipe;
   place = p;
 }
@@ -93,7 +94,7 @@ rule_with p l h = do
   targets ← matched p [] h.targets
   normal ← matched p [] h.normal
   order ← matched p [] h.order
-  own (begin_rule (rule_of p l h.form targets normal order))
+  own (begin_rule (rule_of p l (record h { targets = targets; normal = normal; order = order })))
 
 abbrev pub is_nothing : List ℕ → Option (List ℕ) → Bool
 is_nothing text recipe = is_empty text && is_none recipe

@@ -32,7 +32,7 @@ use Rattle.em_reading.specs.declared.reading.Reading.{Reading}
 use Rattle.em_reading.specs.declared.noted.Noted.{Noted}
 use Rattle.em_reading.specs.Faults.{at_place}
 use Rattle.em_reading.specs.Start.{start, start_vars, set_goal}
-use Rattle.em_reading.specs.Changes.{Change, good, opens, nothing_noted, close_rule, end_conditionals}
+use Rattle.em_reading.specs.Changes.{Change, good, opens, nothing_noted, end_rule, end_conditionals}
 use Rattle.em_reader.specs.Hearing.{Reads, heard}
 use Rattle.em_reader.specs.Acting.{unless_refused}
 use Rattle.em_reader.specs.Reading.{read_text, content_of}
@@ -119,7 +119,7 @@ unfoldable pub read_all : Option (List ℕ) → Reads (Unit {0})
 read_all name = do
   m ← makefile_of name
   u ← read_makefile m
-  v ← own close_rule
+  v ← own end_rule
   w ← own end_conditionals
   default_goal (place_of m)
 

@@ -162,19 +162,19 @@ fn recipe_of(
     Ok(Some(lines))
 }
 
-/// The rule of a line.
-fn rule_of(
-    alloc: Global,
-    place: &Place,
-    line: &RuleLine,
-    form: Option<Text>,
-    targets: Seq<Text>,
-    normal: Seq<Text>,
-    order: Seq<Text>,
-) -> Result<Rule, NoMemory>
-    ensures { IfOk result (λ r. r ≡ rule_of place.now line.now form targets normal order) }
+/// The rule of a line with this head.
+fn rule_of(alloc: Global, place: &Place, line: &RuleLine, head: Head) -> Result<Rule, NoMemory>
+    ensures { IfOk result (λ r. r ≡ rule_of place.now line.now head) }
 {
+    let Head {
+        kind,
+        targets,
+        form,
+        normal,
+        order,
+    } = head;
     Ok(Rule {
+        kind,
         pattern: is_pattern_rule(&form, targets.items()),
         targets,
         form,
@@ -200,7 +200,14 @@ fn rule_with<V: View>(
     let targets = matched(alloc, desk, reading, place, head.targets.items())?;
     let normal = matched(alloc, desk, reading, place, head.normal.items())?;
     let order = matched(alloc, desk, reading, place, head.order.items())?;
-    let rule = rule_of(alloc, place, line, head.form, targets, normal, order)?;
+    let head = Head {
+        kind: head.kind,
+        targets,
+        form: head.form,
+        normal,
+        order,
+    };
+    let rule = rule_of(alloc, place, line, head)?;
     reading.begin_rule(alloc, rule)
 }
 

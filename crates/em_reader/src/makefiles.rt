@@ -154,7 +154,7 @@ fn read_all<V: View>(
 {
     let makefile = makefile_of(alloc, desk, reading, name)?;
     read_makefile(alloc, desk, reading, &makefile)?;
-    reading.close_rule(alloc)?;
+    reading.end_rule(alloc)?;
     reading.end_conditionals(alloc)?;
     let place = place_of(alloc, &makefile)?;
     default_goal(alloc, desk, reading, &place)
@@ -210,6 +210,7 @@ fn round_from<V: View>(
         nest: _,
         opened: _,
         begun: _,
+        around: _,
         define: _,
         spoken,
         noted,

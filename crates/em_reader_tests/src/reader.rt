@@ -213,6 +213,8 @@ fn fault_text(fault: &Fault) -> (&'static [u8], &[u8]) {
         Fault::Limit => (b"limit", b""),
         Fault::Rule(RuleNo::Recipe) => (b"recipe", b""),
         Fault::Rule(RuleNo::Static(name)) => (b"static ", name.bytes()),
+        Fault::Rule(RuleNo::Group(name)) => (b"group ", name.bytes()),
+        Fault::Rule(RuleNo::Mixed(name)) => (b"mixed ", name.bytes()),
     }
 }
 

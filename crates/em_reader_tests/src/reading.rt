@@ -293,6 +293,7 @@ fn act(alloc: Global, reading: &mut Reading, place: &Place, s: &Statement) -> Re
 fn rule_of(head: Head, place: Place) -> Rule {
     Rule {
         targets: head.targets,
+        kind: head.kind,
         pattern: false,
         form: head.form,
         normal: head.normal,

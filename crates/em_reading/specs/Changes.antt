@@ -1,5 +1,5 @@
 -- What a line does to what was read so far, without asking anything.
-use Rattle.std.specs.Prelude.{ℕ, ◌+◌, ◌-◌, ◌==◌, ◌&&◌, min, not, Bool, List, [], ◌∷◌, ◌++◌, length, take, fold, Option, Some, None, is_some, unwrap_or, Result, Ok, Err, codes, decimal, if◌then◌else◌}
+use Rattle.std.specs.Prelude.{ℕ, ◌+◌, ◌-◌, ◌==◌, ◌&&◌, min, nat_lt, not, Bool, true, false, List, [], ◌∷◌, ◌++◌, length, take, Option, Some, None, is_some, unwrap_or, Result, Ok, Err, codes, decimal, if◌then◌else◌}
 use Rattle.std.specs.List.{flat_map}
 use Rattle.std.specs.Str.{bytes_eq}
 use Rattle.em_base.specs.declared.place.Place.{Place}
@@ -12,22 +12,22 @@ use Rattle.em_rules.specs.declared.rule.Rule.{Rule}
 use Rattle.em_rules.specs.declared.rule.RecipeLine.{RecipeLine}
 use Rattle.em_rules.specs.declared.book.Book.{Book}
 use Rattle.em_rules.specs.declared.book.BookNo.{BookNo}
-use Rattle.em_rules.specs.declared.book.BookNo.TheVariants as book_no
-use Rattle.em_rules.specs.Rules.{is_in, recipe_rule}
-use Rattle.em_rules.specs.Static.{undotted_rule, unmatched}
-use Rattle.em_rules.specs.Books.{fault_of, added}
+use Rattle.em_rules.specs.Rules.{recipe_rule}
+use Rattle.em_rules.specs.Groups.{is_double_kind, each_once}
+use Rattle.em_rules.specs.Static.{undotted_rule}
+use Rattle.em_rules.specs.Books.{line_fault, group_fault, fault_of, added}
 use Rattle.em_vars.specs.Entries.{Entries}
 use Rattle.em_statement.specs.declared.assignment.Assignment.{Assignment}
 use Rattle.em_statement.specs.Split.{first_word}
 use Rattle.em_reading.specs.declared.no.Fault.{Fault}
 use Rattle.em_reading.specs.declared.no.Fault.TheVariants as fault
-use Rattle.em_reading.specs.declared.no.RuleNo.TheVariants.{Recipe, Static}
+use Rattle.em_reading.specs.declared.no.RuleNo.TheVariants.{Recipe}
 use Rattle.em_reading.specs.declared.no.ReadNo.{ReadNo}
 use Rattle.em_reading.specs.declared.reading.Reading.{Reading}
 use Rattle.em_reading.specs.declared.reading.Body.{Body}
 use Rattle.em_reading.specs.declared.noted.Noted.{Noted}
 use Rattle.em_reading.specs.declared.noted.Missing.{Missing}
-use Rattle.em_reading.specs.Faults.{at_place}
+use Rattle.em_reading.specs.Faults.{at_place, of_book}
 
 abbrev pub Changed : Type 0
 Changed = Result (Unit {0} × Reading) (ReadNo × Reading)
@@ -58,44 +58,35 @@ warning p target = p.file ++ 58 ∷ decimal p.line ++ codes ": warning: overridi
 abbrev pub warning_for : Book → Place → List ℕ → List ℕ
 warning_for b p target = if is_some (recipe_rule b.rules target) then warning p target else []
 
--- the names, and behind them the target, unless it is among them
-abbrev pub once_more : List (List ℕ) → List ℕ → List (List ℕ)
-once_more names target = if is_in names target then names else names ++ target ∷ []
-
--- the targets, each where it first stands
-abbrev pub each_once : List (List ℕ) → List (List ℕ)
-each_once targets = fold once_more [] targets
-
--- where the rule has a recipe, for each of its targets, once
+-- where the rule has a recipe, for each of its targets, once; double-colon rules stand beside one another
 abbrev pub warnings : Book → Rule → List ℕ
-warnings b rule = if is_some rule.recipe then flat_map (warning_for b rule.place) (each_once rule.targets) else []
+warnings b rule = if is_some rule.recipe && not (is_double_kind rule.kind) then flat_map (warning_for b rule.place) (each_once rule.targets) else []
 
 abbrev pub say : List ℕ → Reading → Reading
 say t r = record r { spoken = record r.spoken { said = r.spoken.said ++ t } }
 
-abbrev pub of_book : BookNo → Fault
-of_book (book_no.Static t) = fault.Rule (Static t)
-of_book book_no.NoMemory = fault.Limit
+abbrev pub refused_rule : Rule → BookNo → Change
+refused_rule rule e r = Err (of_book rule.place e, r)
 
 abbrev pub add_rule : Rule → Option BookNo → Change
 add_rule rule None r = good (record (say (warnings r.book rule) r) { book = added r.book rule })
-add_rule rule (Some e) r = bad rule.place (of_book e) (say (warnings r.book rule) r)
+add_rule rule (Some e) r = refused_rule rule e (say (warnings r.book rule) r)
 
 -- the rule whose recipe lines could follow is whole
 abbrev pub close_by : Option Rule → Change
 close_by None r = good r
-close_by (Some rule) r = add_rule rule (fault_of rule) (record r { begun = None })
+close_by (Some rule) r = add_rule rule (fault_of r.book.rules rule) (record r { begun = None })
 
 abbrev pub close_rule : Change
 close_rule r = close_by r.begun r
 
--- a static pattern rule is judged at its line
-abbrev pub begin_by : Rule → Option (List ℕ) → Change
-begin_by rule None r = good (record r { begun = Some rule })
-begin_by rule (Some target) r = bad rule.place (fault.Rule (Static target)) r
+-- what a rule's line tells is judged there
+abbrev pub begin_by : Rule → Option BookNo → Change
+begin_by rule None r = good (record r { begun = Some rule; around = length r.opened })
+begin_by rule (Some e) r = refused_rule rule e r
 
 abbrev pub begin_rule : Rule → Change
-begin_rule rule r = begin_by (undotted_rule rule) (unmatched (undotted_rule rule)) r
+begin_rule rule r = begin_by (undotted_rule rule) (line_fault r.book.rules rule) r
 
 -- within a reference of it a backslash-newline is a blank
 abbrev pub recipe_line : Line → RecipeLine
@@ -126,7 +117,7 @@ other p condition r = turned p (after_other condition r.nest) r
 
 abbrev pub left : Place → Option (List Conditional) → Change
 left p None r = bad p fault.Conditional r
-left p (Some nest) r = good (record r { nest = nest; opened = take (length r.opened - 1) r.opened })
+left p (Some nest) r = good (record r { nest = nest; opened = take (length r.opened - 1) r.opened; around = min r.around (length r.opened - 1) })
 
 abbrev pub leave : Place → Change
 leave p r = left p (after_leave r.nest) r
@@ -199,6 +190,23 @@ unended (Some b) r = bad b.place fault.Define r
 abbrev pub end_text : Option Place → Change
 end_text (Some p) r = bad p fault.Limit r
 end_text None r = unended r.define r
+
+-- a grouped rule that lacks its recipe, in a conditional that is open
+abbrev pub lacks_recipe : Option Rule → Bool
+lacks_recipe None = false
+lacks_recipe (Some rule) = is_some (group_fault (undotted_rule rule))
+
+abbrev pub is_held : Reading → Bool
+is_held r = lacks_recipe r.begun && nat_lt 0 r.around
+
+-- then the conditional is the earlier fault
+abbrev pub end_rule_by : Bool → List Place → Change
+end_rule_by true (p ∷ ps) r = bad p fault.Endless r
+end_rule_by _ _ r = close_rule r
+
+-- at the end the last rule is whole
+abbrev pub end_rule : Change
+end_rule r = end_rule_by (is_held r) r.opened r
 
 abbrev pub unbalanced : List Place → Change
 unbalanced [] r = good r

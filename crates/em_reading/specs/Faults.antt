@@ -7,6 +7,9 @@ use Rattle.em_expand.specs.declared.no.ExpandNo.{ExpandNo}
 use Rattle.em_expand.specs.declared.no.ExpandNo.TheVariants as no
 use Rattle.em_reading.specs.declared.no.Fault.{Fault}
 use Rattle.em_reading.specs.declared.no.Fault.TheVariants as fault
+use Rattle.em_rules.specs.declared.book.BookNo.{BookNo}
+use Rattle.em_rules.specs.declared.book.BookNo.TheVariants as book_no
+use Rattle.em_reading.specs.declared.no.RuleNo.TheVariants as rule_no
 use Rattle.em_reading.specs.declared.no.ReadNo.{ReadNo}
 use Rattle.em_reading.specs.declared.no.ReadNo.TheVariants.{At, NoMemory}
 
@@ -23,6 +26,12 @@ of_expand p no.NoMemory = NoMemory
 of_expand p no.Spent = At p fault.Spent
 of_expand p (no.Refused name) = At p (fault.Refused name)
 of_expand p e = At p (fault.Expand e)
+
+abbrev pub of_book : Place → BookNo → ReadNo
+of_book p book_no.NoMemory = NoMemory
+of_book p (book_no.Static target) = At p (fault.Rule (rule_no.Static target))
+of_book p (book_no.Group target) = At p (fault.Rule (rule_no.Group target))
+of_book p (book_no.Mixed target) = At p (fault.Rule (rule_no.Mixed target))
 
 -- a reading changes no file, so that no operation is refused
 abbrev pub of_desk : Place → DeskNo → ReadNo

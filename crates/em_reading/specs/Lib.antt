@@ -3,6 +3,7 @@ pub use Rattle.em_lines.specs.Comments
 pub use Rattle.em_cond.specs.Nests
 pub use Rattle.em_vars.specs.Entries
 pub use Rattle.em_rules.specs.Rules
+pub use Rattle.em_rules.specs.Groups
 pub use Rattle.em_rules.specs.Static
 pub use Rattle.em_rules.specs.Books
 pub use Rattle.em_wordlist.specs.Words

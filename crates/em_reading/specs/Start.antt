@@ -54,6 +54,7 @@ start cwd vars said = record {
   nest = [];
   opened = [];
   begun = None;
+  around = 0;
   define = None;
   spoken = record { said = said; evals = [] };
   noted = None;

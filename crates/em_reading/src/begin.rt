@@ -125,6 +125,7 @@ pub fn start(alloc: Global, cwd: Path, vars: Vars, said: Text) -> Result<Reading
         nest: Nest::new(alloc),
         opened: Seq::new(alloc),
         begun: None,
+        around: 0,
         define: None,
         spoken,
         noted: None,

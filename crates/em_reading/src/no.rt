@@ -2,10 +2,11 @@
 ghost use Rattle.std.specs.Prelude.{◌≡◌, false};
 ghost use Rattle.em_reading.specs.declared.no.ReadNo.TheVariants.{NoMemory as OutOfMemory};
 ghost use Rattle.em_reading.specs.declared.no.Fault.TheVariants as fault;
-ghost use Rattle.em_reading.specs.Faults.{is_free, at_place, of_expand, of_desk};
+ghost use Rattle.em_reading.specs.Faults.{is_free, at_place, of_expand, of_book, of_desk};
 
 use em_base::{NoMemory, Place, Text};
 use em_expand::ExpandNo;
+use em_rules::BookNo;
 use em_view::DeskNo;
 use std::alloc::{AllocError, AllocFailed, Global};
 use thiserror::Error;
@@ -19,6 +20,12 @@ pub enum RuleNo {
     /// The first target of a static pattern rule that its target pattern doesn't match.
     #[error("a target doesn't match the target pattern")]
     Static(Text),
+    /// The first target of a grouped rule without a recipe.
+    #[error("a grouped target needs a recipe")]
+    Group(Text),
+    /// The first target that has rules of both kinds, ordinary and double-colon.
+    #[error("a target has both kinds of rules")]
+    Mixed(Text),
 }
 
 /// What is wrong at a place.
@@ -134,6 +141,18 @@ pub fn expand_fault(alloc: Global, place: &Place, e: ExpandNo) -> ReadNo
         ExpandNo::BadArgument(name) => at(alloc, place, Fault::Expand(ExpandNo::BadArgument(name))),
         ExpandNo::Unclosed => at(alloc, place, Fault::Expand(ExpandNo::Unclosed)),
         ExpandNo::TooDeep => at(alloc, place, Fault::Expand(ExpandNo::TooDeep)),
+    }
+}
+
+/// A book's refusal of a rule, at the rule's place.
+pub fn book_fault(place: Place, e: BookNo) -> ReadNo
+    ensures { result ≡ of_book place e }
+{
+    match e {
+        BookNo::NoMemory => ReadNo::NoMemory,
+        BookNo::Static(target) => ReadNo::At(place, Fault::Rule(RuleNo::Static(target))),
+        BookNo::Group(target) => ReadNo::At(place, Fault::Rule(RuleNo::Group(target))),
+        BookNo::Mixed(target) => ReadNo::At(place, Fault::Rule(RuleNo::Mixed(target))),
     }
 }
 

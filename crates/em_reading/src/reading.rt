@@ -42,6 +42,8 @@ pub struct Reading {
     pub opened: Seq<Place>,
     /// The rule whose recipe lines may follow.
     pub begun: Option<Rule>,
+    /// How many of the open conditionals were open when the last rule began: the outermost ones.
+    pub around: usize,
     /// The `define` whose body is read.
     pub define: Option<Body>,
     /// What was said, and the texts for `eval` that aren't read yet.
@@ -105,6 +107,7 @@ impl Reading {
                 let mut opened = mem::replace(&mut self.opened, Seq::new(alloc)).into_vec();
                 opened.truncate(opened.len().saturating_sub(1));
                 self.opened = Seq::from_vec(opened);
+                self.around = self.around.min(self.opened.len());
                 Ok(())
             }
             Err(_) => Err(at(alloc, place, Fault::Conditional)),

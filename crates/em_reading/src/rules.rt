@@ -4,17 +4,18 @@ ghost use Rattle.std.specs.List.{flat_map};
 ghost use Rattle.std.specs.Str.{bytes_eq};
 ghost use Rattle.std.specs.FinMap as table;
 ghost use Rattle.em_rules.specs.Rules.{recipe_rule};
+ghost use Rattle.em_rules.specs.Groups.{each_once};
 ghost use Rattle.em_rules.specs.Books.{fault_of};
 ghost use Rattle.em_reading.specs.Changes as changes;
-ghost use Rattle.em_reading.specs.Changes.{warning, warning_for, each_once, warnings, with_line, recipe_line};
+ghost use Rattle.em_reading.specs.Changes.{warning, warning_for, warnings, with_line, recipe_line, is_held};
 ghost use Rattle.em_reading.specs.Faults.{is_free};
 ghost use Rattle.em_view.specs.Steps.{Works};
 
-use crate::no::{Fault, ReadNo, RuleNo, at};
+use crate::no::{Fault, ReadNo, RuleNo, at, book_fault};
 use crate::reading::Reading;
 use em_base::{NoMemory, Place, Seq, Table, Text};
 use em_lines::{Line, folded_references};
-use em_rules::{Book, BookNo, RecipeLine, Rule, undotted_rule, unmatched};
+use em_rules::{Book, RecipeLine, Rule, lacks_recipe, undotted_rule};
 use itoa::Buffer;
 use std::alloc::Global;
 use std::mem;
@@ -80,7 +81,7 @@ fn add_warnings(
 fn warn(alloc: Global, text: &mut Text, book: &Book, rule: &Rule) -> Result<(), NoMemory>
     ensures { OnOk result (text.new ≡ text.old ++ warnings book.now rule.now) }
 {
-    if rule.recipe.is_none() {
+    if rule.recipe.is_none() || rule.kind.is_double() {
         return Ok(());
     }
     add_warnings(alloc, text, book, &rule.place, rule.targets.items())
@@ -92,6 +93,7 @@ fn with_line(alloc: Global, rule: Rule, line: RecipeLine) -> Result<Rule, NoMemo
 {
     let Rule {
         targets,
+        kind,
         pattern,
         form,
         normal,
@@ -107,6 +109,7 @@ fn with_line(alloc: Global, rule: Rule, line: RecipeLine) -> Result<Rule, NoMemo
     let recipe = Some(lines);
     Ok(Rule {
         targets,
+        kind,
         pattern,
         form,
         normal,
@@ -129,16 +132,13 @@ fn recipe_line(alloc: Global, line: &Line) -> Result<RecipeLine, NoMemory>
 impl Reading {
     /// Adds a rule that is whole, with its warnings.
     fn add_rule(&mut self, alloc: Global, rule: Rule) -> Result<(), ReadNo>
-        ensures { Works is_free self.old self.new result (changes.add_rule rule (fault_of rule)) }
+        ensures { Works is_free self.old self.new result (changes.add_rule rule (fault_of self.old.book.rules rule)) }
     {
         warn(alloc, &mut self.spoken.said, &self.book, &rule)?;
         let place = rule.place.copy(alloc)?;
         match self.book.add(rule) {
             Ok(()) => Ok(()),
-            Err(BookNo::NoMemory) => Err(ReadNo::NoMemory),
-            Err(BookNo::Static(target)) => {
-                Err(ReadNo::At(place, Fault::Rule(RuleNo::Static(target))))
-            }
+            Err(e) => Err(book_fault(place, e)),
         }
     }
 
@@ -152,23 +152,43 @@ impl Reading {
         }
     }
 
-    /// Begins a rule, whose recipe lines may follow.
+    /// Begins a rule, whose recipe lines may follow, unless its line is faulty.
     pub fn begin_rule(&mut self, alloc: Global, rule: Rule) -> Result<(), ReadNo>
         ensures { Works is_free self.old self.new result (changes.begin_rule rule) }
     {
-        let unmatched = unmatched(&rule);
-        let rule = undotted_rule(alloc, rule)?;
-        let Some(number) = unmatched else {
-            self.begun = Some(rule);
-            return Ok(());
-        };
-        match rule.targets.get(number) {
-            Some(target) => {
-                let target = target.copy(alloc)?;
-                Err(at(alloc, &rule.place, Fault::Rule(RuleNo::Static(target))))
+        let place = rule.place.copy(alloc)?;
+        match self.book.judged(rule) {
+            Ok(rule) => {
+                self.begun = Some(undotted_rule(alloc, rule)?);
+                self.around = self.opened.len();
+                Ok(())
             }
-            None => Err(ReadNo::NoMemory),
+            Err(e) => Err(book_fault(place, e)),
         }
+    }
+
+    /// Whether the rule that is begun is grouped and lacks its recipe, and a conditional that was
+    /// open before it still is.
+    fn is_held(&self) -> bool
+        ensures { result ≡ is_held self.now }
+    {
+        match &self.begun {
+            Some(rule) => lacks_recipe(rule) && 0 < self.around,
+            None => false,
+        }
+    }
+
+    /// The last rule is whole. Where a grouped rule lacks its recipe in a conditional that is open,
+    /// the conditional is the earlier fault.
+    pub fn end_rule(&mut self, alloc: Global) -> Result<(), ReadNo>
+        ensures { Works is_free self.old self.new result changes.end_rule }
+    {
+        if self.is_held()
+            && let Some(place) = self.opened.get(0)
+        {
+            return Err(at(alloc, place, Fault::Endless));
+        }
+        self.close_rule(alloc)
     }
 
     /// A line that begins with a tab: one of the recipe of the rule before it.

@@ -12,8 +12,8 @@ use Rattle.em_namefn.specs.Wildcards.{glyphs_of}
 use Rattle.em_pathname.specs.Walking.{matching_names}
 use Rattle.em_rules.specs.declared.rule.Rule.{Rule}
 use Rattle.em_rules.specs.declared.book.BookNo.{BookNo}
-use Rattle.em_rules.specs.Static.{undotted_rule, unmatched}
-use Rattle.em_rules.specs.Books.{fault_of}
+use Rattle.em_rules.specs.Static.{undotted_rule}
+use Rattle.em_rules.specs.Books.{line_fault, fault_of}
 use Rattle.em_vars.specs.declared.var.Var.{Var}
 use Rattle.em_vars.specs.declared.var.Flavour.{Flavour}
 use Rattle.em_vars.specs.declared.var.Flavour.TheVariants as flavour
@@ -42,7 +42,7 @@ use Rattle.em_reading.specs.declared.reading.Body.{Body}
 use Rattle.em_reading.specs.declared.noted.Noted.{Noted}
 use Rattle.em_reading.specs.Faults.{at_place, of_desk}
 use Rattle.em_reading.specs.Variables.{is_expanded}
-use Rattle.em_reading.specs.Changes.{Change, add_rule, begin_by, begin_define, begin_rule, body_line, close_by, close_rule, define_line, end_conditionals, end_text, enter, good, is_read, leave, left, other, recipe, recipe_by, take_define, turned, unbalanced, unended}
+use Rattle.em_reading.specs.Changes.{Change, add_rule, begin_by, begin_define, begin_rule, body_line, close_by, close_rule, define_line, end_conditionals, end_rule, end_rule_by, end_text, enter, good, is_held, is_read, leave, left, other, recipe, recipe_by, take_define, turned, unbalanced, unended}
 use Rattle.em_reading.specs.Heard.{refused_in, unless, holds, enter_by, other_by, if_heard, else_if_heard, assignment_refusal, assign_vars, assign, undefine_vars, undefine, export_vars, export, unexport_vars, unexport}
 use Rattle.em_reading.specs.Start.{set_goal}
 use Rattle.em_reader.specs.Hearing.{Reads, plain, cut_off, caught_of, caught_by, caught, with_spoken, itself, heard, pieces, go_on, heard_pieces, heard_head, nothing, both, one, heard_after, two, value_by, value_of_assignment, hear_assignment, hear_condition, head, hear}
@@ -112,7 +112,7 @@ changed f h = owned f h
 
 closed : (b : Option Rule) → Stays (close_by b)
 closed None n r = refl
-closed (Some rule) n r = added (fault_of rule)
+closed (Some rule) n r = added (fault_of r.book.rules rule)
   where
     added : (e : Option BookNo) → add_rule rule e (record (put n r) { begun = None }) ≡ lift n (add_rule rule e (record r { begun = None }))
     added None = refl
@@ -121,9 +121,12 @@ closed (Some rule) n r = added (fault_of rule)
 pub close_blind : Blind (own close_rule)
 close_blind = changed close_rule (λ n r. closed r.begun n r)
 
-begun : (rule : Rule) (t : Option (List ℕ)) → Stays (begin_by rule t)
+begun : (rule : Rule) (t : Option BookNo) → Stays (begin_by rule t)
 begun rule None n r = refl
 begun rule (Some t) n r = refl
+
+started : (rule : Rule) → Blind (own (begin_rule rule))
+started rule = changed (begin_rule rule) (λ n r. begun (undotted_rule rule) (line_fault r.book.rules rule) n r)
 
 pub recipe_blind : (l : Line) → Blind (own (recipe l))
 recipe_blind l = changed (recipe l) (λ n r. by n r (is_read r))
@@ -179,6 +182,14 @@ end_blind None = changed (end_text None) (λ n r. by n r r.define)
     by : (n : Option Noted) (r : Reading) (d : Option Body) → unended d (put n r) ≡ lift n (unended d r)
     by n r None = refl
     by n r (Some b) = refl
+
+pub whole_blind : Blind (own end_rule)
+whole_blind = changed end_rule (λ n r. by (is_held r) r.opened n r)
+  where
+    by : (b : Bool) (ps : List Place) → Stays (end_rule_by b ps)
+    by true (p ∷ ps) n r = refl
+    by true [] n r = closed r.begun n r
+    by false ps n r = closed r.begun n r
 
 pub balanced_blind : Blind (own end_conditionals)
 balanced_blind = changed end_conditionals (λ n r. by n r r.opened)
@@ -292,7 +303,7 @@ rule_blind p l h = unless_blind (refusal_in l h.first) p _ (unless_blind h.first
     by : (x : Option Head) → Blind (rule_by p l h.first.text x)
     by None = either (is_nothing h.first.text l.recipe) (done tt) (refuse (at_place p fault.Separator)) (gave tt) (gave_no (at_place p fault.Separator))
     by (Some x) = next _ (matched_blind p [] x.targets) (λ targets. next _ (matched_blind p [] x.normal) (λ normal. next _ (matched_blind p [] x.order)
-        (λ order. changed (begin_rule (rule_of p l x.form targets normal order)) (λ n r. begun (undotted_rule (rule_of p l x.form targets normal order)) (unmatched (undotted_rule (rule_of p l x.form targets normal order))) n r))))
+        (λ order. started (rule_of p l (record x { targets = targets; normal = normal; order = order })))))
 
 pub alone_blind : (p : Place) (s : Statement) (h : Heard) → Blind (act_alone p s h)
 alone_blind p (statement.If c) h = gave tt

@@ -73,7 +73,7 @@ same_good x s h = ap (λ (z : Changed). state_of z) h
 
 closed_by : (r s : Reading) (b : Option Rule) → r.begun ≡ b → close_by b r ≡ Ok (tt, s) → IsClosed r s
 closed_by r s None is e = let same = same_good r s e in record { begun = ap (λ (x : Reading). x.begun) (sym same) ∙ is; evals = ap (λ (x : Reading). x.spoken.evals) (sym same) }
-closed_by r s (Some rule) is e = by (fault_of rule) e
+closed_by r s (Some rule) is e = by (fault_of r.book.rules rule) e
   where
     by : (f : Option BookNo) → add_rule rule f (record r { begun = None }) ≡ Ok (tt, s) → IsClosed r s
     by None h = let same = same_good (record (say (warnings r.book rule) (record r { begun = None })) { book = added r.book rule }) s h in record { begun = ap (λ (x : Reading). x.begun) (sym same); evals = ap (λ (x : Reading). x.spoken.evals) (sym same) }

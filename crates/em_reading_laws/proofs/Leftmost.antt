@@ -12,11 +12,12 @@ use Rattle.std.proofs.lemmas.List.Splits.{length-slice_split}
 use Rattle.em_base.proofs.Lemmas.{by_cases, prefix_until}
 use Rattle.em_base.specs.Blanks.{is_blank, trimmed}
 use Rattle.em_rules.specs.Dots.{undotted}
+use Rattle.em_rules.specs.declared.rule.RuleKind.{RuleKind}
 use Rattle.em_wordlist.specs.Words.{words_of}
 use Rattle.em_statement.specs.declared.statement.RuleLine.{RuleLine}
 use Rattle.em_statement.specs.Shapes.{colons_in}
 use Rattle.em_statement.specs.Split.{behind}
-use Rattle.em_statement.specs.Heads.{is_colon, is_bar, normal_text, order_text, head, head_by, colon_of, targets_text, behind_colon, head_with, head_at, head_of, is_member, is_special, percent_refusal, target_refusal, prerequisite_refusal, first_of, colon_refusal, has_several, is_followed, head_refusal, refusal_at, refusal_of}
+use Rattle.em_statement.specs.Heads.{is_colon, is_bar, normal_text, order_text, head, head_by, kind_of, colons_of, is_doubled, is_grouped, targets_text, behind_colon, head_with, head_at, head_of, is_member, is_special, percent_refusal, target_refusal, prerequisite_refusal, first_of, colon_refusal, is_mixed, is_followed, head_refusal, refusal_at, refusal_of}
 use Rattle.em_reader.specs.Hearing.{cut_off}
 use Rattle.em_reader.specs.Acting.{ends_word, goes_on, ended, has_colon, refusal_in}
 use Rattle.em_reading_laws.specs.Heads.{HasNo, NamesNoSuffixes}
@@ -300,7 +301,7 @@ module _ (targets middle : List ℕ) (plain : list_all (other is_colon) targets 
 
   -- what a second colon parts off, whatever stands behind a blank
   abbrev Forms : List ℕ → Type 0
-  Forms text = (form : Option (List ℕ)) × (after : List ℕ) × ((b : ℕ) (rest : List ℕ) → is_blank b ≡ true → list_all (other is_colon) rest ≡ true → head_with names (text ++ b ∷ rest) ≡ head names form (after ++ b ∷ rest))
+  Forms text = (form : Option (List ℕ)) × (after : List ℕ) × ((b : ℕ) (rest : List ℕ) → is_blank b ≡ true → list_all (other is_colon) rest ≡ true → (k : RuleKind) → head_with k names (text ++ b ∷ rest) ≡ head k names form (after ++ b ∷ rest))
 
   forms : (text : List ℕ) → Forms text
   forms text = by (find_first is_colon text)
@@ -309,24 +310,24 @@ module _ (targets middle : List ℕ) (plain : list_all (other is_colon) targets 
       by (inl f) = (
         Some (trimmed f.front),
         f.rest,
-        λ b rest blank none.
+        λ b rest blank none k.
             let v = f.rest ++ b ∷ rest in
             let g : text ++ b ∷ rest ≡ f.front ++ f.byte ∷ v = ap (λ (t : List ℕ). t ++ b ∷ rest) f.whole ∙ append_assoc f.front (f.byte ∷ f.rest) (b ∷ rest) in
             let at = first_at is_colon f.front f.byte v f.none f.is in
             let more : length (f.front ++ f.byte ∷ []) ≡ length f.front + 1 = omega (arith, length-append f.front (f.byte ∷ [])) in
-            ap (head_with names) g ∙ ap (head_by names (f.front ++ f.byte ∷ v)) at
-            ∙ ap₂ (λ x y. head names (Some (trimmed x)) y) (take_at f.front (f.byte ∷ v) (length f.front) refl) (ap (drop (length f.front + 1)) (sym (append_assoc f.front (f.byte ∷ []) v)) ∙ drop_at (f.front ++ f.byte ∷ []) v (length f.front + 1) more),
+            ap (head_with k names) g ∙ ap (head_by k names (f.front ++ f.byte ∷ v)) at
+            ∙ ap₂ (λ x y. head k names (Some (trimmed x)) y) (take_at f.front (f.byte ∷ v) (length f.front) refl) (ap (drop (length f.front + 1)) (sym (append_assoc f.front (f.byte ∷ []) v)) ∙ drop_at (f.front ++ f.byte ∷ []) v (length f.front + 1) more),
       )
       by (inr all) = (
         None,
         text,
-        λ b rest blank none.
-            ap (head_by names (text ++ b ∷ rest)) (nowhere is_colon (text ++ b ∷ rest) (all_append (other is_colon) text (b ∷ rest) all (rw (blank_is_no_colon b blank) none))),
+        λ b rest blank none k.
+            ap (head_by k names (text ++ b ∷ rest)) (nowhere is_colon (text ++ b ∷ rest) (all_append (other is_colon) text (b ∷ rest) all (rw (blank_is_no_colon b blank) none))),
       )
 
   -- what stands right behind the colon
   abbrev Behind : Type 0
-  Behind = (text : List ℕ) × ((b : ℕ) (rest : List ℕ) → is_blank b ≡ true → behind_colon (middle ++ b ∷ rest) ≡ text ++ b ∷ rest) × ((b : ℕ) (rest : List ℕ) → is_blank b ≡ true → colon_of targets (middle ++ b ∷ rest) ≡ colon_of targets (middle ++ b ∷ []))
+  Behind = (text : List ℕ) × ((b : ℕ) (rest : List ℕ) → is_blank b ≡ true → behind_colon (middle ++ b ∷ rest) ≡ text ++ b ∷ rest) × ((b : ℕ) (rest : List ℕ) → is_blank b ≡ true → kind_of targets (middle ++ b ∷ rest) ≡ kind_of targets (middle ++ b ∷ []))
 
   starts : (m : ℕ) (ms : List ℕ) → starts_with nat_eq (m ∷ ms) (codes ":") ≡ (nat_eq 58 m && true)
   starts m ms = refl
@@ -345,11 +346,48 @@ module _ (targets middle : List ℕ) (plain : list_all (other is_colon) targets 
     λ b rest blank. rw e refl,
   )
 
-  shape : (form : Option (List ℕ)) × (text : List ℕ) × ((b : ℕ) (rest : List ℕ) → is_blank b ≡ true → list_all (other is_colon) rest ≡ true → head_with names (behind_colon (middle ++ b ∷ rest)) ≡ head names form (text ++ b ∷ rest))
+  shape : (form : Option (List ℕ)) × (text : List ℕ) × ((b : ℕ) (rest : List ℕ) → is_blank b ≡ true → list_all (other is_colon) rest ≡ true → (k : RuleKind) → head_with k names (behind_colon (middle ++ b ∷ rest)) ≡ head k names form (text ++ b ∷ rest))
   shape =
       let x = behind_is middle refl in
       let f = forms x.0 in
-      (f.0, f.1, λ b rest blank none. ap (head_with names) (x.1 b rest blank) ∙ f.2 b rest blank none)
+      (f.0, f.1, λ b rest blank none k. ap (head_with k names) (x.1 b rest blank) ∙ f.2 b rest blank none k)
+
+  -- the colons
+
+  starts_same : (xs : List ℕ) (b : ℕ) (rest : List ℕ) → is_blank b ≡ true → starts_with nat_eq (xs ++ b ∷ rest) (codes ":") ≡ starts_with nat_eq (xs ++ b ∷ []) (codes ":")
+  starts_same [] b rest blank = blank_starts b rest blank ∙ sym (blank_starts b [] blank)
+  starts_same (x ∷ xs) b rest blank = refl
+
+  -- what stands behind the second colon, where one stands in front of the blank
+  doubled_at : (text : List ℕ) → Found is_colon text → (after : List ℕ) × ((b : ℕ) (rest : List ℕ) → is_doubled (text ++ b ∷ rest) ≡ starts_with nat_eq (after ++ b ∷ rest) (codes ":"))
+  doubled_at text f = (
+    f.rest,
+    λ b rest.
+        let v = f.rest ++ b ∷ rest in
+        let g : text ++ b ∷ rest ≡ f.front ++ f.byte ∷ v = ap (λ (t : List ℕ). t ++ b ∷ rest) f.whole ∙ append_assoc f.front (f.byte ∷ f.rest) (b ∷ rest) in
+        let more : length (f.front ++ f.byte ∷ []) ≡ length f.front + 1 = omega (arith, length-append f.front (f.byte ∷ [])) in
+        ap is_doubled g
+        ∙ ap (λ o. option_map_or (λ n. starts_with nat_eq (behind n (f.front ++ f.byte ∷ v)) (codes ":")) o false) (first_at is_colon f.front f.byte v f.none f.is)
+        ∙ ap (λ (t : List ℕ). starts_with nat_eq t (codes ":")) (ap (drop (length f.front + 1)) (sym (append_assoc f.front (f.byte ∷ []) v)) ∙ drop_at (f.front ++ f.byte ∷ []) v (length f.front + 1) more),
+  )
+
+  doubled_none : (text : List ℕ) → list_all (other is_colon) text ≡ true → is_doubled text ≡ false
+  doubled_none text none = ap (λ o. option_map_or (λ n. starts_with nat_eq (behind n text) (codes ":")) o false) (nowhere is_colon text none)
+
+  doubled_same : (text : List ℕ) (b : ℕ) (rest : List ℕ) → is_blank b ≡ true → list_all (other is_colon) rest ≡ true → is_doubled (text ++ b ∷ rest) ≡ is_doubled (text ++ b ∷ [])
+  doubled_same text b rest blank none = by (find_first is_colon text)
+    where
+      by : Found is_colon text ⊎ (list_all (other is_colon) text ≡ true) → is_doubled (text ++ b ∷ rest) ≡ is_doubled (text ++ b ∷ [])
+      by (inl f) = let d = doubled_at text f in d.1 b rest ∙ starts_same d.0 b rest blank ∙ sym (d.1 b [])
+      by (inr all) =
+          doubled_none (text ++ b ∷ rest) (all_append (other is_colon) text (b ∷ rest) all (rw (blank_is_no_colon b blank) none))
+          ∙ sym (doubled_none (text ++ b ∷ []) (all_append (other is_colon) text (b ∷ []) all (rw (blank_is_no_colon b blank) refl)))
+
+  colons_same : (b : ℕ) (rest : List ℕ) → is_blank b ≡ true → list_all (other is_colon) rest ≡ true → colons_of targets (middle ++ b ∷ rest) ≡ colons_of targets (middle ++ b ∷ [])
+  colons_same b rest blank none =
+      let x = behind_is middle refl in
+      let again : is_doubled (behind_colon (middle ++ b ∷ rest)) ≡ is_doubled (behind_colon (middle ++ b ∷ [])) = ap is_doubled (x.1 b rest blank) ∙ doubled_same x.0 b rest blank none ∙ sym (ap is_doubled (x.1 b [] blank)) in
+      λ i. record { grouped = is_grouped targets; double = starts_same middle b rest blank i; again = again i }
 
   abbrev line : List ℕ → List ℕ
   line rest = targets ++ 58 ∷ (middle ++ rest)
@@ -365,11 +403,11 @@ module _ (targets middle : List ℕ) (plain : list_all (other is_colon) targets 
       let more : length (targets ++ 58 ∷ []) ≡ length targets + 1 = omega (arith, length-append targets (58 ∷ [])) in
       ap (drop (length targets + 1)) (sym (append_assoc targets (58 ∷ []) (middle ++ rest))) ∙ drop_at (targets ++ 58 ∷ []) (middle ++ rest) (length targets + 1) more
 
-  refusal_is : (assigns : Bool) (rest : List ℕ) → refusal_of assigns (line rest) ≡ head_refusal assigns (colon_of targets (middle ++ rest)) (head_with names (behind_colon (middle ++ rest)))
+  refusal_is : (assigns : Bool) (rest : List ℕ) → refusal_of assigns (line rest) ≡ head_refusal assigns (colons_of targets (middle ++ rest)) (head_with (kind_of targets (middle ++ rest)) names (behind_colon (middle ++ rest)))
   unfolding refusal_of
   refusal_is assigns rest =
       ap (option_and_then (refusal_at assigns (line rest))) (line_at rest)
-      ∙ ap₂ (λ t x. head_refusal assigns (colon_of t x) (head_with (targets_text t) (behind_colon x))) (line_front rest) (line_behind rest)
+      ∙ ap₂ (λ t x. head_refusal assigns (colons_of t x) (head_with (kind_of t x) (targets_text t) (behind_colon x))) (line_front rest) (line_behind rest)
 
   -- ---- targets that aren't `.SUFFIXES`
 
@@ -399,13 +437,15 @@ module _ (targets middle : List ℕ) (plain : list_all (other is_colon) targets 
     unfolding among
     whole assigns name h =
         let s = shape in
-        let x = head names s.0 (s.1 ++ b ∷ []) in
-        let y = head names s.0 (s.1 ++ b ∷ rest) in
-        let c = colon_of targets (middle ++ b ∷ []) in
-        let first : refusal_of assigns (line (b ∷ [])) ≡ head_refusal assigns c x = refusal_is assigns (b ∷ []) ∙ ap (head_refusal assigns c) (s.2 b [] blank refl) in
-        let last : refusal_of assigns (line (b ∷ rest)) ≡ head_refusal assigns c y = refusal_is assigns (b ∷ rest) ∙ ap₂ (head_refusal assigns) ((behind_is middle refl).2 b rest blank) (s.2 b rest blank none) in
-        let ts : first_of (map (target_refusal (has_several x) (is_followed x)) x.targets) ≡ first_of (map (target_refusal (has_several y) (is_followed y)) y.targets) = ap first_of (targets_same (has_several x) (is_followed x) (is_followed y) (words_of names) known) in
-        last ∙ both_or (first_of (map (target_refusal (has_several y) (is_followed y)) y.targets)) (colon_refusal c assigns y.targets) (among x.normal) (among x.order) (among y.normal) (among y.order) name (prerequisites b blank s.1 rest)
+        let c = colons_of targets (middle ++ b ∷ []) in
+        let k = kind_of targets (middle ++ b ∷ []) in
+        let x = head k names s.0 (s.1 ++ b ∷ []) in
+        let y = head k names s.0 (s.1 ++ b ∷ rest) in
+        let first : refusal_of assigns (line (b ∷ [])) ≡ head_refusal assigns c x = refusal_is assigns (b ∷ []) ∙ ap (head_refusal assigns c) (s.2 b [] blank refl k) in
+        let last : refusal_of assigns (line (b ∷ rest)) ≡ head_refusal assigns c y = refusal_is assigns (b ∷ rest)
+        ∙ ap₂ (λ d j. head_refusal assigns d (head_with j names (behind_colon (middle ++ b ∷ rest)))) (colons_same b rest blank none) ((behind_is middle refl).2 b rest blank) ∙ ap (head_refusal assigns c) (s.2 b rest blank none k) in
+        let ts : first_of (map (target_refusal (is_mixed x) (is_followed x)) x.targets) ≡ first_of (map (target_refusal (is_mixed y) (is_followed y)) y.targets) = ap first_of (targets_same (is_mixed x) (is_followed x) (is_followed y) (words_of names) known) in
+        last ∙ both_or (first_of (map (target_refusal (is_mixed y) (is_followed y)) y.targets)) (colon_refusal c assigns y.targets) (among x.normal) (among x.order) (among y.normal) (among y.order) name (prerequisites b blank s.1 rest)
         (sym (ap (λ t. option_or t (option_or (colon_refusal c assigns x.targets) (option_or (among x.normal) (among x.order)))) ts) ∙ sym first ∙ h)
 
   either_or : (t r c n o m p : Option (List ℕ)) (name : List ℕ) → Further n o m p → Stays t r → option_or t (option_or c (option_or n o)) ≡ Some name
@@ -418,14 +458,16 @@ module _ (targets middle : List ℕ) (plain : list_all (other is_colon) targets 
     unfolding among
     any_targets assigns name h =
         let s = shape in
-        let x = head names s.0 (s.1 ++ b ∷ []) in
-        let y = head names s.0 (s.1 ++ b ∷ rest) in
-        let c = colon_of targets (middle ++ b ∷ []) in
-        let first : refusal_of assigns (line (b ∷ [])) ≡ head_refusal assigns c x = refusal_is assigns (b ∷ []) ∙ ap (head_refusal assigns c) (s.2 b [] blank refl) in
-        let last : refusal_of assigns (line (b ∷ rest)) ≡ head_refusal assigns c y = refusal_is assigns (b ∷ rest) ∙ ap₂ (head_refusal assigns) ((behind_is middle refl).2 b rest blank) (s.2 b rest blank none) in
+        let c = colons_of targets (middle ++ b ∷ []) in
+        let k = kind_of targets (middle ++ b ∷ []) in
+        let x = head k names s.0 (s.1 ++ b ∷ []) in
+        let y = head k names s.0 (s.1 ++ b ∷ rest) in
+        let first : refusal_of assigns (line (b ∷ [])) ≡ head_refusal assigns c x = refusal_is assigns (b ∷ []) ∙ ap (head_refusal assigns c) (s.2 b [] blank refl k) in
+        let last : refusal_of assigns (line (b ∷ rest)) ≡ head_refusal assigns c y = refusal_is assigns (b ∷ rest)
+        ∙ ap₂ (λ d j. head_refusal assigns d (head_with j names (behind_colon (middle ++ b ∷ rest)))) (colons_same b rest blank none) ((behind_is middle refl).2 b rest blank) ∙ ap (head_refusal assigns c) (s.2 b rest blank none k) in
         let up : is_followed x ≡ true → is_followed y ≡ true = followed_stays b blank s.1 rest in
-        let found = either_or (refused_among (has_several x) (is_followed x) x.targets) (refused_among (has_several y) (is_followed y) y.targets) (colon_refusal c assigns y.targets) (among x.normal) (among x.order) (among y.normal) (among y.order) name
-        (prerequisites b blank s.1 rest) (stays_by (has_several x) (is_followed x) (is_followed y) x.targets up) (sym first ∙ h) in
+        let found = either_or (refused_among (is_mixed x) (is_followed x) x.targets) (refused_among (is_mixed y) (is_followed y) y.targets) (colon_refusal c assigns y.targets) (among x.normal) (among x.order) (among y.normal) (among y.order) name
+        (prerequisites b blank s.1 rest) (stays_by (is_mixed x) (is_followed x) (is_followed y) x.targets up) (sym first ∙ h) in
         subst (λ r. (r ≡ Some name) ⊎ (r ≡ Some (codes ".SUFFIXES"))) (sym last) found
 
 pub any_law : (assigns : Bool) (targets middle rest name : List ℕ) (b : ℕ) → is_blank b ≡ true → HasNo 58 targets → HasNo 58 rest
@@ -440,12 +482,12 @@ unfolding head_of
 known_names targets middle plain h =
     let x = head_at (targets ++ 58 ∷ middle) (length targets) in
     let is = recursion_from_All (λ t. bytes_eq (undotted t) (codes ".SUFFIXES") ≡ false) x.targets (h x (ap (option_map (head_at (targets ++ 58 ∷ middle))) (first_at is_colon targets 58 middle plain refl))) in
-    by (take (length targets) (targets ++ 58 ∷ middle)) (behind_colon (behind (length targets) (targets ++ 58 ∷ middle))) (position is_colon (behind_colon (behind (length targets) (targets ++ 58 ∷ middle)))) (take_at targets (58 ∷ middle) (length targets) refl) is
+    by (kind_of (take (length targets) (targets ++ 58 ∷ middle)) (behind (length targets) (targets ++ 58 ∷ middle))) (take (length targets) (targets ++ 58 ∷ middle)) (behind_colon (behind (length targets) (targets ++ 58 ∷ middle))) (position is_colon (behind_colon (behind (length targets) (targets ++ 58 ∷ middle)))) (take_at targets (58 ∷ middle) (length targets) refl) is
   where
-    by : (ts rest : List ℕ) (at : Option ℕ) → ts ≡ targets → AllByRecursion (λ t. bytes_eq (undotted t) (codes ".SUFFIXES") ≡ false) (head_by (targets_text ts) rest at).targets
+    by : (k : RuleKind) (ts rest : List ℕ) (at : Option ℕ) → ts ≡ targets → AllByRecursion (λ t. bytes_eq (undotted t) (codes ".SUFFIXES") ≡ false) (head_by k (targets_text ts) rest at).targets
         → AllByRecursion (λ t. bytes_eq (undotted t) (codes ".SUFFIXES") ≡ false) (words_of (targets_text targets))
-    by ts rest None e is = subst (λ (t : List ℕ). AllByRecursion (λ t. bytes_eq (undotted t) (codes ".SUFFIXES") ≡ false) (words_of (targets_text t))) e is
-    by ts rest (Some at) e is = subst (λ (t : List ℕ). AllByRecursion (λ t. bytes_eq (undotted t) (codes ".SUFFIXES") ≡ false) (words_of (targets_text t))) e is
+    by k ts rest None e is = subst (λ (t : List ℕ). AllByRecursion (λ t. bytes_eq (undotted t) (codes ".SUFFIXES") ≡ false) (words_of (targets_text t))) e is
+    by k ts rest (Some at) e is = subst (λ (t : List ℕ). AllByRecursion (λ t. bytes_eq (undotted t) (codes ".SUFFIXES") ≡ false) (words_of (targets_text t))) e is
 
 pub whole_law : (assigns : Bool) (targets middle rest name : List ℕ) (b : ℕ) → is_blank b ≡ true → HasNo 58 targets → HasNo 58 rest → NamesNoSuffixes (targets ++ 58 ∷ middle)
     → refusal_of assigns (targets ++ 58 ∷ middle ++ b ∷ []) ≡ Some name → refusal_of assigns (targets ++ 58 ∷ middle ++ b ∷ rest) ≡ Some name

@@ -39,7 +39,7 @@ use Rattle.em_reader.specs.Makefiles.{line_one, place_of, levels, read_file, rea
 use Rattle.em_reading_laws.specs.Steps.{state_of}
 use Rattle.em_reading_laws.specs.Rounds.{is_wanting, IsAbsent}
 use Rattle.em_reading_laws.proofs.Stepping.{never}
-use Rattle.em_reading_laws.proofs.Blind.{gave, gave_no, put, Ends, Out, lift, Blind, close_blind, recipe_blind, enter_blind, other_blind, leave_blind, define_blind, body_blind, take_blind, evals_blind, end_blind, balanced_blind, found_blind, if_blind, else_if_blind, condition_blind, hear_blind, matched_blind, alone_blind, content_blind, makefile_blind, goal_blind}
+use Rattle.em_reading_laws.proofs.Blind.{gave, gave_no, put, Ends, Out, lift, Blind, close_blind, recipe_blind, enter_blind, other_blind, leave_blind, define_blind, body_blind, take_blind, evals_blind, end_blind, whole_blind, balanced_blind, found_blind, if_blind, else_if_blind, condition_blind, hear_blind, matched_blind, alone_blind, content_blind, makefile_blind, goal_blind}
 
 -- ---- what is missing
 
@@ -248,7 +248,7 @@ makefile_alike (Some m) = next _ (blind found_blind) (λ u. next _ (opens_alike 
 
 all_alike : (name : Option (List ℕ)) → Alike (read_all name)
 unfolding read_all
-all_alike name = next _ (blind (makefile_blind name)) (λ m. next _ (makefile_alike m) (λ u. next _ (blind close_blind) (λ v. next _ (blind balanced_blind) (λ w. blind (goal_blind (place_of m))))))
+all_alike name = next _ (blind (makefile_blind name)) (λ m. next _ (makefile_alike m) (λ u. next _ (blind whole_blind) (λ v. next _ (blind balanced_blind) (λ w. blind (goal_blind (place_of m))))))
 
 -- ---- a reading and a round of it
 

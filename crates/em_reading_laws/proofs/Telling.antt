@@ -13,8 +13,8 @@ use Rattle.em_namefn.specs.Wildcards.{glyphs_of}
 use Rattle.em_pathname.specs.Walking.{matching_names}
 use Rattle.em_rules.specs.declared.rule.Rule.{Rule}
 use Rattle.em_rules.specs.declared.book.BookNo.{BookNo}
-use Rattle.em_rules.specs.Static.{undotted_rule, unmatched}
-use Rattle.em_rules.specs.Books.{fault_of}
+use Rattle.em_rules.specs.Static.{undotted_rule}
+use Rattle.em_rules.specs.Books.{line_fault, fault_of}
 use Rattle.em_vars.specs.declared.var.Var.{Var}
 use Rattle.em_vars.specs.declared.var.Flavour.{Flavour}
 use Rattle.em_vars.specs.declared.var.Flavour.TheVariants as flavour
@@ -45,7 +45,7 @@ use Rattle.em_reading.specs.declared.reading.Body.{Body}
 use Rattle.em_reading.specs.declared.noted.Noted.{Noted}
 use Rattle.em_reading.specs.Faults.{at_place, of_desk}
 use Rattle.em_reading.specs.Variables.{is_expanded}
-use Rattle.em_reading.specs.Changes.{Change, good, is_read, warnings, add_rule, close_by, close_rule, begin_by, begin_rule, recipe_by, recipe, enter, turned, other, left, leave, begin_define, define_line, ends_body, body_line, whole, take_define, unended, end_text, unbalanced, end_conditionals, opens, lacking, lacks}
+use Rattle.em_reading.specs.Changes.{Change, good, is_read, warnings, add_rule, close_by, close_rule, begin_by, begin_rule, recipe_by, recipe, enter, turned, other, left, leave, begin_define, define_line, ends_body, body_line, whole, take_define, unended, end_text, unbalanced, end_conditionals, is_held, end_rule_by, end_rule, opens, lacking, lacks}
 use Rattle.em_reading.specs.Heard.{refused_in, unless, holds, enter_by, other_by, if_heard, else_if_heard, assignment_refusal, assign_vars, assign, undefine_vars, undefine, export_vars, export, unexport_vars, unexport}
 use Rattle.em_reading.specs.Start.{start, start_vars, set_goal}
 use Rattle.em_reader.specs.Hearing.{Reads, plain, cut_off, caught_of, caught_by, caught, with_spoken, itself, heard, pieces, go_on, heard_pieces, heard_head, nothing, both, one, heard_after, two, value_by, value_of_assignment, hear_assignment, hear_condition, head, hear}
@@ -95,7 +95,7 @@ changed f h = keeps_own f h
 
 closed : (b : Option Rule) → Stays (close_by b)
 closed None r = goes_same r
-closed (Some rule) r = added (fault_of rule)
+closed (Some rule) r = added (fault_of r.book.rules rule)
   where
     added : (e : Option BookNo) → Goes r (state_of (add_rule rule e (record r { begun = None })))
     added None = more r.spoken.said (warnings r.book rule)
@@ -104,9 +104,12 @@ closed (Some rule) r = added (fault_of rule)
 close_grows : Grows (own close_rule)
 close_grows = changed close_rule (λ r. closed r.begun r)
 
-begun : (rule : Rule) (t : Option (List ℕ)) → Stays (begin_by rule t)
+begun : (rule : Rule) (t : Option BookNo) → Stays (begin_by rule t)
 begun rule None r = goes_same r
 begun rule (Some t) r = goes_same r
+
+started : (rule : Rule) → Grows (own (begin_rule rule))
+started rule = changed (begin_rule rule) (λ r. begun (undotted_rule rule) (line_fault r.book.rules rule) r)
 
 recipe_grows : (l : Line) → Grows (own (recipe l))
 recipe_grows l = changed (recipe l) (λ r. by r (is_read r))
@@ -152,6 +155,14 @@ lacking_stays : (needed : Bool) (p : Place) (name : List ℕ) (n : Option Noted)
 lacking_stays true p name None r = goes_same r
 lacking_stays false p name None r = goes_same r
 lacking_stays needed p name (Some n) r = goes_same r
+
+whole_grows : Grows (own end_rule)
+whole_grows = changed end_rule (λ r. by (is_held r) r.opened r)
+  where
+    by : (b : Bool) (ps : List Place) → Stays (end_rule_by b ps)
+    by true (p ∷ ps) r = goes_same r
+    by true [] r = closed r.begun r
+    by false ps r = closed r.begun r
 
 balanced : Stays end_conditionals
 balanced r = by r.opened
@@ -266,7 +277,7 @@ rule_grows p l h = unless_grows (refusal_in l h.first) p _ (unless_grows h.first
     by : (x : Option Head) → Grows (rule_by p l h.first.text x)
     by None = either (is_nothing h.first.text l.recipe) (done tt) (refuse (at_place p fault.Separator)) (gave tt) (gave_no (at_place p fault.Separator))
     by (Some x) = next _ (matched_grows p [] x.targets) (λ targets. next _ (matched_grows p [] x.normal) (λ normal. next _ (matched_grows p [] x.order)
-        (λ order. changed (begin_rule (rule_of p l x.form targets normal order)) (λ r. begun (undotted_rule (rule_of p l x.form targets normal order)) (unmatched (undotted_rule (rule_of p l x.form targets normal order))) r))))
+        (λ order. started (rule_of p l (record x { targets = targets; normal = normal; order = order })))))
 
 alone_grows : (p : Place) (s : Statement) (h : Heard) → Grows (act_alone p s h)
 alone_grows p (statement.If c) h = gave tt
@@ -417,7 +428,7 @@ goal_grows p = looked (λ r. goal_by p (value_of r.book.vars (codes ".DEFAULT_GO
 
 all_grows : (name : Option (List ℕ)) → Grows (read_all name)
 unfolding read_all read_file
-all_grows name = next _ (makefile_grows name) (λ m. next _ (by_option (λ x. Grows (read_makefile x)) (gave tt) (λ x. next _ (changed found (λ r. goes_same r)) (λ u. next _ (changed (opens x.name) (λ r. goes_same r)) (λ v. text_grows levels (line_one x.name) (lines.joined x.name x.bytes)))) m) (λ u. next _ close_grows (λ v. next _ (changed end_conditionals balanced) (λ w. goal_grows (place_of m)))))
+all_grows name = next _ (makefile_grows name) (λ m. next _ (by_option (λ x. Grows (read_makefile x)) (gave tt) (λ x. next _ (changed found (λ r. goes_same r)) (λ u. next _ (changed (opens x.name) (λ r. goes_same r)) (λ v. text_grows levels (line_one x.name) (lines.joined x.name x.bytes)))) m) (λ u. next _ whole_grows (λ v. next _ (changed end_conditionals balanced) (λ w. goal_grows (place_of m)))))
 
 from_said : (name : Option (List ℕ)) (cwd : List ℕ) (vars : Entries) (said : List ℕ) (o : Oracle) (w : Workspace) → Begins said (state_of (read_from name cwd vars said o w).0)
 unfolding read_from

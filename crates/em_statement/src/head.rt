@@ -7,12 +7,15 @@ ghost use Rattle.em_wordlist.specs.Words.{words_of};
 
 use crate::split::{before, behind, place_of};
 use em_base::{NoMemory, Seq, Text, trim};
+use em_rules::RuleKind;
 use em_wordlist::texts;
 use std::alloc::Global;
 
 /// `targets : normal | order`, or `targets : form : normal | order`.
 #[derive(Debug, Drop, PartialEq, Eq)]
 pub struct Head {
+    /// By the rule's colon.
+    pub kind: RuleKind,
     pub targets: Seq<Text>,
     /// What a static pattern rule's targets match.
     pub form: Option<Text>,
@@ -21,14 +24,15 @@ pub struct Head {
     pub order: Seq<Text>,
 }
 
-/// What a rule's colon is.
-#[derive(Clone, Copy, Debug, PartialEq, Eq)]
-pub enum Colon {
-    Single,
-    /// `::`
-    Double,
-    /// `&:`
-    Grouped,
+/// The colons of a head.
+#[derive(Clone, Copy, Debug)]
+pub(crate) struct Colons {
+    /// Whether an `&` stands right before the rule's colon.
+    pub grouped: bool,
+    /// Whether the rule's colon is a `::`.
+    pub double: bool,
+    /// Whether the next colon behind it is one.
+    pub again: bool,
 }
 
 /// What stands in front of the first `|`.
@@ -61,16 +65,16 @@ fn targets_text(text: &[u8]) -> &[u8]
     }
 }
 
-/// The kind of the colon between these texts.
-pub(crate) fn colon_of(targets: &[u8], rest: &[u8]) -> Colon
-    ensures { result ≡ heads.colon_of targets.now rest.now }
+/// The kind of a rule whose colon stands between these texts.
+fn kind_of(targets: &[u8], rest: &[u8]) -> RuleKind
+    ensures { result ≡ heads.kind_of targets.now rest.now }
 {
     if rest.starts_with(b":") {
-        Colon::Double
+        RuleKind::Double
     } else if targets.ends_with(b"&") {
-        Colon::Grouped
+        RuleKind::Grouped
     } else {
-        Colon::Single
+        RuleKind::Ordinary
     }
 }
 
@@ -89,13 +93,15 @@ pub fn words(alloc: Global, text: &[u8]) -> Result<Seq<Text>, NoMemory>
 /// The head of these parts.
 fn head_by(
     alloc: Global,
+    kind: RuleKind,
     targets: &[u8],
     form: Option<Text>,
     prerequisites: &[u8],
 ) -> Result<Head, NoMemory>
-    ensures { IfOk result (λ h. h ≡ heads.head targets.now form prerequisites.now) }
+    ensures { IfOk result (λ h. h ≡ heads.head kind targets.now form prerequisites.now) }
 {
     Ok(Head {
+        kind,
         targets: words(alloc, targets)?,
         form,
         normal: words(alloc, normal_text(prerequisites))?,
@@ -113,15 +119,36 @@ fn behind_colon(rest: &[u8]) -> &[u8]
     }
 }
 
-/// The head of these targets and of what stands behind the colon.
-fn head_with(alloc: Global, targets: &[u8], rest: &[u8]) -> Result<Head, NoMemory>
-    ensures { IfOk result (λ h. h ≡ heads.head_with targets.now rest.now) }
+/// Whether the next colon is a `::`.
+fn is_doubled(rest: &[u8]) -> bool
+    ensures { result ≡ heads.is_doubled rest.now }
 {
     match place_of(b':', rest) {
-        None => head_by(alloc, targets, None, rest),
+        Some(at) => behind(at, rest).starts_with(b":"),
+        None => false,
+    }
+}
+
+/// The colons of a head whose first one stands between these texts.
+pub(crate) fn colons_of(targets: &[u8], rest: &[u8]) -> Colons
+    ensures { result ≡ heads.colons_of targets.now rest.now }
+{
+    Colons {
+        grouped: targets.ends_with(b"&"),
+        double: rest.starts_with(b":"),
+        again: is_doubled(behind_colon(rest)),
+    }
+}
+
+/// The head of these targets and of what stands behind the colon.
+fn head_with(alloc: Global, kind: RuleKind, targets: &[u8], rest: &[u8]) -> Result<Head, NoMemory>
+    ensures { IfOk result (λ h. h ≡ heads.head_with kind targets.now rest.now) }
+{
+    match place_of(b':', rest) {
+        None => head_by(alloc, kind, targets, None, rest),
         Some(at) => {
             let form = Text::from_slice(alloc, trim(before(at, rest)))?;
-            head_by(alloc, targets, Some(form), behind(at, rest))
+            head_by(alloc, kind, targets, Some(form), behind(at, rest))
         }
     }
 }
@@ -130,8 +157,10 @@ fn head_with(alloc: Global, targets: &[u8], rest: &[u8]) -> Result<Head, NoMemor
 pub(crate) fn head_at(alloc: Global, text: &[u8], at: usize) -> Result<Head, NoMemory>
     ensures { IfOk result (λ h. h ≡ head_at text.now at) }
 {
-    let rest = behind_colon(behind(at, text));
-    head_with(alloc, targets_text(before(at, text)), rest)
+    let targets = before(at, text);
+    let rest = behind(at, text);
+    let kind = kind_of(targets, rest);
+    head_with(alloc, kind, targets_text(targets), behind_colon(rest))
 }
 
 /// The parts of a rule's head, when it is expanded; `None` exactly where no colon is in it, also

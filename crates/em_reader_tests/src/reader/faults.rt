@@ -55,12 +55,41 @@ const FAULTS: [Row; 35] = [
     ),
 ];
 
+/// Faults of grouped rules and of names with both kinds of rules.
+const KINDS: [Row; 14] = [
+    (b"a:\na::\n", b"*** Makefile:2: mixed a"),
+    (b"a::\nb ./a:\n", b"*** Makefile:2: mixed a"),
+    (b"b::\na::\nc a b &: ;x\n", b"*** Makefile:3: mixed a"),
+    (b"a.x:\na.x b.o:: %.o: %.c\n", b"*** Makefile:2: static a.x"),
+    (b"a b &:\n", b"*** Makefile:1: group a"),
+    (b"%.a %.b &: %.c\n", b"*** Makefile:1: group %.a"),
+    // it comes before the faults of the next statement and what that says
+    (b"\na b &: c\nbad\n", b"*** Makefile:2: group a"),
+    (b"a b &:\n$(info 1)\n", b"*** Makefile:1: group a"),
+    (b"a &:\nifdef X\n\t1\nendif\n", b"*** Makefile:1: group a"),
+    // at the end the earlier place counts
+    (b"a &:\nifndef X\n", b"*** Makefile:1: group a"),
+    (b"ifndef X\na &:\n", b"*** Makefile:1: no endif"),
+    (
+        b"ifndef X\na &:\nendif\nifndef Y\n",
+        b"*** Makefile:2: group a",
+    ),
+    (
+        b"ifndef X\nifndef Y\na &:\nendif\n",
+        b"*** Makefile:1: no endif",
+    ),
+    (
+        b"ifndef X\na: ;1\na &: ;2\n",
+        b"Makefile:3: warning: overriding recipe for target 'a'\n*** Makefile:1: no endif",
+    ),
+];
+
 /// What isn't supported, by its name.
-const REFUSED: [Row; 42] = [
-    (b"a:: b\n", b"*** Makefile:1: refused ::"),
+const REFUSED: [Row; 43] = [
+    (b"%.o:: b\n", b"*** Makefile:1: refused ::"),
     (b"a &:: b\n", b"*** Makefile:1: refused ::"),
-    (b"a &: b\n", b"*** Makefile:1: refused &:"),
-    (b"%.o %.p: x\n", b"*** Makefile:1: refused %"),
+    (b"a: b:: c\n", b"*** Makefile:1: refused ::"),
+    (b"%.o p: x\n", b"*** Makefile:1: refused %"),
     (b"a: lib(x)\n", b"*** Makefile:1: refused lib(x)"),
     (b"lib(x): a\n", b"*** Makefile:1: refused lib(x)"),
     (b"V != x\n", b"*** Makefile:1: refused !="),
@@ -106,7 +135,8 @@ const REFUSED: [Row; 42] = [
     (b"export\n", b"*** Makefile:1: refused export"),
     (b"unexport\n", b"*** Makefile:1: refused unexport"),
     (b"a: $(shell ls)\n", b"*** Makefile:1: refused shell"),
-    (b"a :: $(shell x)\n", b"*** Makefile:1: refused ::"),
+    (b"a :: $(shell x)\n", b"*** Makefile:1: refused shell"),
+    (b"a% :: $(shell x)\n", b"*** Makefile:1: refused ::"),
     (b"lib(m) $(shell x): y\n", b"*** Makefile:1: refused lib(m)"),
     (b"a %.o $(shell x): y\n", b"*** Makefile:1: refused %"),
     (b"%.o $(shell x): y\n", b"*** Makefile:1: refused shell"),
@@ -129,6 +159,11 @@ const REFUSED: [Row; 42] = [
 #[test]
 fn the_first_fault_is_told(rt: HostRuntime) -> Result<(), Fail> {
     compare(rt.alloc(), &FAULTS)
+}
+
+#[test]
+fn rules_of_both_kinds_and_groups_without_a_recipe_are_told(rt: HostRuntime) -> Result<(), Fail> {
+    compare(rt.alloc(), &KINDS)
 }
 
 #[test]

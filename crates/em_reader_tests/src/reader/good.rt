@@ -2,7 +2,7 @@
 use super::*;
 
 /// Rules.
-const RULES: [Row; 18] = [
+const RULES: [Row; 27] = [
     (b"", b"="),
     (
         b"a: b | c ;echo 1\n\techo 2\n",
@@ -38,6 +38,27 @@ const RULES: [Row; 18] = [
         b"a: |{$(if x,p q r) \\\n2}\n=a",
     ),
     (b"%.o: %.o: b\na:\n", b"%.o: b|\na: |\n=a"),
+    (b"x y &: s | o ;1\n", b"x y: s|o{1}\n=x"),
+    (b"x y&: s\n\t1\n", b"x y: s|{1}\n=x"),
+    (b"&: s\n", b": s|\n="),
+    (
+        b"a.o b.o &: %.o: %.c | %.h ;1\n",
+        b"a.o b.o: a.c b.c|a.h b.h{1}\n=a.o",
+    ),
+    (b"%.a %.b: %.c ;1\n", b"%.a %.b: %.c|{1}\n="),
+    (b"%.a %.b &: %.c ;1\n%.a %.b: %.c\na:\n", b"a: |\n=a"),
+    (
+        b"t:: a ;1\nt t:: b | c ;2\n",
+        b"t: a|{1}\nt: b|c{2}\nt: b|c{2}\n=t",
+    ),
+    (
+        b"a.o b.o:: %.o: %.c ;1\n",
+        b"a.o: a.c|{1}\nb.o: b.c|{1}\n=a.o",
+    ),
+    (
+        b"x y &: ;1\ny: ;2\n",
+        b"Makefile:2: warning: overriding recipe for target 'y'\nx y: |{1}\ny: |{2}\n=x",
+    ),
     (
         b".PHONY: a\n.SUFFIXES:\n.NOTPARALLEL: a\n",
         b".PHONY: a|\n.SUFFIXES: |\n.NOTPARALLEL: a|\n=",

@@ -1,7 +1,7 @@
 use Rattle.std.proofs.Common.{◌≡◌, true, is_some, arith}
 use Rattle.std.proofs.lemmas.Grind.{common_steps}
 use Rattle.em_rules.specs.Rules.{recipe_rule}
-use Rattle.em_reading.proofs.Told.{told_new}
+use Rattle.em_rules.proofs.Told.{told_new}
 use Rattle.em_reading.proofs.rules.add_warning_for.Goals as goal
 
 pub returns-clause-told : goal.returns-clause-told

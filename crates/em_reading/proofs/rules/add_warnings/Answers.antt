@@ -1,8 +1,9 @@
 use Rattle.std.proofs.Common.{ℕ, List, take, is_some, refl, rules}
 use Rattle.std.specs.FinMap.{get}
 use Rattle.em_rules.specs.Rules.{recipe_rule}
-use Rattle.em_reading.specs.Changes.{warning_for, each_once}
-use Rattle.em_reading.proofs.Told.{none_told, names_more, told_more, said_more}
+use Rattle.em_rules.specs.Groups.{each_once}
+use Rattle.em_reading.specs.Changes.{warning_for}
+use Rattle.em_rules.proofs.Told.{none_told, names_more, told_more, said_more}
 use Rattle.em_reading.proofs.rules.add_warnings.Goals as goal
 
 pub loop-target-init : goal.loop-target-init

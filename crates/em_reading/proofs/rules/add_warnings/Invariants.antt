@@ -2,7 +2,8 @@ use Rattle.std.proofs.Common.{◌≡◌, ◌++◌, ◌&&◌, ℕ, List, take, is
 use Rattle.std.specs.List.{flat_map}
 use Rattle.std.specs.FinMap.{get}
 use Rattle.em_rules.specs.Rules.{is_in, recipe_rule}
-use Rattle.em_reading.specs.Changes.{warning_for, each_once}
+use Rattle.em_rules.specs.Groups.{each_once}
+use Rattle.em_reading.specs.Changes.{warning_for}
 use Rattle.em_reading.proofs.rules.add_warnings.Given as goal
 
 -- of the targets so far the table has those that were told of
