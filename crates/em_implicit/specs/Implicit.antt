@@ -1,10 +1,10 @@
 -- The pattern rule that is chosen for a target.
 --     exists tree cwd name                  something stands at the name
---     applies rules tree cwd r target       each prerequisite that the rule makes for the target exists or is mentioned
---     candidates rules patterns tree cwd target      the pattern rules that match and apply, in order, with their stems
+--     applies rules tree cwd r m            each prerequisite that the rule makes for the match exists or is mentioned
+--     candidates rules patterns tree cwd target      the matches with which the pattern rules apply: rule by rule, target pattern by target pattern
 --     shortest fs                           the one with the shortest stem, the first of equal ones
 --     found rules patterns tree cwd target  the one that is chosen
---     offered rules patterns tree cwd target j       the stem with which the pattern rule of number j matches and applies
+--     offered rules patterns tree cwd target j k     the stem with which the pattern rule of number j matches by its target pattern of number k and applies
 use Rattle.std.specs.Prelude.{ℕ, ◌+◌, ◌&&◌, ◌||◌, nat_lt, Bool, true, false, List, [], ◌∷◌, ◌++◌, length, fold, slice_get, Option, Some, None, is_some, option_map, if◌then◌else◌}
 use Rattle.std.specs.List.{list_all}
 use Rattle.std.specs.FinMap.{get}
@@ -14,7 +14,7 @@ use Rattle.em_tree.specs.Trees.{Table}
 use Rattle.em_rules.specs.declared.rule.Rule.{Rule}
 use Rattle.em_rules.specs.Rules.{is_mentioned}
 use Rattle.em_implicit.specs.declared.seek.Found.{Found}
-use Rattle.em_implicit.specs.Matches.{rule_match, normal_of, order_of}
+use Rattle.em_implicit.specs.Matches.{match_of, match_at, normal_of, order_of}
 
 -- a name that is no path is absent
 abbrev pub exists_by : Option PathNo → Table → List ℕ → List ℕ → Bool
@@ -28,20 +28,28 @@ exists tree cwd name = exists_by (read_fault cwd name) tree cwd name
 abbrev pub is_there : List Rule → Table → List ℕ → List ℕ → Bool
 is_there rules tree cwd name = is_mentioned rules name || exists tree cwd name
 
-abbrev pub applies : List Rule → Table → List ℕ → Rule → List ℕ → Bool
-applies rules tree cwd r target = list_all (is_there rules tree cwd) (normal_of r target) && list_all (is_there rules tree cwd) (order_of r target)
+abbrev pub applies : List Rule → Table → List ℕ → Rule → Option (List ℕ × List ℕ) → Bool
+applies rules tree cwd r m = list_all (is_there rules tree cwd) (normal_of r m) && list_all (is_there rules tree cwd) (order_of r m)
+
+abbrev pub whole_stem : List ℕ × List ℕ → List ℕ
+whole_stem m = m.0 ++ m.1
 
 -- the stem begins with the directory
-abbrev pub candidate_by : Bool → ℕ → Option (List ℕ × List ℕ) → List Found
-candidate_by applies i None = []
-candidate_by applies i (Some m) = if applies then record { rule = i; stem = m.0 ++ m.1 } ∷ [] else []
+abbrev pub candidate_by : Bool → ℕ → ℕ → Option (List ℕ × List ℕ) → List Found
+candidate_by applies i k None = []
+candidate_by applies i k (Some m) = if applies then record { rule = i; pattern = k; stem = whole_stem m } ∷ [] else []
 
-abbrev pub candidate : List Rule → Table → List ℕ → List ℕ → ℕ → Rule → List Found
-candidate rules tree cwd target i r = candidate_by (applies rules tree cwd r target) i (rule_match r target)
+abbrev pub candidate : List Rule → Table → List ℕ → ℕ → Rule → ℕ → Option (List ℕ × List ℕ) → List Found
+candidate rules tree cwd i r k m = candidate_by (applies rules tree cwd r m) i k m
+
+-- those of a rule's target patterns from number k on
+abbrev pub candidates_of : ℕ → List Rule → Table → List ℕ → List ℕ → ℕ → Rule → List (List ℕ) → List Found
+candidates_of k rules tree cwd target i r [] = []
+candidates_of k rules tree cwd target i r (pattern ∷ rest) = candidate rules tree cwd i r k (match_of pattern target) ++ candidates_of (k + 1) rules tree cwd target i r rest
 
 abbrev pub candidates_from : ℕ → List Rule → List Rule → Table → List ℕ → List ℕ → List Found
 candidates_from i rules [] tree cwd target = []
-candidates_from i rules (r ∷ patterns) tree cwd target = candidate rules tree cwd target i r ++ candidates_from (i + 1) rules patterns tree cwd target
+candidates_from i rules (r ∷ patterns) tree cwd target = candidates_of 0 rules tree cwd target i r r.targets ++ candidates_from (i + 1) rules patterns tree cwd target
 
 abbrev pub candidates : List Rule → List Rule → Table → List ℕ → List ℕ → List Found
 candidates rules patterns tree cwd target = candidates_from 0 rules patterns tree cwd target
@@ -62,13 +70,10 @@ found rules patterns tree cwd target = shortest (candidates rules patterns tree 
 
 -- ---- in the rule's words, for laws
 
-abbrev pub whole_stem : List ℕ × List ℕ → List ℕ
-whole_stem m = m.0 ++ m.1
+abbrev pub offered_by : List Rule → Table → List ℕ → List ℕ → Option Rule → ℕ → Option (List ℕ)
+offered_by rules tree cwd target None k = None
+offered_by rules tree cwd target (Some r) k = if applies rules tree cwd r (match_at r k target) then option_map whole_stem (match_at r k target) else None
 
-abbrev pub offered_by : List Rule → Table → List ℕ → List ℕ → Option Rule → Option (List ℕ)
-offered_by rules tree cwd target None = None
-offered_by rules tree cwd target (Some r) = if applies rules tree cwd r target then option_map whole_stem (rule_match r target) else None
-
--- the stem with which the pattern rule of number j matches and applies
-abbrev pub offered : List Rule → List Rule → Table → List ℕ → List ℕ → ℕ → Option (List ℕ)
-offered rules patterns tree cwd target j = offered_by rules tree cwd target (slice_get patterns j)
+-- the stem with which the target pattern of number k matches, where the pattern rule of number j applies with it
+abbrev pub offered : List Rule → List Rule → Table → List ℕ → List ℕ → ℕ → ℕ → Option (List ℕ)
+offered rules patterns tree cwd target j k = offered_by rules tree cwd target (slice_get patterns j) k

@@ -1,9 +1,10 @@
--- How a target matches the target patterns of a rule, and the prerequisites that it then has.
+-- How a target matches the target patterns of a rule, and what the rule then makes.
 --     match_of pattern target    the directory and the stem with which it matches
---     rule_match r target        those of the first target pattern of the rule that it matches
---     normal_of r target, order_of r target      the prerequisites that the rule makes for it
-use Rattle.std.specs.Prelude.{ℕ, ◌-◌, ◌==◌, Bool, not, List, [], ◌∷◌, ◌++◌, map, length, take, drop, Option, Some, None, if◌then◌else◌}
-use Rattle.std.specs.Option.{option_or}
+--     match_at r i target        those with which it matches the target pattern of number i
+--     is_matched r target        it matches one of the target patterns
+--     normal_of r m, order_of r m    the prerequisites that the rule makes for a match
+--     members_of r m             the targets that it makes for it, one of each target pattern
+use Rattle.std.specs.Prelude.{ℕ, ◌-◌, ◌==◌, Bool, not, List, [], ◌∷◌, ◌++◌, map, length, take, drop, slice_get, Option, Some, None, is_some, if◌then◌else◌}
 use Rattle.std.specs.List.{suffix_len, list_any}
 use Rattle.em_base.specs.declared.place.Span.{Span}
 use Rattle.em_base.specs.Spans.{cut}
@@ -38,14 +39,17 @@ behind_dir dir (Some stem) = Some (dir, stem)
 abbrev pub match_of : List ℕ → List ℕ → Option (List ℕ × List ℕ)
 match_of pattern target = behind_dir (take (match_start pattern target) target) (filled_stem pattern (drop (match_start pattern target) target))
 
-abbrev pub first_match : List (List ℕ) → List ℕ → Option (List ℕ × List ℕ)
-first_match [] target = None
-first_match (pattern ∷ patterns) target = option_or (match_of pattern target) (first_match patterns target)
+abbrev pub match_by : Option (List ℕ) → List ℕ → Option (List ℕ × List ℕ)
+match_by None target = None
+match_by (Some pattern) target = match_of pattern target
 
-abbrev pub rule_match : Rule → List ℕ → Option (List ℕ × List ℕ)
-rule_match r target = first_match r.targets target
+abbrev pub match_at : Rule → ℕ → List ℕ → Option (List ℕ × List ℕ)
+match_at r i target = match_by (slice_get r.targets i) target
 
--- ---- prerequisites
+abbrev pub is_matched : Rule → List ℕ → Bool
+is_matched r target = list_any (λ pattern. is_some (match_of pattern target)) r.targets
+
+-- ---- what a match makes
 
 -- the directory is put before what is made from the stem; a name without `%` stands as it is
 abbrev pub made : List ℕ → List ℕ → List ℕ → List ℕ
@@ -55,8 +59,11 @@ abbrev pub made_all : Option (List ℕ × List ℕ) → List (List ℕ) → List
 made_all None patterns = []
 made_all (Some m) patterns = map (made m.0 m.1) patterns
 
-abbrev pub normal_of : Rule → List ℕ → List (List ℕ)
-normal_of r target = made_all (rule_match r target) r.normal
+abbrev pub normal_of : Rule → Option (List ℕ × List ℕ) → List (List ℕ)
+normal_of r m = made_all m r.normal
 
-abbrev pub order_of : Rule → List ℕ → List (List ℕ)
-order_of r target = made_all (rule_match r target) r.order
+abbrev pub order_of : Rule → Option (List ℕ × List ℕ) → List (List ℕ)
+order_of r m = made_all m r.order
+
+abbrev pub members_of : Rule → Option (List ℕ × List ℕ) → List (List ℕ)
+members_of r m = made_all m r.targets

@@ -7,6 +7,6 @@ mod pattern;
 mod seek;
 mod there;
 
-pub use made::{Prerequisites, prerequisites_of};
-pub use pattern::{Match, rule_match};
+pub use made::{Prerequisites, members_of, prerequisites_of};
+pub use pattern::{Match, match_at};
 pub use seek::{Found, find};

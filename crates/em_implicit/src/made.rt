@@ -1,8 +1,8 @@
-//! The prerequisites that a pattern rule makes for a target.
-ghost use Rattle.std.specs.Prelude.{◌≡◌, map, IfOk};
-ghost use Rattle.em_implicit.specs.Matches.{made, normal_of, order_of};
+//! What a pattern rule makes for a match.
+ghost use Rattle.std.specs.Prelude.{◌≡◌, map, IfOk, Some};
+ghost use Rattle.em_implicit.specs.Matches.{made, members_of, normal_of, order_of};
 
-use crate::pattern::{Match, rule_match};
+use crate::pattern::Match;
 use em_base::{NoMemory, Seq, Text};
 use em_rules::{Rule, undotted};
 use em_wordlist::fill;
@@ -15,8 +15,8 @@ pub struct Prerequisites {
     pub order: Seq<Text>,
 }
 
-/// The name that a prerequisite pattern is for a match, as it is known. The directory is put before
-/// it where it has a `%`.
+/// The name that a pattern is for a match, as it is known. The directory is put before it where it
+/// has a `%`.
 pub(crate) fn made(alloc: Global, found: Match<'_>, pattern: &[u8]) -> Result<Text, NoMemory>
     ensures { IfOk result (λ t. t ≡ made found.entry.dir.now found.entry.stem.now pattern.now) }
 {
@@ -28,7 +28,7 @@ pub(crate) fn made(alloc: Global, found: Match<'_>, pattern: &[u8]) -> Result<Te
     Text::from_slice(alloc, undotted(name.bytes()))
 }
 
-/// The names that the prerequisite patterns are.
+/// The names that the patterns are.
 fn made_all(alloc: Global, found: Match<'_>, patterns: &[Text]) -> Result<Seq<Text>, NoMemory>
     ensures { IfOk result (λ s. s
         ≡ map (made found.entry.dir.now found.entry.stem.now) patterns.now) }
@@ -40,24 +40,27 @@ fn made_all(alloc: Global, found: Match<'_>, patterns: &[Text]) -> Result<Seq<Te
     Ok(names)
 }
 
-/// The prerequisites that a pattern rule makes for a target, in the rule's order and as they are
-/// known; none where the target doesn't match. Three copies of each name.
+/// The prerequisites that a pattern rule makes for a match, in the rule's order and as they are
+/// known. Three copies of each name.
 pub fn prerequisites_of(
     alloc: Global,
     rule: &Rule,
-    target: &[u8],
+    found: Match<'_>,
 ) -> Result<Prerequisites, NoMemory>
-    ensures { IfOk result (λ p. (p.normal ≡ normal_of rule.now target.now)
-        × (p.order ≡ order_of rule.now target.now)) }
+    ensures { let m = Some (found.entry.dir.now, found.entry.stem.now) in IfOk result
+        (λ p. (p.normal ≡ normal_of rule.now m) × (p.order ≡ order_of rule.now m)) }
 {
-    let Some(found) = rule_match(rule, target) else {
-        return Ok(Prerequisites {
-            normal: Seq::new(alloc),
-            order: Seq::new(alloc),
-        });
-    };
     Ok(Prerequisites {
         normal: made_all(alloc, found, rule.normal.items())?,
         order: made_all(alloc, found, rule.order.items())?,
     })
+}
+
+/// The targets that a pattern rule makes for a match, one of each target pattern, in the rule's
+/// order and as they are known. Three copies of each name.
+pub fn members_of(alloc: Global, rule: &Rule, found: Match<'_>) -> Result<Seq<Text>, NoMemory>
+    ensures { IfOk result
+        (λ s. s ≡ members_of rule.now (Some (found.entry.dir.now, found.entry.stem.now))) }
+{
+    made_all(alloc, found, rule.targets.items())
 }

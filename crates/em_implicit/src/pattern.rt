@@ -1,7 +1,7 @@
 //! Whether a target matches a target pattern.
-ghost use Rattle.std.specs.Prelude.{◌≡◌, ◌++◌, ◌<◌, ◌≤◌, length, option_copied, option_map, Any, IfSome};
+ghost use Rattle.std.specs.Prelude.{◌≡◌, ◌++◌, ◌<◌, ◌≤◌, length, option_copied, option_map, slice_get, IfSome, IsSomeAnd};
 ghost use Rattle.em_wordlist.specs.Stems.{filled};
-ghost use Rattle.em_implicit.specs.Matches.{behind, filled_stem, match_of, rule_match};
+ghost use Rattle.em_implicit.specs.Matches.{behind, filled_stem, match_at, match_of};
 
 use em_rules::Rule;
 use em_wordlist::laws::law_filled_matches;
@@ -38,7 +38,7 @@ fn filled_stem<'a>(pattern: &[u8], word: &'a [u8]) -> Option<&'a [u8]>
 /// How a target matches a target pattern; `None` exactly where it doesn't. A pattern without a
 /// slash is matched against what stands behind the target's last slash, and its `%` stands for at
 /// least one byte.
-fn matched<'a>(pattern: &[u8], target: &'a [u8]) -> Option<Match<'a>>
+pub(crate) fn matched<'a>(pattern: &[u8], target: &'a [u8]) -> Option<Match<'a>>
     ensures parts { option_map (λ m. (m.dir.now, m.stem.now)) result
         ≡ match_of pattern.now target.now }
     ensures spelled { IfSome result (λ m. (0 < length m.stem.now)
@@ -54,19 +54,14 @@ fn matched<'a>(pattern: &[u8], target: &'a [u8]) -> Option<Match<'a>>
     Some(Match { dir, stem })
 }
 
-/// How a target matches the first target pattern of a rule that it matches; `None` exactly where it
-/// matches none.
-pub fn rule_match<'a>(rule: &Rule, target: &'a [u8]) -> Option<Match<'a>>
-    ensures first { option_map (λ m. (m.dir.now, m.stem.now)) result
-        ≡ rule_match rule.now target.now }
+/// How a target matches the target pattern of this number of a rule; `None` exactly where it
+/// doesn't match it, or there is no such pattern.
+pub fn match_at<'a>(rule: &Rule, pattern: usize, target: &'a [u8]) -> Option<Match<'a>>
+    ensures parts { option_map (λ m. (m.dir.now, m.stem.now)) result
+        ≡ match_at rule.now pattern target.now }
     ensures spelled { IfSome result (λ m. (0 < length m.stem.now)
-        × Any (λ p. target.now ≡ m.dir.now ++ filled p m.stem.now) rule.now.targets) }
+        × IsSomeAnd (slice_get rule.now.targets pattern)
+        (λ p. target.now ≡ m.dir.now ++ filled p m.stem.now)) }
 {
-    for pattern in rule.targets.items() {
-        let found = matched(pattern.bytes(), target);
-        if found.is_some() {
-            return found;
-        }
-    }
-    None
+    matched(rule.targets.get(pattern)?.bytes(), target)
 }

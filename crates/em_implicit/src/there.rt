@@ -1,9 +1,10 @@
-//! Whether what a pattern rule makes for a target is there.
-ghost use Rattle.std.specs.Prelude.{◌≡◌, IfOk};
+//! Whether what a pattern rule makes for a match is there.
+ghost use Rattle.std.specs.Prelude.{◌≡◌, IfOk, Some};
 ghost use Rattle.std.specs.List.{list_all};
 ghost use Rattle.em_implicit.specs.Implicit.{exists, is_there, applies};
 
 use crate::made::prerequisites_of;
+use crate::pattern::Match;
 use em_base::{NoMemory, Text};
 use em_path::{Path, PathNo};
 use em_rules::{Rule, Rules};
@@ -55,17 +56,17 @@ impl Known<'_> {
         Ok(true)
     }
 
-    /// Whether each prerequisite that the rule makes for the target is there.
+    /// Whether each prerequisite that the rule makes for a match is there.
     pub(crate) fn applies(
         &self,
         alloc: Global,
         rule: &Rule,
-        target: &[u8],
+        found: Match<'_>,
     ) -> Result<bool, NoMemory>
-        ensures { IfOk result (λ b. b
-            ≡ applies self.now.rules.now self.now.tree.now self.now.cwd.now rule.now target.now) }
+        ensures { let m = Some (found.entry.dir.now, found.entry.stem.now) in IfOk result (λ b. b
+            ≡ applies self.now.rules.now self.now.tree.now self.now.cwd.now rule.now m) }
     {
-        let needed = prerequisites_of(alloc, rule, target)?;
+        let needed = prerequisites_of(alloc, rule, found)?;
         if !self.are_there(alloc, needed.normal.items())? {
             return Ok(false);
         }
