@@ -1,7 +1,7 @@
 use em_base::{Construct, Fuel, NoMemory, Place, Seq, Text};
 use em_expand::{ExpandNo, Layers, Spoken, expand};
 use em_path::Path;
-use em_plan::{PlanJob, Pre};
+use em_plan::{Numbers, PlanJob, Pre};
 use em_recipe::{
     Marks, automatic_vars, bare, commands, fault_text, marks_of, put_deleted, put_failed,
     put_halted, put_ignored, put_no_rule, put_quoted, put_refused, put_spent, put_spent_early,
@@ -26,7 +26,8 @@ fn words(alloc: Global, text: &[u8]) -> Result<Seq<Text>, NoMemory> {
 fn pres(alloc: Global, text: &[u8]) -> Result<Seq<Pre>, NoMemory> {
     let mut pres = Seq::new(alloc);
     for name in words(alloc, text)?.into_vec() {
-        pres.push(Pre { name, job: 0 })?;
+        let jobs = Numbers::one(0);
+        pres.push(Pre { name, jobs })?;
     }
     Ok(pres)
 }
@@ -38,6 +39,8 @@ type Written = (&'static [u8], &'static [u8], &'static [u8], &'static [u8]);
 fn bare_job(alloc: Global, target: Text, stem: Text) -> PlanJob {
     PlanJob {
         target,
+        targets: Seq::new(alloc),
+        double: false,
         normal: Seq::new(alloc),
         order: Seq::new(alloc),
         stem,
@@ -57,6 +60,7 @@ fn named_job(alloc: Global, written: &Written) -> Result<PlanJob, NoMemory> {
 
 fn job(alloc: Global, written: &Written) -> Result<PlanJob, NoMemory> {
     let mut job = named_job(alloc, written)?;
+    job.targets.push(job.target.copy(alloc)?)?;
     job.normal = pres(alloc, written.1)?;
     job.order = pres(alloc, written.2)?;
     Ok(job)

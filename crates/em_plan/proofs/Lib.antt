@@ -1,5 +1,10 @@
-pub mod Numbers
-pub mod Walks
+pub mod Numbering
+pub mod Marking
+pub mod Lists
 pub mod Asked
+pub mod Saying
+pub mod Keeping
+pub mod Walks
 pub mod Serial
+pub mod Ending
 pub mod Reaching

@@ -1,6 +1,9 @@
+pub mod Numbers
+pub mod Once
 pub mod Makings
 pub mod Jobs
 pub mod Order
+pub mod Units
 pub mod Serial
 pub mod Reached
 pub mod Plans

@@ -1,13 +1,12 @@
 //! The goals.
-ghost use Rattle.std.specs.Prelude.{◌≡◌, ◌++◌, [], ℕ, List, IfOk, OnOk, is_some};
+ghost use Rattle.std.specs.Prelude.{◌≡◌, [], ℕ, List, map, IfOk, OnOk, is_some};
 ghost use Rattle.std.specs.FinMap as finmap;
-ghost use Rattle.std.specs.List.{cons_option, filter_map};
-ghost use Rattle.em_plan.specs.Order.{is_in};
-ghost use Rattle.em_plan.specs.Plans.{asked, each_once, once_more};
-ghost use Rattle.em_plan.specs.Resuming.{number_in};
+ghost use Rattle.em_plan.specs.Once.{each_once, is_among, once_more};
+ghost use Rattle.em_plan.specs.Plans.{asked};
+ghost use Rattle.em_plan.specs.Resuming.{numbers_in};
 
-use crate::job::number;
-use crate::walk::Mark;
+use crate::marks::{Mark, numbers_of};
+use crate::numbers::Numbers;
 use em_base::{NoMemory, Seq, Table, Text};
 use em_rules::undotted;
 use std::alloc::Global;
@@ -29,9 +28,9 @@ fn add_once(
     there: &mut Table<()>,
     name: &[u8],
 ) -> Result<(), NoMemory>
-    requires { (q : List ℕ) → is_some (finmap.get there.old q) ≡ is_in names.old q }
+    requires { (q : List ℕ) → is_some (finmap.get there.old q) ≡ is_among names.old q }
     ensures there { OnOk result
-        ((q : List ℕ) → is_some (finmap.get there.new q) ≡ is_in names.new q) }
+        ((q : List ℕ) → is_some (finmap.get there.new q) ≡ is_among names.new q) }
     ensures names { OnOk result (names.new ≡ once_more names.old name.now) }
 {
     if there.get(name).is_some() {
@@ -42,8 +41,8 @@ fn add_once(
     Ok(())
 }
 
-/// The goals' names without the `./` that they begin with, each where it first stands. One search
-/// for each.
+/// The names without the `./` that they begin with, each where it first stands. One search for
+/// each.
 pub(crate) fn each_once(alloc: Global, goals: &[Text]) -> Result<Seq<Text>, NoMemory>
     ensures { IfOk result (λ ns. ns ≡ each_once [] goals.now) }
 {
@@ -55,27 +54,29 @@ pub(crate) fn each_once(alloc: Global, goals: &[Text]) -> Result<Seq<Text>, NoMe
     Ok(names)
 }
 
-/// Appends the number, if there is one.
-fn add_number(all: &mut Seq<u32>, number: Option<u32>) -> Result<(), NoMemory>
-    ensures { OnOk result (all.new ≡ all.old ++ cons_option number []) }
+/// The names of a plan's goals, in its order: of the goals that are given, or else of the default
+/// goal. One search for each.
+pub fn goal_names(
+    alloc: Global,
+    goals: &[Text],
+    default_goal: &Option<Text>,
+) -> Result<Seq<Text>, NoMemory>
+    ensures { IfOk result (λ ns. ns ≡ each_once [] (asked goals.now default_goal.now)) }
 {
-    if let Some(number) = number {
-        all.push(number)?;
-    }
-    Ok(())
+    each_once(alloc, asked(goals, default_goal))
 }
 
-/// The numbers of those names that have one.
+/// The numbers of each name's jobs.
 pub(crate) fn numbers(
     alloc: Global,
     marks: &Table<Mark>,
     names: &[Text],
-) -> Result<Seq<u32>, NoMemory>
-    ensures { IfOk result (λ ns. ns ≡ filter_map (number_in marks.now) names.now) }
+) -> Result<Seq<Numbers>, NoMemory>
+    ensures { IfOk result (λ ns. ns ≡ map (numbers_in marks.now) names.now) }
 {
     let mut all = Seq::new(alloc);
     for name in names {
-        add_number(&mut all, number(marks, name.bytes()))?;
+        all.push(numbers_of(alloc, marks, name.bytes())?)?;
     }
     Ok(all)
 }

@@ -1,71 +1,63 @@
-//! The job of one name.
-ghost use Rattle.std.specs.Prelude.{◌≡◌, ◌∷◌, [], ◌++◌, IfOk, OnOk, map};
-ghost use Rattle.em_plan.specs.Jobs.{job_of, normal_ones, order_only_ones, pres, rising};
-ghost use Rattle.em_plan.specs.Resuming.{number_in};
+//! The job of one unit.
+ghost use Rattle.std.specs.Prelude.{◌≡◌, ◌∷◌, [], ◌++◌, IfOk, OnOk};
+ghost use Rattle.em_plan.specs.Jobs.{earlier_ones, job_of, jobs_in, normal_ones, order_only_ones, pres, rising};
+ghost use Rattle.em_plan.specs.Resuming.{numbers_in, open_in};
 
 use crate::making::{Making, Need};
+use crate::marks::{Mark, is_open, numbers, numbers_of};
 use crate::planned::{PlanJob, Pre};
-use crate::walk::Mark;
 use em_base::{NoMemory, Seq, Table, Text};
 use std::alloc::Global;
 
-/// The number with which the name is marked.
-pub(crate) fn number(marks: &Table<Mark>, name: &[u8]) -> Option<u32>
-    ensures { result ≡ number_in marks.now name.now }
-{
-    match marks.get(name) {
-        Some(Mark::Numbered(number)) => Some(*number),
-        _ => None,
-    }
-}
-
-/// The prerequisites that have a number, and these numbers in the same order.
+/// The prerequisites that aren't open, and the numbers of their jobs in the same order.
 #[derive(Drop)]
-struct Remaining {
+struct Needed {
     normal: Seq<Pre>,
     order: Seq<Pre>,
     jobs: Vec<u32>,
 }
 
-impl Remaining {
-    /// Appends the prerequisite, if it has a number.
-    fn add(&mut self, marks: &Table<Mark>, need: Need) -> Result<(), NoMemory>
-        ensures normal { OnOk result (self.new.normal
-            ≡ self.old.normal ++ pres (number_in marks.now) (normal_ones (need ∷ []))) }
-        ensures order { OnOk result (self.new.order
-            ≡ self.old.order ++ pres (number_in marks.now) (order_only_ones (need ∷ []))) }
-        ensures jobs { OnOk result (self.new.jobs.items
-            ≡ self.old.jobs.items ++ map (λ p. p.job) (pres (number_in marks.now) (need ∷ []))) }
+impl Needed {
+    /// Appends the prerequisite, unless it is open.
+    fn add(&mut self, alloc: Global, marks: &Table<Mark>, need: Need) -> Result<(), NoMemory>
+        ensures normal { OnOk result (self.new.normal ≡ self.old.normal
+            ++ pres (open_in marks.now) (numbers_in marks.now) (normal_ones (need ∷ []))) }
+        ensures order { OnOk result (self.new.order ≡ self.old.order
+            ++ pres (open_in marks.now) (numbers_in marks.now) (order_only_ones (need ∷ []))) }
+        ensures jobs { OnOk result (self.new.jobs.items ≡ self.old.jobs.items
+            ++ jobs_in (pres (open_in marks.now) (numbers_in marks.now) (need ∷ []))) }
     {
-        let Some(job) = number(marks, need.name.bytes()) else {
+        if is_open(marks, need.name.bytes()) {
             return Ok(());
-        };
+        }
         let Need { name, order } = need;
-        self.jobs.push(job)?;
+        let jobs = numbers_of(alloc, marks, name.bytes())?;
+        self.jobs.extend_from_slice(jobs.items())?;
         if order {
-            self.order.push(Pre { name, job })?;
+            self.order.push(Pre { name, jobs })?;
         } else {
-            self.normal.push(Pre { name, job })?;
+            self.normal.push(Pre { name, jobs })?;
         }
         Ok(())
     }
 }
 
-/// The prerequisites that have a number.
-fn with_numbers(alloc: Global, marks: &Table<Mark>, needs: Seq<Need>) -> Result<Remaining, NoMemory>
-    ensures normal { IfOk result (λ r. r.normal ≡ pres (number_in marks.now) (normal_ones needs)) }
-    ensures order { IfOk result
-        (λ r. r.order ≡ pres (number_in marks.now) (order_only_ones needs)) }
-    ensures jobs { IfOk result
-        (λ r. r.jobs.items ≡ map (λ p. p.job) (pres (number_in marks.now) needs)) }
+/// The prerequisites that aren't open.
+fn remaining(alloc: Global, marks: &Table<Mark>, needs: Seq<Need>) -> Result<Needed, NoMemory>
+    ensures normal { IfOk result (λ r. r.normal
+        ≡ pres (open_in marks.now) (numbers_in marks.now) (normal_ones needs)) }
+    ensures order { IfOk result (λ r. r.order
+        ≡ pres (open_in marks.now) (numbers_in marks.now) (order_only_ones needs)) }
+    ensures jobs { IfOk result (λ r. r.jobs.items
+        ≡ jobs_in (pres (open_in marks.now) (numbers_in marks.now) needs)) }
 {
-    let mut some = Remaining {
+    let mut some = Needed {
         normal: Seq::new(alloc),
         order: Seq::new(alloc),
         jobs: Vec::new(alloc),
     };
     for need in needs.into_vec() {
-        some.add(marks, need)?;
+        some.add(alloc, marks, need)?;
     }
     Ok(some)
 }
@@ -79,30 +71,44 @@ fn rising(mut jobs: Vec<u32>) -> Seq<u32>
     Seq::from_vec(jobs)
 }
 
-/// The job of a name whose prerequisites have been visited.
+/// Of a double-colon rule the numbers of the earlier ones for its name.
+fn earlier<'a>(marks: &'a Table<Mark>, double: bool, name: &[u8]) -> &'a [u32]
+    ensures { result.now ≡ earlier_ones double (numbers_in marks.now name.now) }
+{
+    if double { numbers(marks, name) } else { &[] }
+}
+
+/// The job of a unit whose prerequisites have been visited, while it is open: `trigger` is the name
+/// from which the walk came to it.
 pub(crate) fn job(
     alloc: Global,
     marks: &Table<Mark>,
-    target: Text,
+    trigger: Text,
     needed_by: Option<Text>,
     making: Making,
 ) -> Result<PlanJob, NoMemory>
-    ensures { IfOk result (λ j. j ≡ job_of (number_in marks.now) target needed_by making) }
+    ensures { IfOk result
+        (λ j. j ≡ job_of (open_in marks.now) (numbers_in marks.now) trigger needed_by making) }
 {
     let Making {
+        targets,
+        double,
         needs,
         stem,
         recipe,
         ruled,
         phony,
     } = making;
-    let Remaining {
+    let Needed {
         normal,
         order,
-        jobs,
-    } = with_numbers(alloc, marks, needs)?;
+        mut jobs,
+    } = remaining(alloc, marks, needs)?;
+    jobs.extend_from_slice(earlier(marks, double, trigger.bytes()))?;
     Ok(PlanJob {
-        target,
+        target: trigger,
+        targets,
+        double,
         normal,
         order,
         stem,

@@ -1,29 +1,50 @@
 //! Laws of the definitions: each function's contract is the law, and its body is empty.
-ghost use Rattle.std.specs.Prelude.{◌≡◌, ◌⊎◌, ◌↔◌, ◌<◌, ◌≤◌, ◌∷◌, length, Err, ℕ, List, [], Ok, Some, All, slice_get, true};
+ghost use Rattle.std.specs.Prelude.{◌≡◌, ◌⊎◌, ◌<◌, ◌≤◌, ◌∷◌, length, Bool, Err, ℕ, List, [], Ok, Some, All, slice_get, false, true};
 ghost use Rattle.std.specs.List.{Contains};
 ghost use Rattle.std.specs.List.Sorted.{IsStrictlySortedBy};
 ghost use Rattle.std.specs.Ordering.{nat_cmp};
+ghost use Rattle.em_rules.specs.declared.rule.Rule.{Rule};
+ghost use Rattle.em_rules.specs.Groups.{is_grouped_kind};
+ghost use Rattle.em_tree.specs.Trees.{Table};
 ghost use Rattle.em_plan.specs.declared.making.Making.{Making};
 ghost use Rattle.em_plan.specs.declared.planned.Plan.{Plan};
 ghost use Rattle.em_plan.specs.declared.planned.PlanJob.{PlanJob};
 ghost use Rattle.em_plan.specs.declared.walk.Walked.{Walked};
-ghost use Rattle.em_plan.specs.Jobs.{is_numbered};
-ghost use Rattle.em_plan.specs.Order.{finish, is_in, limit, visit, with_job};
-ghost use Rattle.em_plan.specs.Plans.{each_once, plan_for};
-ghost use Rattle.em_plan.specs.Reached.{Reached};
-ghost use Rattle.em_plan.specs.Resuming.{AreOnce};
+ghost use Rattle.em_plan.specs.Makings.{making_of};
+ghost use Rattle.em_plan.specs.Once.{each_once};
+ghost use Rattle.em_plan.specs.Order.{finish, is_open, limit, numbered, Open, opened, Says, units_left, visit, with_job};
+ghost use Rattle.em_plan.specs.Plans.{plan_for};
+ghost use Rattle.em_plan.specs.Reached.{IsPlain, Overfull, Reached};
 ghost use Rattle.em_plan.specs.Serial.{StandsBefore};
+ghost use Rattle.em_plan.specs.Units.{IsUnits};
 
 use crate::no::PlanNo;
 
-/// In a plan the job of each prerequisite that wasn't dropped stands before the job that needs it,
-/// and has the prerequisite's number.
+/// What makefiles say keeps to this: a unit's targets hold its name, and else none that is known; a
+/// name has units, how many doesn't hang on what is known, and several of them are double-colon
+/// rules, which make the name alone.
+pub fn law_units()
+    ensures { (rules patterns : List Rule) (tree : Table) (cwd : List ℕ)
+        → IsUnits (making_of rules patterns tree cwd) }
+{}
+
+/// What is known makes no difference to the units, where no rule is a grouped one and no pattern
+/// rule has several targets.
+pub fn law_plain()
+    ensures { (rules patterns : List Rule) (tree : Table) (cwd : List ℕ)
+        → All (λ r. is_grouped_kind r.kind ≡ false) rules
+        → All (λ r. length r.targets < 2) patterns
+        → IsPlain (making_of rules patterns tree cwd) }
+{}
+
+/// In a plan the jobs of each prerequisite that wasn't dropped stand before the job that needs it,
+/// and have the prerequisite among their targets.
 pub fn law_prerequisites_stand_before()
-    ensures normal { (says : List ℕ → Making) (goals : List (List ℕ)) (p : Plan)
+    ensures normal { (says : Says) (goals : List (List ℕ)) (p : Plan)
         → plan_for says goals ≡ Ok p
         → (k : ℕ) (job : PlanJob) → slice_get p.jobs k ≡ Some job
         → All (StandsBefore p.jobs k) job.normal }
-    ensures order { (says : List ℕ → Making) (goals : List (List ℕ)) (p : Plan)
+    ensures order { (says : Says) (goals : List (List ℕ)) (p : Plan)
         → plan_for says goals ≡ Ok p
         → (k : ℕ) (job : PlanJob) → slice_get p.jobs k ≡ Some job
         → All (StandsBefore p.jobs k) job.order }
@@ -31,58 +52,63 @@ pub fn law_prerequisites_stand_before()
 
 /// The jobs that a job waits for rise, and stand before it.
 pub fn law_waits()
-    ensures rise { (says : List ℕ → Making) (goals : List (List ℕ)) (p : Plan)
+    ensures rise { (says : Says) (goals : List (List ℕ)) (p : Plan)
         → plan_for says goals ≡ Ok p
         → (k : ℕ) (job : PlanJob) → slice_get p.jobs k ≡ Some job
         → IsStrictlySortedBy nat_cmp job.waits }
-    ensures below { (says : List ℕ → Making) (goals : List (List ℕ)) (p : Plan)
+    ensures below { (says : Says) (goals : List (List ℕ)) (p : Plan)
         → plan_for says goals ≡ Ok p
         → (k : ℕ) (job : PlanJob) → slice_get p.jobs k ≡ Some job
         → (i : ℕ) → Contains job.waits i → i < k }
 {}
 
-/// Each name stands once in a plan.
+/// Two jobs to which the walk came at one name are both of double-colon rules.
 pub fn law_once()
-    ensures { (says : List ℕ → Making) (goals : List (List ℕ)) (p : Plan)
-        → plan_for says goals ≡ Ok p
+    ensures { (says : Says) (goals : List (List ℕ)) (p : Plan)
+        → IsUnits says → plan_for says goals ≡ Ok p
         → (i k : ℕ) (a b : PlanJob) → slice_get p.jobs i ≡ Some a → slice_get p.jobs k ≡ Some b
-        → i < k → a.target ≡ b.target → ⊥ }
+        → i < k → a.target ≡ b.target → (a.double ≡ true) × (b.double ≡ true) }
 {}
 
-/// Without circles nothing is said: where names can be ranked so that each prerequisite has a lower
-/// rank than its target.
+/// Without circles nothing is said: where names can be ranked so that each prerequisite of a unit
+/// has a lower rank than the unit's name and targets.
 pub fn law_without_circles()
-    ensures { (says : List ℕ → Making) (rank : List ℕ → ℕ)
-        → ((n : List ℕ) → All (λ m. rank m.name < rank n) (says n).needs)
+    ensures { (says : Says) (rank : List ℕ → ℕ)
+        → ((known : List ℕ → Bool) (n : List ℕ) → All (λ m. All (λ x. (rank x.name < rank n)
+        × All (λ t. rank x.name < rank t) m.targets) m.needs) (says known n))
         → (goals : List (List ℕ)) (p : Plan) → plan_for says goals ≡ Ok p → p.notes ≡ [] }
 {}
 
-/// What was dropped was on the walk's stack: when a name gets its number, each of its prerequisites
-/// has one, or is open.
+/// What was dropped was on the walk's stack: when a unit gets its number, each unit of each of its
+/// prerequisites has one, or the prerequisite is open.
 pub fn law_dropped()
-    ensures { (says : List ℕ → Making) (left : ℕ) (stack : List (List ℕ)) (t : List ℕ)
-        (w v : Walked)
-        → finish (visit says left (t ∷ stack)) t stack (says t) (says t).needs w ≡ Ok v
-        → (last : Walked) × (v ≡ with_job t stack (says t) last)
-        × All (λ n. (is_in (t ∷ stack) n.name ≡ true) ⊎ (is_numbered last.jobs n.name ≡ true))
-        (says t).needs }
+    ensures { (says : Says) (left : ℕ) (stack : List Open) (n : List ℕ) (m : Making) (w v : Walked)
+        → IsUnits says
+        → finish (visit says left (opened n m ∷ stack)) (opened n m) stack m m.needs w ≡ Ok v
+        → (last : Walked) × (v ≡ with_job (opened n m) stack m last)
+        × All (λ x. (is_open (opened n m ∷ stack) x.name ≡ true)
+        ⊎ (units_left says (opened n m ∷ stack) last x.name ≡ [])) m.needs }
 {}
 
-/// A plan has a job for exactly the names that the goals reach: those that are in every set of
-/// names that has the goals and, with a name, what it needs.
+/// A plan has jobs only for names that the goals reach: those that are in every set of names that
+/// has the goals and, with a name, the targets and prerequisites of its units. Where what is known
+/// makes no difference to the units it has jobs for each such name.
 pub fn law_reached()
-    ensures { (says : List ℕ → Making) (goals : List (List ℕ)) (p : Plan)
+    ensures only { (says : Says) (goals : List (List ℕ)) (p : Plan)
         → plan_for says goals ≡ Ok p
-        → (n : List ℕ) → (is_numbered p.jobs n ≡ true) ↔ Reached says (each_once [] goals) n }
+        → (n : List ℕ) → numbered p.jobs n ≡ true → Reached says (each_once [] goals) n }
+    ensures each { (says : Says) (goals : List (List ℕ)) (p : Plan)
+        → IsUnits says → IsPlain says → plan_for says goals ≡ Ok p
+        → (n : List ℕ) → Reached says (each_once [] goals) n → numbered p.jobs n ≡ true }
 {}
 
-/// A plan has at most 65,536 jobs, and where there are too many, more names than that are reached:
-/// here they are, each once.
+/// A plan has at most 65,536 jobs, and where there are too many, more units than that are reached:
+/// here they are.
 pub fn law_limit()
-    ensures few { (says : List ℕ → Making) (goals : List (List ℕ)) (p : Plan)
+    ensures few { (says : Says) (goals : List (List ℕ)) (p : Plan)
         → plan_for says goals ≡ Ok p
         → length p.jobs ≤ limit }
-    ensures many { (says : List ℕ → Making) (goals : List (List ℕ))
-        → plan_for says goals ≡ Err PlanNo.TooManyJobs → (names : List (List ℕ)) × AreOnce names
-        × (limit < length names) × All (Reached says (each_once [] goals)) names }
+    ensures many { (says : Says) (goals : List (List ℕ)) → IsUnits says
+        → plan_for says goals ≡ Err PlanNo.TooManyJobs
+        → Overfull says (Reached says (each_once [] goals)) }
 {}

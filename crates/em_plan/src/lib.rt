@@ -5,12 +5,18 @@ mod goals;
 mod job;
 pub mod laws;
 mod making;
+mod marks;
+mod members;
+mod needs;
 mod no;
+mod numbers;
 mod planned;
 mod planning;
 mod walk;
 
+pub use goals::goal_names;
 pub use making::{Makefile, Making, Need};
 pub use no::PlanNo;
+pub use numbers::Numbers;
 pub use planned::{Plan, PlanJob, Pre};
 pub use planning::plan;

@@ -1,12 +1,16 @@
 //! What the makefiles say of a name.
-ghost use Rattle.std.specs.Prelude.{◌≡◌, ◌++◌, ◌<◌, ◌^◌, length, map, IfOk, OnOk, option_copied, slice_get, Some};
-ghost use Rattle.std.specs.Option.{option_and_then};
-ghost use Rattle.em_rules.specs.Rules.{recipe_rule};
-ghost use Rattle.em_plan.specs.Makings.{made_by, need, needs_at, needs_in, own_making, own_needs, recipe_first, says, stem_by, with_pattern, with_rule};
+ghost use Rattle.std.specs.Prelude.{◌≡◌, ◌<◌, ◌^◌, length, IfOk, IfSome, option_copied, option_map, slice_get, Some};
+ghost use Rattle.std.specs.List.{list_any};
+ghost use Rattle.em_rules.specs.Rules.{is_phony, numbers_of};
+ghost use Rattle.em_plan.specs.Makings.{bare_unit, double_unit, found_for, group_of, own_unit, pattern_by, recipe_by, ruled_unit, says, stem_by, unit_of, unruled_unit};
+ghost use Rattle.em_plan.specs.Resuming.{known_in, numbers_in};
 
+use crate::marks::{Mark, numbers};
+use crate::members::{Choice, alone};
+use crate::needs::{add_group_needs, add_needs, add_needs_for, add_others, add_pattern_needs};
 use crate::planned::copied;
-use em_base::{NoMemory, Seq, Text};
-use em_implicit::{Found, find, prerequisites_of};
+use em_base::{NoMemory, Seq, Table, Text};
+use em_implicit::{Found, find};
 use em_path::Path;
 use em_rules::{Book, RecipeLine, Rule, Rules};
 use em_tree::Tree;
@@ -20,9 +24,12 @@ pub struct Need {
     pub order: bool,
 }
 
-/// How a name is made.
+/// How a unit is made: a name, the members of a group, or what one double-colon rule makes.
 #[derive(Debug, Drop)]
 pub struct Making {
+    pub targets: Seq<Text>,
+    /// Whether it is a double-colon rule.
+    pub double: bool,
     /// Its prerequisites in the order in which they are visited.
     pub needs: Seq<Need>,
     /// What `%` stands for, where the recipe is that of a pattern rule or of a static pattern rule;
@@ -31,101 +38,8 @@ pub struct Making {
     pub recipe: Option<Seq<RecipeLine>>,
     /// Whether it has a rule, or a pattern rule applies to it.
     pub ruled: bool,
+    /// Whether one of the targets is phony.
     pub phony: bool,
-}
-
-/// Appends prerequisites of one kind, each with a copy of its name.
-fn add_names(
-    alloc: Global,
-    needs: &mut Seq<Need>,
-    names: &[Text],
-    order: bool,
-) -> Result<(), NoMemory>
-    ensures { OnOk result (needs.new ≡ needs.old ++ map (need order) names.now) }
-{
-    for name in names {
-        needs.push(Need {
-            name: name.copy(alloc)?,
-            order,
-        })?;
-    }
-    Ok(())
-}
-
-/// Appends the prerequisites of a rule.
-fn add_needs(
-    alloc: Global,
-    needs: &mut Seq<Need>,
-    normal: &[Text],
-    order: &[Text],
-) -> Result<(), NoMemory>
-    ensures { OnOk result (needs.new ≡ needs.old ++ needs_in normal.now order.now) }
-{
-    add_names(alloc, needs, normal, false)?;
-    add_names(alloc, needs, order, true)?;
-    Ok(())
-}
-
-/// Appends the prerequisites of the rule of this number.
-fn add_needs_at(
-    alloc: Global,
-    needs: &mut Seq<Need>,
-    rules: &Rules,
-    number: usize,
-) -> Result<(), NoMemory>
-    ensures { OnOk result (needs.new ≡ needs.old ++ needs_at rules.now number) }
-{
-    match rules.get(number) {
-        None => Ok(()),
-        Some(rule) => add_needs(alloc, needs, rule.normal.items(), rule.order.items()),
-    }
-}
-
-/// Appends these prerequisites.
-fn append(needs: &mut Seq<Need>, more: Seq<Need>) -> Result<(), NoMemory>
-    ensures { OnOk result (needs.new ≡ needs.old ++ more) }
-{
-    for need in more.into_vec() {
-        needs.push(need)?;
-    }
-    Ok(())
-}
-
-/// The number of the rule with the recipe, then the others in order.
-fn recipe_first(recipe: Option<usize>, mut numbers: Vec<usize>) -> Result<Vec<usize>, NoMemory>
-    ensures { IfOk result (λ v. v.items ≡ recipe_first recipe numbers.items) }
-{
-    let Some(recipe) = recipe else {
-        return Ok(numbers);
-    };
-    numbers.retain(|number| *number != recipe);
-    numbers.insert(0, recipe)?;
-    Ok(numbers)
-}
-
-/// The prerequisites of a name's own rules.
-fn own_needs(
-    alloc: Global,
-    rules: &Rules,
-    recipe: Option<usize>,
-    name: &[u8],
-) -> Result<Seq<Need>, NoMemory>
-    requires { recipe ≡ recipe_rule rules.now name.now }
-    ensures { IfOk result (λ n. n ≡ own_needs rules.now name.now) }
-{
-    let numbers = recipe_first(recipe, rules.rules_of(alloc, name)?.into_vec())?;
-    let mut needs = Seq::new(alloc);
-    for number in &numbers {
-        add_needs_at(alloc, &mut needs, rules, *number)?;
-    }
-    Ok(needs)
-}
-
-/// The rule of this number.
-fn rule_at(rules: &Rules, number: Option<usize>) -> Option<&Rule>
-    ensures { option_copied result ≡ option_and_then (λ i. slice_get rules.now i) number }
-{
-    rules.get(number?)
 }
 
 /// What `%` stands for in a static pattern rule.
@@ -140,7 +54,7 @@ fn stem_of(alloc: Global, rule: Option<&Rule>, name: &[u8]) -> Result<Text, NoMe
 
 /// The rule's recipe, if it has one.
 fn recipe_of(alloc: Global, rule: Option<&Rule>) -> Result<Option<Seq<RecipeLine>>, NoMemory>
-    ensures { IfOk result (λ r. r ≡ option_and_then (λ x. x.recipe) (option_copied rule.entry)) }
+    ensures { IfOk result (λ r. r ≡ recipe_by (option_copied rule.entry)) }
 {
     match rule {
         None => Ok(None),
@@ -148,26 +62,145 @@ fn recipe_of(alloc: Global, rule: Option<&Rule>) -> Result<Option<Seq<RecipeLine
     }
 }
 
-/// How a name is made by a pattern rule with this stem and by its own rules.
-fn with_rule(
-    alloc: Global,
-    rule: &Rule,
-    stem: Text,
-    name: &[u8],
-    own: Making,
-) -> Result<Making, NoMemory>
-    ensures { IfOk result (λ m. m ≡ with_rule (Some rule.now) stem name.now own) }
+/// Whether one of the names is phony.
+fn is_any_phony(rules: &Rules, names: &[Text]) -> bool
+    ensures { result ≡ list_any (is_phony rules.now) names.now }
 {
-    let made = prerequisites_of(alloc, rule, name)?;
+    names.iter().any(|name| rules.is_phony(name.bytes()))
+}
+
+/// The unit of the name's double-colon rule of this number.
+fn double_unit(alloc: Global, rules: &Rules, name: &[u8], number: usize) -> Result<Making, NoMemory>
+    ensures { IfOk result (λ m. m ≡ double_unit rules.now name.now number) }
+{
+    let rule = rules.get(number);
+    let targets = alone(alloc, name)?;
     let mut needs = Seq::new(alloc);
-    add_needs(alloc, &mut needs, made.normal.items(), made.order.items())?;
-    append(&mut needs, own.needs)?;
+    add_needs_for(alloc, &mut needs, rules, name, number)?;
     Ok(Making {
+        phony: is_any_phony(rules, targets.items()),
+        targets,
+        double: true,
         needs,
-        stem,
+        stem: stem_of(alloc, rule, name)?,
+        recipe: recipe_of(alloc, rule)?,
+        ruled: true,
+    })
+}
+
+/// The unit of a name without a recipe.
+fn bare_unit(alloc: Global, rules: &Rules, name: &[u8]) -> Result<Making, NoMemory>
+    ensures { IfOk result (λ m. m ≡ bare_unit rules.now name.now) }
+{
+    let targets = alone(alloc, name)?;
+    let mut needs = Seq::new(alloc);
+    add_others(alloc, &mut needs, rules, None, targets.items())?;
+    Ok(Making {
+        phony: is_any_phony(rules, targets.items()),
+        targets,
+        double: false,
+        needs,
+        stem: Text::new(alloc),
+        recipe: None,
+        ruled: rules.is_target(name),
+    })
+}
+
+/// The unit of a name that has its recipe from this rule, the one of this number.
+fn own_unit(
+    alloc: Global,
+    rules: &Rules,
+    name: &[u8],
+    number: usize,
+    rule: &Rule,
+) -> Result<Making, NoMemory>
+    ensures { IfOk result (λ m. m ≡ own_unit rules.now name.now number rule.now) }
+{
+    let targets = alone(alloc, name)?;
+    let mut needs = Seq::new(alloc);
+    add_needs(
+        alloc,
+        &mut needs,
+        rule.normal_for(name),
+        rule.order_for(name),
+    )?;
+    add_others(alloc, &mut needs, rules, Some(number), targets.items())?;
+    Ok(Making {
+        phony: is_any_phony(rules, targets.items()),
+        targets,
+        double: false,
+        needs,
+        stem: stem_of(alloc, Some(rule), name)?,
         recipe: recipe_of(alloc, Some(rule))?,
         ruled: true,
-        phony: own.phony,
+    })
+}
+
+/// The unit of these members of a group, whose rule is this one of this number.
+fn group_unit(
+    alloc: Global,
+    choice: Choice<'_>,
+    number: usize,
+    rule: &Rule,
+    members: Seq<Text>,
+) -> Result<Making, NoMemory>
+    ensures { let c = choice.entry in IfOk result
+        (λ m. m ≡ group_of c.rules.now c.name.now number rule.now members) }
+{
+    let Choice { rules, name, .. } = choice;
+    let mut needs = Seq::new(alloc);
+    add_group_needs(alloc, &mut needs, rule, members.items())?;
+    add_others(alloc, &mut needs, rules, Some(number), members.items())?;
+    Ok(Making {
+        phony: is_any_phony(rules, members.items()),
+        targets: members,
+        double: false,
+        needs,
+        stem: stem_of(alloc, Some(rule), name)?,
+        recipe: recipe_of(alloc, Some(rule))?,
+        ruled: true,
+    })
+}
+
+/// The unit of a name that has its recipe from the rule of this number.
+fn ruled_unit(alloc: Global, choice: Choice<'_>, number: usize) -> Result<Making, NoMemory>
+    ensures { let c = choice.entry in IfOk result
+        (λ m. m ≡ ruled_unit (known_in c.marks.now) c.rules.now c.name.now number) }
+{
+    let Choice { rules, name, .. } = choice;
+    let Some(rule) = rules.get(number) else {
+        return bare_unit(alloc, rules, name);
+    };
+    if !rule.kind.is_grouped() {
+        return own_unit(alloc, rules, name, number, rule);
+    }
+    let members = choice.group(alloc, number)?;
+    group_unit(alloc, choice, number, rule, members)
+}
+
+/// The unit of a name by the pattern rule that was found for it.
+fn pattern_unit(
+    alloc: Global,
+    choice: Choice<'_>,
+    rule: &Rule,
+    found: Found,
+) -> Result<Making, NoMemory>
+    ensures { let c = choice.entry in IfOk result (λ m. m
+        ≡ pattern_by (known_in c.marks.now) c.rules.now c.name.now found (Some rule.now)) }
+{
+    let Choice { rules, name, .. } = choice;
+    let targets = choice.pattern(alloc, rule, found.pattern)?;
+    let mut needs = Seq::new(alloc);
+    add_pattern_needs(alloc, &mut needs, rule, found.pattern, name)?;
+    add_others(alloc, &mut needs, rules, None, targets.items())?;
+    Ok(Making {
+        phony: is_any_phony(rules, targets.items()),
+        targets,
+        double: false,
+        needs,
+        stem: found.stem,
+        recipe: recipe_of(alloc, Some(rule))?,
+        ruled: true,
     })
 }
 
@@ -181,64 +214,104 @@ pub struct Makefile<'a> {
 }
 
 impl Makefile<'_> {
-    /// How a name is made by the rules for it alone.
-    fn own_making(&self, alloc: Global, name: &[u8]) -> Result<Making, NoMemory>
-        ensures { IfOk result (λ m. m ≡ own_making self.now.book.now.rules name.now) }
+    /// The pattern rule for a name without a recipe, unless it is phony.
+    fn found_for(&self, alloc: Global, name: &[u8]) -> Result<Option<Found>, NoMemory>
+        ensures { let book = self.now.book.now in IfOk result (λ f. f
+            ≡ found_for book.rules book.patterns self.now.tree.now self.now.cwd.now name.now) }
+    {
+        if self.book.rules.is_phony(name) {
+            return Ok(None);
+        }
+        find(alloc, self.book, name, self.tree, self.cwd)
+    }
+
+    /// The unit of a name without a recipe.
+    fn unruled_unit(&self, alloc: Global, choice: Choice<'_>) -> Result<Making, NoMemory>
+        requires { choice.rules.now ≡ self.now.book.now.rules }
+        ensures { let book = self.now.book.now in let c = choice.entry in IfOk result (λ m. m
+            ≡ unruled_unit (known_in c.marks.now) book.rules book.patterns c.name.now
+            (found_for book.rules book.patterns self.now.tree.now self.now.cwd.now c.name.now)) }
+    {
+        let Some(found) = self.found_for(alloc, choice.name)? else {
+            return bare_unit(alloc, choice.rules, choice.name);
+        };
+        match self.book.patterns.get(found.rule) {
+            None => bare_unit(alloc, choice.rules, choice.name),
+            Some(rule) => pattern_unit(alloc, choice, rule, found),
+        }
+    }
+
+    /// The unit of a name that has no double-colon rules.
+    fn unit(&self, alloc: Global, marks: &Table<Mark>, name: &[u8]) -> Result<Making, NoMemory>
+        ensures { let book = self.now.book.now in IfOk result (λ m. m
+            ≡ unit_of (known_in marks.now) book.rules book.patterns
+            self.now.tree.now self.now.cwd.now name.now) }
     {
         let rules = &self.book.rules;
-        let number = rules.recipe_rule(name);
-        let rule = rule_at(rules, number);
-        Ok(Making {
-            needs: own_needs(alloc, rules, number, name)?,
-            stem: stem_of(alloc, rule, name)?,
-            recipe: recipe_of(alloc, rule)?,
-            ruled: rules.is_target(name),
-            phony: rules.is_phony(name),
-        })
+        let choice = Choice { rules, marks, name };
+        match rules.recipe_rule(name) {
+            Some(number) => ruled_unit(alloc, choice, number),
+            None => self.unruled_unit(alloc, choice),
+        }
     }
 
-    /// How a name is made where this pattern rule was found for it, if one was.
-    fn with_pattern(
+    /// The unit of the name's double-colon rule of this place among its rules, if there is one.
+    fn double_at(
         &self,
         alloc: Global,
-        found: Option<Found>,
         name: &[u8],
-        own: Making,
-    ) -> Result<Making, NoMemory>
-        ensures { IfOk result
-            (λ m. m ≡ with_pattern self.now.book.now.patterns found name.now own) }
+        place: usize,
+    ) -> Result<Option<Making>, NoMemory>
+        ensures { let rules = self.now.book.now.rules in IfOk result (λ o. o ≡ option_map
+            (double_unit rules name.now) (slice_get (numbers_of rules name.now) place)) }
     {
-        let Some(Found { rule, stem }) = found else {
-            return Ok(own);
-        };
-        match self.book.patterns.get(rule) {
-            None => Ok(own),
-            Some(rule) => with_rule(alloc, rule, stem, name, own),
+        let rules = &self.book.rules;
+        let numbers = rules.rules_of(alloc, name)?;
+        match numbers.get(place) {
+            None => Ok(None),
+            Some(number) => Ok(Some(double_unit(alloc, rules, name, *number)?)),
         }
     }
 
-    /// How a name is made, where a pattern rule is looked for if it isn't phony and has no recipe.
-    fn by_patterns(&self, alloc: Global, name: &[u8], own: Making) -> Result<Making, NoMemory>
-        ensures { let book = self.now.book.now in IfOk result (λ m. m
-            ≡ made_by book.rules book.patterns self.now.tree.now self.now.cwd.now name.now own) }
-    {
-        if own.phony || own.recipe.is_some() {
-            return Ok(own);
-        }
-        let found = find(alloc, self.book, name, self.tree, self.cwd)?;
-        self.with_pattern(alloc, found, name, own)
-    }
-
-    /// How a name is made. A few searches by name; where the name isn't phony and has no recipe,
+    /// The name's next unit: the first that has no number; `None` exactly where each has one. A few
+    /// searches by name for each target; where the name has no rule with a recipe and isn't phony,
     /// also a search for a pattern rule. Each prerequisite's name and the recipe are copied once
-    /// (what a pattern rule makes four times).
-    pub(crate) fn making(&self, alloc: Global, name: &[u8]) -> Result<Making, NoMemory>
-        ensures exact { IfOk result (λ m. m ≡ says self.now name.now) }
-        ensures few { IfOk result (λ m. length m.needs < 2 ^ 64) }
+    /// (what a pattern rule makes four times), and the numbers of a name's double-colon rules each
+    /// time.
+    fn next_unit(
+        &self,
+        alloc: Global,
+        marks: &Table<Mark>,
+        name: &[u8],
+    ) -> Result<Option<Making>, NoMemory>
+        ensures { IfOk result (λ o. o ≡ slice_get (says self.now (known_in marks.now) name.now)
+            (length (numbers_in marks.now name.now))) }
     {
-        let own = self.own_making(alloc, name)?;
-        let making = self.by_patterns(alloc, name, own)?;
-        let _count = making.needs.len();
+        let place = numbers(marks, name).len();
+        if self.book.rules.is_double(name) {
+            return self.double_at(alloc, name, place);
+        }
+        if place > 0 {
+            return Ok(None);
+        }
+        Ok(Some(self.unit(alloc, marks, name)?))
+    }
+
+    /// The name's next unit, with fewer than 2^64 prerequisites.
+    pub(crate) fn making(
+        &self,
+        alloc: Global,
+        marks: &Table<Mark>,
+        name: &[u8],
+    ) -> Result<Option<Making>, NoMemory>
+        ensures next { IfOk result (λ o. o ≡ slice_get (says self.now (known_in marks.now) name.now)
+            (length (numbers_in marks.now name.now))) }
+        ensures few { IfOk result (λ o. IfSome o (λ m. length m.needs < 2 ^ 64)) }
+    {
+        let making = self.next_unit(alloc, marks, name)?;
+        if let Some(making) = &making {
+            let _count = making.needs.len();
+        }
         Ok(making)
     }
 }

@@ -1,15 +1,16 @@
 //! The plan as data.
 ghost use Rattle.std.specs.Prelude.{◌≡◌, IfOk};
 
+use crate::numbers::Numbers;
 use em_base::{NoMemory, Seq, Text, TryClone};
 use em_rules::RecipeLine;
 use std::alloc::Global;
 
-/// A prerequisite, and the number of its job.
+/// A prerequisite, and the numbers of its jobs: one, but for a name with double-colon rules.
 #[derive(Debug, Drop, PartialEq, Eq)]
 pub struct Pre {
     pub name: Text,
-    pub job: u32,
+    pub jobs: Numbers,
 }
 
 impl Pre {
@@ -19,7 +20,7 @@ impl Pre {
     {
         Ok(Pre {
             name: self.name.copy(alloc)?,
-            job: self.job,
+            jobs: self.jobs.copy(alloc)?,
         })
     }
 }
@@ -33,7 +34,12 @@ impl TryClone for Pre {
 /// What is to be done for one name.
 #[derive(Debug, Drop, PartialEq, Eq)]
 pub struct PlanJob {
+    /// The name from which the walk came to the job: `$@`, and what messages name.
     pub target: Text,
+    /// All the targets that its recipe makes, in the order of the rule.
+    pub targets: Seq<Text>,
+    /// Whether it is the job of a double-colon rule.
+    pub double: bool,
     /// The normal prerequisites in order, without those that were dropped; a name that is written
     /// twice stands twice.
     pub normal: Seq<Pre>,
@@ -72,6 +78,8 @@ impl PlanJob {
     {
         Ok(PlanJob {
             target: self.target.copy(alloc)?,
+            targets: self.targets.copy(alloc)?,
+            double: self.double,
             normal: self.normal.copy(alloc)?,
             order: self.order.copy(alloc)?,
             stem: self.stem.copy(alloc)?,
@@ -84,11 +92,11 @@ impl PlanJob {
     }
 }
 
-/// The jobs in serial order, each with the place at which it stands as its number, the jobs of the
-/// goals, and what is said of prerequisites that were dropped.
+/// The jobs in serial order, each with the place at which it stands as its number, the jobs of each
+/// goal, and what is said of prerequisites that were dropped.
 #[derive(Debug, Drop, PartialEq, Eq)]
 pub struct Plan {
     pub jobs: Seq<PlanJob>,
-    pub goals: Seq<u32>,
+    pub goals: Seq<Numbers>,
     pub notes: Text,
 }

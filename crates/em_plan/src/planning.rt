@@ -13,18 +13,20 @@ use em_rules::Book;
 use em_tree::Tree;
 use std::alloc::Global;
 
-/// The plan for these goals, or for the default goal where none is given: a job for each name that
-/// they reach, in serial order. Whether a name exists is judged by the tree, names being read
+/// The plan for these goals, or for the default goal where none is given: a job for each unit that
+/// they reach, in serial order. A unit is a name, the members of a group, or what one double-colon
+/// rule of a name makes. Whether a name exists is judged by the tree, names being read
 /// against the working directory.
 ///
 /// `NoTargets` comes exactly where no goal is given and the book has no default goal, also where
-/// memory is short. `TooManyJobs` comes exactly where more than 65,536 names are reached.
+/// memory is short. `TooManyJobs` comes exactly where more than 65,536 units are reached.
 ///
 /// A few searches by name for each name that is reached and for each of its prerequisites, and
-/// `find` for each name that isn't phony and has no recipe. The names that are open lie on a stack
+/// `find` for each name that isn't phony and has no recipe. The units that are open lie on a stack
 /// of their own, which the limit alone bounds. A prerequisite's name is copied once (four times
-/// where a pattern rule makes it), a job's name three times, its recipe once, and the name that
-/// needs it once.
+/// where a pattern rule makes it) and once for each unit that it has, a job's targets a few times,
+/// its recipe once, and the name that needs it once. Of n double-colon rules of one name each waits
+/// for all before it, so that their waits are n n / 2 numbers.
 pub fn plan(
     alloc: Global,
     book: &Book,

@@ -1,14 +1,15 @@
 //! The walk over the prerequisites, with a stack of its own and a mark for each name.
-ghost use Rattle.std.specs.Prelude.{ℕ, List, Ok, ◌≡◌, ◌<◌, ◌≤◌, ◌∷◌, [], ◌+◌, nat_lt, length, true, Some, None, slice_get, IfOk, IfErr, IsSomeAnd, OnOk, is_some};
+ghost use Rattle.std.specs.Prelude.{ℕ, List, Ok, ◌≡◌, ◌⊎◌, ◌<◌, ◌^◌, ◌∷◌, [], ◌+◌, nat_lt, length, true, false, Some, None, slice_get, IfOk, IfErr, OnOk};
 ghost use Rattle.std.specs.Option.{option_map};
 ghost use Rattle.std.specs.FinMap as finmap;
-ghost use Rattle.em_plan.specs.declared.making.Making.{Making as Made};
+ghost use Rattle.em_plan.specs.Once.{is_among};
 ghost use Rattle.em_plan.specs.Makings.{says};
-ghost use Rattle.em_plan.specs.Order.{and_then, note, visit, visit_all, nothing_walked, limit};
-ghost use Rattle.em_plan.specs.Resuming.{names, number_in, reach, resume, IsMarked, Steps, Fails, weight};
+ghost use Rattle.em_plan.specs.Order.{from_in, has_room, limit, note, nothing_walked, Says, units_left, visit, visit_all};
+ghost use Rattle.em_plan.specs.Resuming.{known_in, numbers_in, open_by, open_in, opening, opens, resume, Fails, IsMarked, Steps};
 
 use crate::job::job;
 use crate::making::{Makefile, Making};
+use crate::marks::{Mark, close_all, is_open, open_all};
 use crate::no::PlanNo;
 use crate::planned::PlanJob;
 use em_base::{NoMemory, Seq, Stack, Table, Text};
@@ -17,18 +18,10 @@ use std::alloc::Global;
 /// The most jobs of a plan.
 const LIMIT: usize = 65_536;
 
-/// How far the walk is with a name.
-#[derive(Clone, Copy, Debug, PartialEq, Eq)]
-pub enum Mark {
-    /// Its prerequisites are being visited.
-    Open,
-    /// It has this number.
-    Numbered(u32),
-}
-
-/// A name whose prerequisites are being visited.
+/// A unit whose prerequisites are being visited.
 #[derive(Drop)]
 pub struct Frame {
+    /// The name from which the walk came to it.
     pub target: Text,
     pub making: Making,
     /// The place of the next prerequisite.
@@ -50,13 +43,6 @@ pub struct Walk {
     pub walked: Walked,
 }
 
-/// The mark of the name.
-fn mark_at(marks: &Table<Mark>, name: &[u8]) -> Option<Mark>
-    ensures { result ≡ finmap.get marks.now name.now }
-{
-    marks.get(name).copied()
-}
-
 /// What is said of a prerequisite that is dropped.
 fn note(alloc: Global, target: &[u8], name: &[u8]) -> Result<Text, NoMemory>
     ensures { IfOk result (λ t. t ≡ note target.now name.now) }
@@ -69,7 +55,7 @@ fn note(alloc: Global, target: &[u8], name: &[u8]) -> Result<Text, NoMemory>
     Ok(text)
 }
 
-/// Whether one more name may be known.
+/// Whether one more unit may be opened.
 fn has_room(jobs: usize, begun: usize) -> bool
     ensures { result ≡ nat_lt (jobs + begun) limit }
 {
@@ -93,25 +79,21 @@ fn later(frame: Frame) -> Frame
     }
 }
 
-/// The walk comes to a name that it hasn't met.
-fn enter(alloc: Global, makefile: Makefile, walk: &mut Walk, name: Text) -> Result<(), PlanNo>
-    requires marked { IsMarked (names walk.old.begun) walk.old }
-    requires new { finmap.get walk.old.marks name ≡ None }
-    ensures marked { OnOk result (IsMarked (names walk.new.begun) walk.new) }
-    ensures end { let said = says makefile.entry in OnOk result
-        (resume said walk.new.begun walk.new.walked
-        ≡ and_then (reach said (names walk.old.begun) walk.old.walked name)
-        (resume said walk.old.begun)) }
-    ensures less { OnOk result
-        (weight walk.new.begun walk.new.walked.jobs ≤ weight walk.old.begun walk.old.walked.jobs) }
-    ensures err { IfErr result
-        (Fails (reach (says makefile.entry) (names walk.old.begun) walk.old.walked name)) }
+/// The walk goes into a unit of a name.
+fn enter(alloc: Global, walk: &mut Walk, name: Text, making: Making) -> Result<(), PlanNo>
+    ensures room { OnOk result (has_room (opens walk.old.begun) walk.old.walked ≡ true) }
+    ensures begun { OnOk result (walk.new.begun
+        ≡ record { target = name; making = making; next = 0 } ∷ walk.old.begun) }
+    ensures marks { OnOk result ((q : List ℕ) → finmap.get walk.new.marks q
+        ≡ opening (is_among making.targets q) (finmap.get walk.old.marks q)) }
+    ensures walked { OnOk result (walk.new.walked ≡ walk.old.walked) }
+    ensures err { IfErr result (λ e. (e ≡ PlanNo.NoMemory) ⊎ ((e ≡ PlanNo.TooManyJobs)
+        × (has_room (opens walk.old.begun) walk.old.walked ≡ false))) }
 {
     if !has_room(walk.walked.jobs.len(), walk.begun.len()) {
         return Err(PlanNo::TooManyJobs);
     }
-    let making = makefile.making(alloc, name.bytes())?;
-    walk.marks.insert(name.copy(alloc)?, Mark::Open)?;
+    open_all(alloc, &mut walk.marks, making.targets.items())?;
     walk.begun.push(Frame {
         target: name,
         making,
@@ -120,14 +102,14 @@ fn enter(alloc: Global, makefile: Makefile, walk: &mut Walk, name: Text) -> Resu
     Ok(())
 }
 
-/// The innermost name's next prerequisite is open: it is dropped, with a note.
+/// The innermost unit's next prerequisite is open: it is dropped, with a note.
 fn drop_circular(alloc: Global, walk: &mut Walk, frame: Frame, name: &[u8]) -> Result<(), PlanNo>
-    requires marked { IsMarked (frame.target ∷ names walk.old.begun) walk.old }
+    requires marked { IsMarked (open_by frame ∷ opens walk.old.begun) walk.old }
     requires next { option_map (λ x. x.name) (slice_get frame.making.needs frame.next)
         ≡ Some name.now }
-    requires circular { finmap.get walk.old.marks name.now ≡ Some Mark.Open }
+    requires circular { open_in walk.old.marks name.now ≡ true }
     ensures ok { OnOk result
-        ((said : List ℕ → Made) → Steps said (frame ∷ walk.old.begun) walk.old.walked walk.new) }
+        ((said : Says) → Steps said (frame ∷ walk.old.begun) walk.old.walked walk.new) }
     ensures only { IfErr result (λ e. e ≡ PlanNo.NoMemory) }
 {
     let text = note(alloc, frame.target.bytes(), name)?;
@@ -136,34 +118,42 @@ fn drop_circular(alloc: Global, walk: &mut Walk, frame: Frame, name: &[u8]) -> R
     Ok(())
 }
 
-/// The walk comes to the innermost name's next prerequisite, which it hasn't met.
+/// The walk comes to the innermost unit's next prerequisite, whose next unit this is. It comes to
+/// it again until each of its units has a number.
 fn go_into(
     alloc: Global,
     makefile: Makefile,
     walk: &mut Walk,
     frame: Frame,
     name: Text,
+    making: Making,
 ) -> Result<(), PlanNo>
-    requires marked { IsMarked (frame.target ∷ names walk.old.begun) walk.old }
+    requires marked { IsMarked (open_by frame ∷ opens walk.old.begun) walk.old }
     requires next { option_map (λ x. x.name) (slice_get frame.making.needs frame.next) ≡ Some name }
-    requires new { finmap.get walk.old.marks name ≡ None }
+    requires shut { open_in walk.old.marks name ≡ false }
+    requires unit { slice_get (says makefile (known_in walk.old.marks) name)
+        (length (numbers_in walk.old.marks name)) ≡ Some making }
+    requires few { length making.needs < 2 ^ 64 }
     ensures ok { OnOk result
         (Steps (says makefile.entry) (frame ∷ walk.old.begun) walk.old.walked walk.new) }
     ensures err { IfErr result
         (Fails (resume (says makefile.entry) (frame ∷ walk.old.begun) walk.old.walked)) }
 {
-    walk.begun.push(later(frame))?;
-    enter(alloc, makefile, walk, name)?;
+    walk.begun.push(frame)?;
+    enter(alloc, walk, name, making)?;
     Ok(())
 }
 
-/// The innermost name's next prerequisite has a number.
-fn pass(walk: &mut Walk, frame: Frame) -> Result<(), PlanNo>
-    requires marked { IsMarked (frame.target ∷ names walk.old.begun) walk.old }
-    requires past { IsSomeAnd (slice_get frame.making.needs frame.next)
-        (λ x. is_some (number_in walk.old.marks x.name) ≡ true) }
+/// Each unit of the innermost unit's next prerequisite has a number.
+fn pass(makefile: Makefile, walk: &mut Walk, frame: Frame, name: &[u8]) -> Result<(), PlanNo>
+    requires marked { IsMarked (open_by frame ∷ opens walk.old.begun) walk.old }
+    requires next { option_map (λ x. x.name) (slice_get frame.making.needs frame.next)
+        ≡ Some name.now }
+    requires shut { open_in walk.old.marks name.now ≡ false }
+    requires past { slice_get (says makefile (known_in walk.old.marks) name.now)
+        (length (numbers_in walk.old.marks name.now)) ≡ None }
     ensures ok { OnOk result
-        ((said : List ℕ → Made) → Steps said (frame ∷ walk.old.begun) walk.old.walked walk.new) }
+        (Steps (says makefile.entry) (frame ∷ walk.old.begun) walk.old.walked walk.new) }
     ensures only { IfErr result (λ e. e ≡ PlanNo.NoMemory) }
 {
     walk.begun.push(later(frame))?;
@@ -172,7 +162,7 @@ fn pass(walk: &mut Walk, frame: Frame) -> Result<(), PlanNo>
 
 /// The name from which the walk came.
 fn above(alloc: Global, begun: &Stack<Frame>) -> Result<Option<Text>, NoMemory>
-    ensures { IfOk result (λ n. n ≡ slice_get (names begun.now) 0) }
+    ensures { IfOk result (λ n. n ≡ from_in (opens begun.now)) }
 {
     match begun.top() {
         None => Ok(None),
@@ -180,12 +170,12 @@ fn above(alloc: Global, begun: &Stack<Frame>) -> Result<Option<Text>, NoMemory>
     }
 }
 
-/// The innermost name, whose prerequisites have been visited, gets the next number.
+/// The innermost unit, whose prerequisites have been visited, gets the next number.
 fn close(alloc: Global, walk: &mut Walk, frame: Frame) -> Result<(), PlanNo>
-    requires marked { IsMarked (frame.target ∷ names walk.old.begun) walk.old }
+    requires marked { IsMarked (open_by frame ∷ opens walk.old.begun) walk.old }
     requires none { slice_get frame.making.needs frame.next ≡ None }
     ensures ok { OnOk result
-        ((said : List ℕ → Made) → Steps said (frame ∷ walk.old.begun) walk.old.walked walk.new) }
+        ((said : Says) → Steps said (frame ∷ walk.old.begun) walk.old.walked walk.new) }
     ensures only { IfErr result (λ e. e ≡ PlanNo.NoMemory) }
 {
     let Frame {
@@ -193,18 +183,17 @@ fn close(alloc: Global, walk: &mut Walk, frame: Frame) -> Result<(), PlanNo>
         making,
         next: _,
     } = frame;
-    let name = target.copy(alloc)?;
     let needed_by = above(alloc, &walk.begun)?;
     let number = walk.walked.jobs.len() as u32;
     let job = job(alloc, &walk.marks, target, needed_by, making)?;
-    walk.marks.insert(name, Mark::Numbered(number))?;
+    close_all(alloc, &mut walk.marks, number, job.targets.items())?;
     walk.walked.jobs.push(job)?;
     Ok(())
 }
 
-/// One step at the innermost name.
+/// One step at the innermost unit.
 fn step(alloc: Global, makefile: Makefile, walk: &mut Walk, frame: Frame) -> Result<(), PlanNo>
-    requires marked { IsMarked (frame.target ∷ names walk.old.begun) walk.old }
+    requires marked { IsMarked (open_by frame ∷ opens walk.old.begun) walk.old }
     ensures ok { OnOk result
         (Steps (says makefile.entry) (frame ∷ walk.old.begun) walk.old.walked walk.new) }
     ensures err { IfErr result
@@ -213,20 +202,48 @@ fn step(alloc: Global, makefile: Makefile, walk: &mut Walk, frame: Frame) -> Res
     let Some(need) = frame.making.needs.get(frame.next) else {
         return close(alloc, walk, frame);
     };
-    match mark_at(&walk.marks, need.name.bytes()) {
-        Some(Mark::Numbered(_)) => pass(walk, frame),
-        Some(Mark::Open) => {
-            let name = need.name.copy(alloc)?;
-            drop_circular(alloc, walk, frame, name.bytes())
-        }
-        None => {
-            let name = need.name.copy(alloc)?;
-            go_into(alloc, makefile, walk, frame, name)
-        }
+    let name = need.name.copy(alloc)?;
+    if is_open(&walk.marks, name.bytes()) {
+        return drop_circular(alloc, walk, frame, name.bytes());
+    }
+    match makefile.making(alloc, &walk.marks, name.bytes())? {
+        None => pass(makefile, walk, frame, name.bytes()),
+        Some(making) => go_into(alloc, makefile, walk, frame, name, making),
     }
 }
 
-/// The walk from a goal.
+/// The walk from a goal's next unit.
+fn walk_unit(
+    alloc: Global,
+    makefile: Makefile,
+    walk: &mut Walk,
+    goal: &Text,
+    making: Making,
+) -> Result<(), PlanNo>
+    requires marked { IsMarked [] walk.old }
+    requires empty { walk.old.begun ≡ [] }
+    requires unit { slice_get (says makefile (known_in walk.old.marks) goal.now)
+        (length (numbers_in walk.old.marks goal.now)) ≡ Some making }
+    requires few { length making.needs < 2 ^ 64 }
+    ensures marked { OnOk result (IsMarked [] walk.new) }
+    ensures empty { OnOk result (walk.new.begun ≡ []) }
+    ensures end { let said = says makefile.entry in OnOk result
+        (visit said limit [] walk.new.walked goal.now
+        ≡ visit said limit [] walk.old.walked goal.now) }
+    ensures less { let said = says makefile.entry in OnOk result
+        (length (units_left said [] walk.new.walked goal.now)
+        < length (units_left said [] walk.old.walked goal.now)) }
+    ensures err { IfErr result
+        (Fails (visit (says makefile.entry) limit [] walk.old.walked goal.now)) }
+{
+    enter(alloc, walk, goal.copy(alloc)?, making)?;
+    while let Some(frame) = walk.begun.pop() {
+        step(alloc, makefile, walk, frame)?;
+    }
+    Ok(())
+}
+
+/// The walk from a goal: from each of its units in turn.
 fn walk_from(alloc: Global, makefile: Makefile, walk: &mut Walk, goal: &Text) -> Result<(), PlanNo>
     requires marked { IsMarked [] walk.old }
     requires empty { walk.old.begun ≡ [] }
@@ -237,12 +254,8 @@ fn walk_from(alloc: Global, makefile: Makefile, walk: &mut Walk, goal: &Text) ->
     ensures err { IfErr result
         (Fails (visit (says makefile.entry) limit [] walk.old.walked goal.now)) }
 {
-    if mark_at(&walk.marks, goal.bytes()).is_some() {
-        return Ok(());
-    }
-    enter(alloc, makefile, walk, goal.copy(alloc)?)?;
-    while let Some(frame) = walk.begun.pop() {
-        step(alloc, makefile, walk, frame)?;
+    while let Some(making) = makefile.making(alloc, &walk.marks, goal.bytes())? {
+        walk_unit(alloc, makefile, walk, goal, making)?;
     }
     Ok(())
 }

@@ -7,7 +7,7 @@ ghost use Rattle.em_tree.specs.Trees.{IsTree, kind_of};
 
 use crate::written::rule as bare_rule;
 use em_base::{NoMemory, Seq, Text};
-use em_implicit::{Found, Prerequisites, find, prerequisites_of, rule_match};
+use em_implicit::{Found, Prerequisites, find, match_at, members_of, prerequisites_of};
 use em_path::Path;
 use em_rules::{Book, BookNo, Rule};
 use em_tree::{Body, Kind, Node, Tree};
@@ -99,7 +99,7 @@ fn tree(alloc: Global, nodes: &[u8]) -> Result<Tree, Fail> {
 }
 
 /// A stem and prerequisites, as `x normal | order`.
-fn made(alloc: Global, stem: &[u8], needed: &Prerequisites) -> Result<Text, NoMemory> {
+fn spelled(alloc: Global, stem: &[u8], needed: &Prerequisites) -> Result<Text, NoMemory> {
     let normal = join_texts(alloc, needed.normal.items())?;
     let order = join_texts(alloc, needed.order.items())?;
     join(alloc, &[stem, normal.bytes(), b"|", order.bytes()])
@@ -110,8 +110,11 @@ fn shown(alloc: Global, book: &Book, target: &[u8], found: &Found) -> Result<Tex
     let Some(rule) = book.patterns.get(found.rule) else {
         return Ok(Text::new(alloc));
     };
-    let needed = prerequisites_of(alloc, rule, target)?;
-    made(alloc, found.stem.bytes(), &needed)
+    let Some(matched) = match_at(rule, found.pattern, target) else {
+        return Ok(Text::new(alloc));
+    };
+    let needed = prerequisites_of(alloc, rule, matched)?;
+    spelled(alloc, found.stem.bytes(), &needed)
 }
 
 fn found_in(alloc: Global, book: &Book, case: &Case) -> Result<Option<Found>, Fail> {
@@ -241,24 +244,96 @@ fn what_is_mentioned_need_not_exist(rt: HostRuntime) -> Result<(), Fail> {
     )
 }
 
+/// The targets that the rule makes, if it was found; else empty.
+fn members(alloc: Global, book: &Book, target: &[u8], found: &Found) -> Result<Text, NoMemory> {
+    let Some(rule) = book.patterns.get(found.rule) else {
+        return Ok(Text::new(alloc));
+    };
+    let Some(matched) = match_at(rule, found.pattern, target) else {
+        return Ok(Text::new(alloc));
+    };
+    join_texts(alloc, members_of(alloc, rule, matched)?.items())
+}
+
+/// Nodes, target; the rule that is found, its target pattern, and its stem with the members.
+type Grouped = (
+    &'static [u8],
+    &'static [u8],
+    usize,
+    usize,
+    &'static [u8],
+    &'static [u8],
+);
+
+/// Whether what was found is what the case says.
+fn is_group(
+    alloc: Global,
+    book: &Book,
+    found: &Option<Found>,
+    case: &Grouped,
+) -> Result<bool, NoMemory> {
+    let (_, target, rule, pattern, stem, want) = case;
+    let Some(found) = found else {
+        return Ok(false);
+    };
+    let names = members(alloc, book, target, found)?;
+    let place = found.rule == *rule && found.pattern == *pattern;
+    Ok(place && found.stem.bytes() == *stem && names.bytes() == *want)
+}
+
+#[test]
+fn of_several_target_patterns_the_shorter_stem_wins(rt: HostRuntime) -> Result<(), Fail> {
+    let alloc = rt.alloc();
+    let book = book(
+        alloc,
+        &[
+            [b"%.h %.c", b"%.y", b""],
+            [b"%.o lib%.o", b"%.c", b""],
+            [b"x%.o lib%.o", b"%.c", b""],
+            [b"%.l ./%.k all", b"s", b""],
+            [b"%a b%", b"s", b""],
+        ],
+    )?;
+    let cases: [Grouped; 7] = [
+        (b"f/p.y", b"p.c", 0, 1, b"p", b"p.h p.c"),
+        (b"d/d f/d/p.y", b"d/p.h", 0, 0, b"d/p", b"d/p.h d/p.c"),
+        (b"f/q.c f/libq.c", b"libq.o", 1, 1, b"q", b"q.o libq.o"),
+        (b"f/libq.c", b"libq.o", 1, 0, b"libq", b"libq.o liblibq.o"),
+        (b"f/q.c f/xq.c", b"xq.o", 2, 0, b"q", b"xq.o libq.o"),
+        (b"f/s", b"m.l", 3, 0, b"m", b"m.l m.k all"),
+        (b"f/s", b"bca", 4, 0, b"bc", b"bca bbc"),
+    ];
+    for case in &cases {
+        let tree = tree(alloc, case.0)?;
+        let found = find(alloc, &book, case.1, &tree, &path(alloc, b"/")?)?;
+        assert!(rt; is_group(alloc, &book, &found, case)?);
+    }
+    Ok(())
+}
+
 /// The rule of the tests of one rule.
 fn other_rule(alloc: Global) -> Result<Rule, NoMemory> {
     rule(alloc, &[b"%.o", b"%.c", b"x"])
 }
 
 #[test]
-fn a_rule_makes_nothing_for_another_target(rt: HostRuntime) -> Result<(), Fail> {
+fn a_rule_makes_its_prerequisites(rt: HostRuntime) -> Result<(), Fail> {
     let rule = other_rule(rt.alloc())?;
-    let needed = prerequisites_of(rt.alloc(), &rule, b"a.x")?;
-    assert!(rt; needed.normal.is_empty() && needed.order.is_empty());
+    let Some(found) = match_at(&rule, 0, b"d/a.o") else {
+        return Err(Fail::from("no match"));
+    };
+    let needed = prerequisites_of(rt.alloc(), &rule, found)?;
+    let text = spelled(rt.alloc(), b"a", &needed)?;
+    assert_eq!(rt; text.bytes(), b"a d/a.c | x".as_slice());
     Ok(())
 }
 
 #[test]
 fn a_rule_matches_its_targets(rt: HostRuntime) -> Result<(), Fail> {
     let rule = other_rule(rt.alloc())?;
-    assert!(rt; rule_match(&rule, b"a.x").is_none());
-    let Some(found) = rule_match(&rule, b"d/e/a.o") else {
+    assert!(rt; match_at(&rule, 0, b"a.x").is_none());
+    assert!(rt; match_at(&rule, 1, b"a.o").is_none());
+    let Some(found) = match_at(&rule, 0, b"d/e/a.o") else {
         return Err(Fail::from("no match"));
     };
     assert_eq!(rt; found.dir, b"d/e/".as_slice());

@@ -5,6 +5,8 @@
 #[cfg(test)]
 mod implicit;
 #[cfg(test)]
+mod kinds;
+#[cfg(test)]
 mod plan;
 #[cfg(test)]
 mod remake;

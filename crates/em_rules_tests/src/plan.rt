@@ -1,9 +1,10 @@
 use crate::written::{add_name, names, recipe, rule as bare_rule};
 use em_base::{NoMemory, Text};
 use em_path::Path;
-use em_plan::{Plan, PlanJob, PlanNo, Pre, plan};
-use em_rules::{Book, BookNo, Rule};
+use em_plan::{Numbers, Plan, PlanJob, PlanNo, Pre, plan};
+use em_rules::{Book, BookNo, Rule, RuleKind};
 use em_tree::Tree;
+use em_wordlist::join_texts;
 use std::alloc::Global;
 use std::process::Abort;
 use std::test::Fail;
@@ -18,10 +19,22 @@ fn fields(written: &[u8]) -> ([&[u8]; 3], bool) {
     ([targets, normal, order], fields.next().is_some())
 }
 
+/// The kind of a rule, and the rule without its first byte, which is `&` in a grouped rule and `:`
+/// in a double-colon rule.
+fn kind(written: &[u8]) -> (RuleKind, &[u8]) {
+    match written {
+        [b'&', rest @ ..] => (RuleKind::Grouped, rest),
+        [b':', rest @ ..] => (RuleKind::Double, rest),
+        _ => (RuleKind::Ordinary, written),
+    }
+}
+
 /// A written rule; with the further `|` it has a recipe: one line, the normal prerequisites' text.
 fn rule(alloc: Global, written: &[u8]) -> Result<Rule, NoMemory> {
+    let (kind, written) = kind(written);
     let (lists, has_recipe) = fields(written);
     let mut rule = bare_rule(alloc, lists)?;
+    rule.kind = kind;
     if has_recipe {
         rule.recipe = Some(recipe(alloc, lists[1])?);
     }
@@ -62,10 +75,24 @@ fn add_number(text: &mut Text, number: u32) -> Result<(), NoMemory> {
     text.add(&[b'0' + (number % 10) as u8])
 }
 
+fn add_numbers(text: &mut Text, numbers: &[u32]) -> Result<(), NoMemory> {
+    for number in numbers {
+        add_number(text, *number)?;
+    }
+    Ok(())
+}
+
+fn add_goals(text: &mut Text, goals: &[Numbers]) -> Result<(), NoMemory> {
+    for numbers in goals {
+        add_numbers(text, numbers.items())?;
+    }
+    Ok(())
+}
+
 fn add_pre(text: &mut Text, before: &[u8], pre: &Pre) -> Result<(), NoMemory> {
     text.add(before)?;
     text.add(pre.name.bytes())?;
-    add_number(text, pre.job)
+    add_numbers(text, pre.jobs.items())
 }
 
 fn add_pres(text: &mut Text, before: &[u8], pres: &[Pre]) -> Result<(), NoMemory> {
@@ -75,16 +102,23 @@ fn add_pres(text: &mut Text, before: &[u8], pres: &[Pre]) -> Result<(), NoMemory
     Ok(())
 }
 
-fn add_numbers(text: &mut Text, numbers: &[u32]) -> Result<(), NoMemory> {
-    for number in numbers {
-        add_number(text, *number)?;
+/// `{targets}` where there are several, `*` where it is the job of a double-colon rule.
+fn add_unit(alloc: Global, text: &mut Text, job: &PlanJob) -> Result<(), NoMemory> {
+    if job.targets.len() > 1 {
+        text.add(b"{")?;
+        text.add(join_texts(alloc, job.targets.items())?.bytes())?;
+        text.add(b"}")?;
+    }
+    if job.double {
+        text.add(b"*")?;
     }
     Ok(())
 }
 
 /// `target<needed_by:`
-fn add_target(text: &mut Text, job: &PlanJob) -> Result<(), NoMemory> {
+fn add_target(alloc: Global, text: &mut Text, job: &PlanJob) -> Result<(), NoMemory> {
     text.add(job.target.bytes())?;
+    add_unit(alloc, text, job)?;
     text.add(b"<")?;
     if let Some(name) = &job.needed_by {
         text.add(name.bytes())?;
@@ -100,16 +134,16 @@ fn add_waits(text: &mut Text, job: &PlanJob) -> Result<(), NoMemory> {
 }
 
 /// `target<needed_by: prerequisites |order-only ones (waits);`
-fn add_job(text: &mut Text, job: &PlanJob) -> Result<(), NoMemory> {
-    add_target(text, job)?;
+fn add_job(alloc: Global, text: &mut Text, job: &PlanJob) -> Result<(), NoMemory> {
+    add_target(alloc, text, job)?;
     add_pres(text, b" ", job.normal.items())?;
     add_pres(text, b" |", job.order.items())?;
     add_waits(text, job)
 }
 
-fn add_jobs(text: &mut Text, jobs: &[PlanJob]) -> Result<(), NoMemory> {
+fn add_jobs(alloc: Global, text: &mut Text, jobs: &[PlanJob]) -> Result<(), NoMemory> {
     for job in jobs {
-        add_job(text, job)?;
+        add_job(alloc, text, job)?;
     }
     Ok(())
 }
@@ -117,8 +151,8 @@ fn add_jobs(text: &mut Text, jobs: &[PlanJob]) -> Result<(), NoMemory> {
 /// The jobs in order, the goals' numbers and the notes.
 fn shown(alloc: Global, plan: &Plan) -> Result<Text, NoMemory> {
     let mut text = Text::new(alloc);
-    add_jobs(&mut text, plan.jobs.items())?;
-    add_numbers(&mut text, plan.goals.items())?;
+    add_jobs(alloc, &mut text, plan.jobs.items())?;
+    add_goals(&mut text, plan.goals.items())?;
     text.add(plan.notes.bytes())?;
     Ok(text)
 }
@@ -216,6 +250,56 @@ fn circles_are_dropped(rt: HostRuntime) -> Result<(), Fail> {
     check(&rt, rt.alloc(), &CIRCLES)
 }
 
+const UNITS: [Row; 8] = [
+    // the members of a group have one job
+    (b"&x y|s||", b"y x", b"s<y:();y{x y}<: s0(0);11"),
+    // each double-colon rule has one, and waits for the earlier ones
+    (
+        b":t|a||;:t|b||",
+        b"t",
+        b"a<t:();t*<: a0(0);b<t:();t*<: b2(12);13",
+    ),
+    (
+        b"all|t||;:t t|||",
+        b"all",
+        b"t*<all:();t*<all:(0);all<: t01(01);2",
+    ),
+    // a later recipe takes a member out of its group
+    (
+        b"&x y|s||;y|q||",
+        b"x y",
+        b"s<x:();x<: s0(0);q<y:();y<: q2 s0(02);13",
+    ),
+    // other rules of the members
+    (
+        b"&x y|s||;y x|z|;x|w|",
+        b"x",
+        b"s<x:();z<x:();w<x:();x{x y}<: s0 z1 w2 z1(012);3",
+    ),
+    // a pattern rule makes all that its target patterns are
+    (
+        b"%.h %.c|%.y||;all|p.y|;p.h|i|",
+        b"p.c p.h",
+        b"p.y<p.c:();i<p.c:();p.c{p.h p.c}<: p.y0 i1(01);22",
+    ),
+    (
+        b"%.h %.c|%.y||;all|p.y|;:p.h|q||",
+        b"p.c p.h",
+        b"p.y<p.c:();p.c<: p.y0(0);q<p.h:();p.h*<: q2(2);13",
+    ),
+    // each member is open
+    (
+        b"&x y|z||;z|y||",
+        b"x",
+        b"z<x:();x{x y}<: z0(0);1emake: Circular z <- y dependency dropped.\n",
+    ),
+];
+
+#[test]
+fn units_have_jobs(rt: HostRuntime) -> Result<(), Fail> {
+    check(&rt, rt.alloc(), &UNITS)
+}
+
 /// Whether the plan has a job of this number, which is one of a pattern rule with the stem `e`.
 fn is_made(plan: &Plan, number: usize) -> bool {
     match plan.jobs.get(number) {
@@ -307,7 +391,7 @@ fn jobs_of(alloc: Global, book: &Book) -> Result<usize, PlanNo> {
 }
 
 #[test]
-fn at_most_65536_names_are_reached(rt: HostRuntime) -> Result<(), Fail> {
+fn at_most_65536_units_are_reached(rt: HostRuntime) -> Result<(), Fail> {
     for (more, wanted) in [
         (b"".as_slice(), Ok(65_536)),
         (b"y".as_slice(), Err(PlanNo::TooManyJobs)),

@@ -6,7 +6,7 @@ use std::test::Fail;
 
 /// Targets, target pattern, normal and order-only prerequisites and the recipe of a rule; `-` where
 /// there is no target pattern or recipe.
-type Row = [&'static [u8]; 5];
+pub type Row = [&'static [u8]; 5];
 
 /// Makes a rule a static pattern rule.
 fn add_form(alloc: Global, rule: &mut Rule, form: &[u8]) -> Result<(), NoMemory> {
@@ -24,7 +24,8 @@ fn add_recipe(alloc: Global, rule: &mut Rule, text: &[u8]) -> Result<(), NoMemor
     Ok(())
 }
 
-fn rule(alloc: Global, row: &Row) -> Result<Rule, NoMemory> {
+/// The ordinary rule of a row.
+pub fn rule(alloc: Global, row: &Row) -> Result<Rule, NoMemory> {
     let [targets, form, normal, order, lines] = *row;
     let mut rule = bare_rule(alloc, [targets, normal, order])?;
     add_form(alloc, &mut rule, form)?;
@@ -53,7 +54,7 @@ fn add_shown(alloc: Global, text: &mut Text, rule: &Rule) -> Result<(), NoMemory
 }
 
 /// The rules, a line each.
-fn shown(alloc: Global, rules: &[Rule]) -> Result<Text, NoMemory> {
+pub fn shown(alloc: Global, rules: &[Rule]) -> Result<Text, NoMemory> {
     let mut text = Text::new(alloc);
     for rule in rules {
         add_shown(alloc, &mut text, rule)?;

@@ -1,6 +1,6 @@
 //! Rules for the tests, made of texts.
 use em_base::{NoMemory, Place, Seq, Text};
-use em_rules::{RecipeLine, Rule};
+use em_rules::{RecipeLine, Rule, RuleKind};
 use em_wordlist::{join_texts, texts};
 use std::alloc::Global;
 
@@ -46,6 +46,7 @@ fn rule_of(alloc: Global, targets: &[u8]) -> Result<Rule, NoMemory> {
     let place = place(alloc)?;
     Ok(Rule {
         targets: names(alloc, targets)?,
+        kind: RuleKind::Ordinary,
         pattern: targets.contains(&b'%'),
         form: None,
         normal: Seq::new(alloc),
