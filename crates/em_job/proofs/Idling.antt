@@ -25,7 +25,8 @@ use Rattle.em_expand.specs.declared.spoken.Spoken.{Spoken}
 use Rattle.em_expand.specs.Layered.{with_own}
 use Rattle.em_expand.proofs.Sparing.{Spares, SparesAll, spares_stamp, spares_outcome, all_then, all_done, all_own, all_below, all_within, all_expansion}
 use Rattle.em_task.specs.declared.job.Job.{Job}
-use Rattle.em_job.specs.declared.due.Awaited.{Awaited}
+use Rattle.em_job.specs.declared.awaiting.Awaited.{Awaited}
+use Rattle.em_job.specs.declared.awaiting.Ending.{Ending}
 use Rattle.em_job.specs.declared.due.Verdict.{Verdict}
 use Rattle.em_job.specs.declared.due.Verdict.TheVariants as decision
 use Rattle.em_job.specs.declared.prepare.Opened.{Opened}
@@ -38,7 +39,7 @@ use Rattle.em_job.specs.declared.ready.Ready.{Ready}
 use Rattle.em_job.specs.declared.stop.Stop.{Stop}
 use Rattle.em_job.specs.declared.stop.Stop.TheVariants as stop
 use Rattle.em_job.specs.Stops.{Acts, early, of_expand}
-use Rattle.em_job.specs.Deciding.{ending_of, await_job, awaited, await_normal, await_order, prerequisites, path_of, stamp_by, stamp_of, newer_among, with_newer, is_newer, is_due, reasons, unruled, by_recipe, decision as decided}
+use Rattle.em_job.specs.Deciding.{ending_of, await_job, together, await_jobs, unasked, awaited, await_normal, await_order, prerequisites, path_of, stamp_by, stamp_of, stamps_of, newer_among, with_newer, is_newer, is_one_absent, is_due, reasons, unruled, by_recipe, decision as decided}
 use Rattle.em_job.specs.Preparing.{Autos, say, no_evals, expand_at, placed, expand_lines, recipe_of, expand_recipe, no_rule, by_decision, decide, if_fine, prepare}
 use Rattle.em_job.specs.Carrying.{AreRead, lines_in, course_of, echo, does_run, if_runs, run_line, is_lenient, after_line, fail, delete, turn_of, lines_by, lines_from, carry_out}
 use Rattle.em_job.specs.Effects.{saying, silence, steps, closed, job, begin, result_of, lines_on, no_end, Makes}
@@ -83,13 +84,17 @@ reads_job : (dry : Bool) (n : ℕ) → Reads (await_job dry n)
 unfolding await_job
 reads_job dry n = reads_then (reads_below early (spares_outcome n)) (λ o. reads_done _)
 
+reads_jobs : (dry : Bool) (ns : List ℕ) (so_far : Ending) → Reads (await_jobs dry ns so_far)
+reads_jobs dry [] so_far = reads_done _
+reads_jobs dry (n ∷ ns) so_far = reads_then (reads_job dry n) (λ e. reads_jobs dry ns (together so_far e))
+
 reads_normal : (dry : Bool) (ps : List Pre) (so_far : List Awaited) (fine : Bool) → Reads (await_normal dry ps so_far fine)
 reads_normal dry [] so_far fine = reads_done _
-reads_normal dry (p ∷ ps) so_far fine = reads_then (reads_job dry p.job) (λ e. reads_normal dry ps (so_far ++ awaited p e ∷ []) (fine && e.fine))
+reads_normal dry (p ∷ ps) so_far fine = reads_then (reads_jobs dry p.jobs unasked) (λ e. reads_normal dry ps (so_far ++ awaited p e ∷ []) (fine && e.fine))
 
 reads_order : (ps : List Pre) (fine : Bool) → Reads (await_order ps fine)
 reads_order [] fine = reads_done _
-reads_order (p ∷ ps) fine = reads_then (reads_job false p.job) (λ e. reads_order ps (fine && e.fine))
+reads_order (p ∷ ps) fine = reads_then (reads_jobs false p.jobs unasked) (λ e. reads_order ps (fine && e.fine))
 
 reads_prerequisites : (j : Job) → Reads (prerequisites j)
 unfolding prerequisites
@@ -103,9 +108,13 @@ reads_stamp cwd name = by_path (path_of cwd name)
     by_path None = reads_done _
     by_path (Some p) = reads_below early (spares_stamp p)
 
-reads_newer : (j : Job) (own : Option ℕ) (found : List Awaited) (so_far : List (List ℕ)) → Reads (newer_among j own found so_far)
-reads_newer j own [] so_far = reads_done _
-reads_newer j own (a ∷ more) so_far = reads_then (reads_stamp j.cwd a.name) (λ stamp. reads_newer j own more (with_newer (is_newer j own a stamp) so_far a.name))
+reads_stamps : (cwd : List ℕ) (names : List (List ℕ)) (so_far : List (Option ℕ)) → Reads (stamps_of cwd names so_far)
+reads_stamps cwd [] so_far = reads_done _
+reads_stamps cwd (n ∷ ns) so_far = reads_then (reads_stamp cwd n) (λ stamp. reads_stamps cwd ns (so_far ++ stamp ∷ []))
+
+reads_newer : (j : Job) (owns : List (Option ℕ)) (found : List Awaited) (so_far : List (List ℕ)) → Reads (newer_among j owns found so_far)
+reads_newer j owns [] so_far = reads_done _
+reads_newer j owns (a ∷ more) so_far = reads_then (reads_stamp j.cwd a.name) (λ stamp. reads_newer j owns more (with_newer (is_newer j owns a stamp) so_far a.name))
 
 -- ---- preparing changes no file
 
@@ -117,16 +126,16 @@ spares_lines : (j : Job) (autos : Autos) (ls : List RecipeLine) (so_far : List P
 spares_lines j autos [] so_far = all_done _
 spares_lines j autos (l ∷ ls) so_far = all_then (spares_at j autos l.place l.text) (λ t. spares_lines j autos ls _)
 
-spares_decided : (j : Job) (own : Option ℕ) (newer : List (List ℕ)) (v : Verdict) → SparesAll (by_decision j own newer v)
+spares_decided : (j : Job) (owns : List (Option ℕ)) (newer : List (List ℕ)) (v : Verdict) → SparesAll (by_decision j owns newer v)
 unfolding expand_recipe
-spares_decided j own newer (decision.Ended o) = all_done _
-spares_decided j own newer decision.NoRule = all_then (all_own _) (λ u. all_done _)
-spares_decided j own newer decision.Remake = all_then (spares_lines j _ _ []) (λ ls. all_done _)
+spares_decided j owns newer (decision.Ended o) = all_done _
+spares_decided j owns newer decision.NoRule = all_then (all_own _) (λ u. all_done _)
+spares_decided j owns newer decision.Remake = all_then (spares_lines j _ _ []) (λ ls. all_done _)
 
 spares_fine : (j : Job) (normal : List Awaited) (fine : Bool) → SparesAll (if_fine j normal fine)
 unfolding decide
 spares_fine j normal false = all_done _
-spares_fine j normal true = all_then (reads_stamp j.cwd j.plan.target).spares (λ own. all_then (reads_newer j own normal []).spares (λ newer. spares_decided j own newer _))
+spares_fine j normal true = all_then (reads_stamps j.cwd j.plan.targets []).spares (λ owns. all_then (reads_newer j owns normal []).spares (λ newer. spares_decided j owns newer _))
 
 spares_prepare : (j : Job) → SparesAll (prepare j)
 unfolding prepare
@@ -174,28 +183,28 @@ idles_so (Ok (Ended o, t)) s h = absurd h
 idles_so (Ok (Lines x ps, t)) s h = tt
 idles_so (Err p) s h = tt
 
-abbrev to_run : Option ℕ → Autos → List Placed → Acts Prepared
-to_run own autos ps = done (Lines (record { stamp = own; autos = autos }) ps)
+abbrev to_run : List (Option ℕ) → Autos → List Placed → Acts Prepared
+to_run owns autos ps = done (Lines (record { stamps = owns; autos = autos }) ps)
 
-idle_lines : (j : Job) (own : Option ℕ) (names : List (List ℕ)) → Idle (expand_recipe j own names)
+idle_lines : (j : Job) (owns : List (Option ℕ)) (names : List (List ℕ)) → Idle (expand_recipe j owns names)
 unfolding expand_recipe and_then ◌>>=◌ done
-idle_lines j own names = record {
-  by = λ s o w. let z = expand_lines j (texts j.plan names) (recipe_of j) [] s o w in idles_so (expand_recipe j own names s o w).0 s (by_lines z.0 z.1 o);
+idle_lines j owns names = record {
+  by = λ s o w. let z = expand_lines j (texts j.plan names) (recipe_of j) [] s o w in idles_so (expand_recipe j owns names s o w).0 s (by_lines z.0 z.1 o);
 }
   where
-    by_lines : (r : Result (List Placed × Spoken) (Stop × Spoken)) (v : Workspace) (o : Oracle) → NoEnd (go_on r v (λ p. to_run own (texts j.plan names) p.0 p.1) o).0
+    by_lines : (r : Result (List Placed × Spoken) (Stop × Spoken)) (v : Workspace) (o : Oracle) → NoEnd (go_on r v (λ p. to_run owns (texts j.plan names) p.0 p.1) o).0
     by_lines (Ok p) v o = tt
     by_lines (Err p) v o = tt
 
-idle_decided : (j : Job) (own : Option ℕ) (newer : List (List ℕ)) (v : Verdict) → Idle (by_decision j own newer v)
-idle_decided j own newer (decision.Ended o) = idle_ended o
-idle_decided j own newer decision.NoRule = idle_no_rule j
-idle_decided j own newer decision.Remake = idle_lines j own _
+idle_decided : (j : Job) (owns : List (Option ℕ)) (newer : List (List ℕ)) (v : Verdict) → Idle (by_decision j owns newer v)
+idle_decided j owns newer (decision.Ended o) = idle_ended o
+idle_decided j owns newer decision.NoRule = idle_no_rule j
+idle_decided j owns newer decision.Remake = idle_lines j owns _
 
 idle_fine : (j : Job) (normal : List Awaited) (fine : Bool) → Idle (if_fine j normal fine)
 unfolding decide
 idle_fine j normal false = idle_ended _
-idle_fine j normal true = idle_then (reads_stamp j.cwd j.plan.target) (λ own. idle_then (reads_newer j own normal []) (λ newer. idle_decided j own newer _))
+idle_fine j normal true = idle_then (reads_stamps j.cwd j.plan.targets []) (λ owns. idle_then (reads_newer j owns normal []) (λ newer. idle_decided j owns newer _))
 
 idle_prepare : (j : Job) → Idle (prepare j)
 unfolding prepare
@@ -243,9 +252,9 @@ turn_by : {m n : Acts Turn} (b : Bool) → BusyTurn m → BusyTurn n → BusyTur
 turn_by true h g = h
 turn_by false h g = g
 
-busy_fail : (j : Job) (before : Option ℕ) (p : Place) (status : ℕ) → Busy (fail j before p status)
+busy_fail : (j : Job) (befores : List (Option ℕ)) (p : Place) (status : ℕ) → Busy (fail j befores p status)
 unfolding fail done
-busy_fail j before p status = busy_then _ (λ u. busy_then _ (λ v. busy_failed))
+busy_fail j befores p status = busy_then _ (λ u. busy_then _ (λ v. busy_failed))
   where
     busy_failed : Busy (done (outcome.Failed status))
     busy_failed = record { by = λ s o w. refl }
@@ -263,7 +272,7 @@ stopped m h = record { by = λ s o w. by_end (m s o w).0 (m s o w).1 o (h.by s o
 
 busy_turn : (j : Job) (x : Opened) (env : Option Entries) (r : Ready) → BusyTurn (turn_of j x env r)
 unfolding turn_of
-busy_turn j x env r = turn_then _ (λ ran. turn_by _ (turn_next ran.0) (turn_by (is_lenient j r.placed) (turn_then _ (λ u. turn_next ran.0)) (stopped _ (busy_fail j x.stamp r.placed.place ran.1))))
+busy_turn j x env r = turn_then _ (λ ran. turn_by _ (turn_next ran.0) (turn_by (is_lenient j r.placed) (turn_then _ (λ u. turn_next ran.0)) (stopped _ (busy_fail j x.stamps r.placed.place ran.1))))
 
 lines_go : (rest : Option Entries → Acts Outcome) → ((env : Option Entries) → Busy (rest env)) → (r : Result (Turn × Spoken) (Stop × Spoken)) (v : Workspace) (o : Oracle) → Turns r → Works (go_on r v (λ p. lines_by rest p.0 p.1) o).0
 unfolding done
@@ -387,16 +396,16 @@ module _ (Q : Outcome → Type 0) where
   Decides decision.NoRule = Q outcome.NoRule
   Decides decision.Remake = ⊥
 
-  prepared_decided : (j : Job) (own : Option ℕ) (newer : List (List ℕ)) (v : Verdict) → Decides v → IsPrepared (by_decision j own newer v)
-  prepared_decided j own newer (decision.Ended o) q = prepared_done o q
-  prepared_decided j own newer decision.NoRule q = prepared_then _ (λ u. prepared_done outcome.NoRule q)
-  prepared_decided j own newer decision.Remake q = absurd q
+  prepared_decided : (j : Job) (owns : List (Option ℕ)) (newer : List (List ℕ)) (v : Verdict) → Decides v → IsPrepared (by_decision j owns newer v)
+  prepared_decided j owns newer (decision.Ended o) q = prepared_done o q
+  prepared_decided j owns newer decision.NoRule q = prepared_then _ (λ u. prepared_done outcome.NoRule q)
+  prepared_decided j owns newer decision.Remake q = absurd q
 
-  module _ (j : Job) (all : (own : Option ℕ) (newer : List (List ℕ)) → Decides (decided j own newer)) (skipped : Q outcome.Skipped) where
+  module _ (j : Job) (all : (owns : List (Option ℕ)) (newer : List (List ℕ)) → Decides (decided j owns newer)) (skipped : Q outcome.Skipped) where
     prepared_fine : (normal : List Awaited) (fine : Bool) → IsPrepared (if_fine j normal fine)
     unfolding decide
     prepared_fine normal false = prepared_done outcome.Skipped skipped
-    prepared_fine normal true = prepared_then _ (λ own. prepared_then _ (λ newer. prepared_decided j own newer _ (all own newer)))
+    prepared_fine normal true = prepared_then _ (λ owns. prepared_then _ (λ newer. prepared_decided j owns newer _ (all owns newer)))
 
     prepared_all : IsPrepared (prepare j)
     unfolding prepare
@@ -440,31 +449,31 @@ module _ (Q : Outcome → Type 0) where
 abbrev Any : Outcome → Type 0
 Any o = Unit {0}
 
-question_decides : (own : Option ℕ) (recipe : Option (List RecipeLine)) (due question known : Bool) → question ≡ true → Decides Any (cond (not known) (unruled own) (by_recipe recipe due question))
-question_decides None recipe due question false e = tt
-question_decides (Some stamp) recipe due question false e = tt
-question_decides own None due question true e = tt
-question_decides own (Some lines) false question true e = tt
-question_decides own (Some lines) true true true e = tt
-question_decides own (Some lines) true false true e = absurd (cc)
+question_decides : (absent : Bool) (recipe : Option (List RecipeLine)) (due question known : Bool) → question ≡ true → Decides Any (cond (not known) (unruled absent) (by_recipe recipe due question))
+question_decides true recipe due question false e = tt
+question_decides false recipe due question false e = tt
+question_decides absent None due question true e = tt
+question_decides absent (Some lines) false question true e = tt
+question_decides absent (Some lines) true true true e = tt
+question_decides absent (Some lines) true false true e = absurd (cc)
 
 pub question_changes : (j : Job) (s : State) (e : Effect) (n : ℕ) → Makes j s e n → j.flags.question ≡ true → e.changes ≡ empty
-question_changes j s e n makes asked = nothing_changed Any j (λ own newer. question_decides own j.plan.recipe (is_due j own newer) j.flags.question (j.plan.phony || j.plan.ruled) asked) tt s e n makes
+question_changes j s e n makes asked = nothing_changed Any j (λ owns newer. question_decides (is_one_absent owns) j.plan.recipe (is_due j owns newer) j.flags.question (j.plan.phony || j.plan.ruled) asked) tt s e n makes
 
 -- without a recipe
 abbrev Unmade : Outcome → Type 0
 Unmade o = o ≢ outcome.Made
 
-bare_decides : (own : Option ℕ) (recipe : Option (List RecipeLine)) (due question known : Bool) → recipe ≡ None → Decides Unmade (cond (not known) (unruled own) (by_recipe recipe due question))
-bare_decides None recipe due question false e = λ h. absurd (cc)
-bare_decides (Some stamp) recipe due question false e = λ h. absurd (cc)
-bare_decides own None false question true e = λ h. absurd (cc)
-bare_decides own None true question true e = λ h. absurd (cc)
-bare_decides own (Some lines) due question true e = absurd (cc)
+bare_decides : (absent : Bool) (recipe : Option (List RecipeLine)) (due question known : Bool) → recipe ≡ None → Decides Unmade (cond (not known) (unruled absent) (by_recipe recipe due question))
+bare_decides true recipe due question false e = λ h. absurd (cc)
+bare_decides false recipe due question false e = λ h. absurd (cc)
+bare_decides absent None false question true e = λ h. absurd (cc)
+bare_decides absent None true question true e = λ h. absurd (cc)
+bare_decides absent (Some lines) due question true e = absurd (cc)
 
 module _ (j : Job) (s : State) (e : Effect) (n : ℕ) (makes : Makes j s e n) (none : j.plan.recipe ≡ None) where
-  all_bare : (own : Option ℕ) (newer : List (List ℕ)) → Decides Unmade (decided j own newer)
-  all_bare own newer = bare_decides own j.plan.recipe (is_due j own newer) j.flags.question (j.plan.phony || j.plan.ruled) none
+  all_bare : (owns : List (Option ℕ)) (newer : List (List ℕ)) → Decides Unmade (decided j owns newer)
+  all_bare owns newer = bare_decides (is_one_absent owns) j.plan.recipe (is_due j owns newer) j.flags.question (j.plan.phony || j.plan.ruled) none
 
   pub bare_changes : e.changes ≡ empty
   bare_changes = nothing_changed Unmade j all_bare (λ h. absurd (cc)) s e n makes
@@ -482,7 +491,7 @@ module _ (j : Job) (dry : j.flags.dry ≡ true) where
       → turn_of j x env r s o w ≡ (Ok (turn.Next env, record s { said = s.said ++ echo j r.placed }), w)
   unfolding turn_of run_line and_then ◌>>=◌ own done
   dry_turn x env r s o w e =
-      ap (λ (b : Bool). and_then (and_then (own (say (echo j r.placed))) (λ u. if_runs j x.autos env r.placed r.line b)) (λ ran. after_line j x.stamp r.placed ran.0 ran.1) s o w) (shown_only r.placed e)
+      ap (λ (b : Bool). and_then (and_then (own (say (echo j r.placed))) (λ u. if_runs j x.autos env r.placed r.line b)) (λ ran. after_line j x.stamps r.placed ran.0 ran.1) s o w) (shown_only r.placed e)
 
   abbrev Unforced : List Placed → Type 0
   Unforced ps = AllByRecursion (λ p. p.command.marks.forced ≡ false) ps

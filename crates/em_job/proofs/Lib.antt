@@ -2,7 +2,9 @@ pub mod Stopping
 mod Entries
 mod Reading
 mod Ended
+mod Stepping
 mod Numbered
 mod OneEffect
 mod Idling
+mod Removing
 mod Keeping

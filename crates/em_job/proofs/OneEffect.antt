@@ -43,8 +43,8 @@ same_line j autos env l a b h = λ i. and_then (own (say (echo j l))) (λ u. sam
 same_turn : (j : Job) (x : Opened) (env : Option Entries) (r q : Ready) → r.placed ≡ q.placed → Alike r.line q.line → turn_of j x env r ≡ turn_of j x env q
 unfolding turn_of
 same_turn j x env r q e h =
-    (λ i. and_then (run_line j x.autos env (e i) r.line) (λ ran. after_line j x.stamp (e i) ran.0 ran.1))
-    ∙ (λ i. and_then (same_line j x.autos env q.placed r.line q.line h i) (λ ran. after_line j x.stamp q.placed ran.0 ran.1))
+    (λ i. and_then (run_line j x.autos env (e i) r.line) (λ ran. after_line j x.stamps (e i) ran.0 ran.1))
+    ∙ (λ i. and_then (same_line j x.autos env q.placed r.line q.line h i) (λ ran. after_line j x.stamps q.placed ran.0 ran.1))
 
 module _ (one : (text : List ℕ) (a b : Line) → script.IsRead text a → script.IsRead text b → Alike a b) where
   same_lines : (j : Job) (x : Opened) (ps : List Placed) (rs qs : List Ready) → AreRead ps rs → AreRead ps qs → (env : Option Entries) → lines_from j x env rs ≡ lines_from j x env qs

@@ -2,7 +2,7 @@
 --     AreRead ps rs             each line with what it is by the shell's grammar
 --     environment ..            the variables with which its shell starts
 --     run_line ..               a line: it is echoed, and it runs
---     delete ..                 what becomes of the target where a line failed, under `.DELETE_ON_ERROR`
+--     delete ..                 what becomes of the targets where a line failed, under `.DELETE_ON_ERROR`
 --     carry_out j course        all lines in order
 use Rattle.std.specs.Prelude.{◌≡◌, ℕ, ◌==◌, Bool, true, false, not, ◌&&◌, ◌||◌, List, [], ◌∷◌, ◌++◌, Option, Some, None, is_some, Result, Ok, Err, if◌then◌else◌}
 use Rattle.em_base.specs.declared.place.Place.{Place}
@@ -42,7 +42,7 @@ use Rattle.em_job.specs.declared.carry.Turn.TheVariants.{Next}
 use Rattle.em_job.specs.declared.stop.Stop.{Stop}
 use Rattle.em_job.specs.declared.stop.Stop.TheVariants.{Spent, NoMemory}
 use Rattle.em_job.specs.Stops.{Acts, of_desk, of_line}
-use Rattle.em_job.specs.Deciding.{path_of, same_stamp}
+use Rattle.em_job.specs.Deciding.{is_phony, path_of, same_stamp}
 use Rattle.em_job.specs.Preparing.{Autos, say, expand_at}
 
 -- each line with what it is by the grammar
@@ -169,44 +169,52 @@ after_removal target p (Err desk.Spent) = refuse (Spent p)
 after_removal target p (Err desk.NoMemory) = refuse NoMemory
 
 -- a removal that is refused says nothing
-unfoldable pub remove_target : Job → Place → List ℕ → Acts (Unit {0})
-remove_target j p path = do
+unfoldable pub remove_target : List ℕ → Place → List ℕ → Acts (Unit {0})
+remove_target target p path = do
   r ← below (of_desk p) (attempt (remove path))
-  after_removal j.plan.target p r
+  after_removal target p r
 
-abbrev pub if_changed : Job → Place → List ℕ → Bool → Acts (Unit {0})
-if_changed j p path true = done tt
-if_changed j p path false = remove_target j p path
+abbrev pub if_changed : List ℕ → Place → List ℕ → Bool → Acts (Unit {0})
+if_changed target p path true = done tt
+if_changed target p path false = remove_target target p path
 
 -- a file that is as it was before the recipe stays
-unfoldable pub remove_changed : Job → Option ℕ → Place → List ℕ → Acts (Unit {0})
-remove_changed j before p path = do
+unfoldable pub remove_changed : List ℕ → Option ℕ → Place → List ℕ → Acts (Unit {0})
+remove_changed target before p path = do
   now ← below (of_desk p) (stamp_at path)
-  if_changed j p path (same_stamp now before)
+  if_changed target p path (same_stamp now before)
 
-abbrev pub if_file : Job → Option ℕ → Place → List ℕ → Kind → Acts (Unit {0})
-if_file j before p path kind.File = remove_changed j before p path
-if_file j before p path _ = done tt
+abbrev pub if_file : List ℕ → Option ℕ → Place → List ℕ → Kind → Acts (Unit {0})
+if_file target before p path kind.File = remove_changed target before p path
+if_file target before p path _ = done tt
 
-unfoldable pub delete_at : Job → Option ℕ → Place → List ℕ → Acts (Unit {0})
-delete_at j before p path = do
+unfoldable pub delete_at : List ℕ → Option ℕ → Place → List ℕ → Acts (Unit {0})
+delete_at target before p path = do
   k ← below (of_desk p) (kind_at path)
-  if_file j before p path k
+  if_file target before p path k
 
-abbrev pub delete_by : Job → Option ℕ → Place → Option (List ℕ) → Acts (Unit {0})
-delete_by j before p None = done tt
-delete_by j before p (Some path) = delete_at j before p path
+abbrev pub delete_by : List ℕ → Option ℕ → Place → Option (List ℕ) → Acts (Unit {0})
+delete_by target before p None = done tt
+delete_by target before p (Some path) = delete_at target before p path
 
-abbrev pub deletes : Job → Bool
-deletes j = j.delete_on_error && not j.plan.phony
+-- one target, whose stamp was this one
+unfoldable pub delete_one : Job → Place → List ℕ → Option ℕ → Acts (Unit {0})
+delete_one j p target before = if is_phony j target then done tt else delete_by target before p (path_of j.cwd target)
 
-unfoldable pub delete : Job → Option ℕ → Place → Acts (Unit {0})
-delete j before p = if deletes j then delete_by j before p (path_of j.cwd j.plan.target) else done tt
+-- these targets in order, each with its stamp
+abbrev pub delete_each : Job → Place → List (List ℕ) → List (Option ℕ) → Acts (Unit {0})
+delete_each j p (t ∷ ts) (b ∷ bs) = do
+  u ← delete_one j p t b
+  delete_each j p ts bs
+delete_each j p ts bs = done tt
 
-unfoldable pub fail : Job → Option ℕ → Place → ℕ → Acts Outcome
-fail j before p status = do
+unfoldable pub delete : Job → List (Option ℕ) → Place → Acts (Unit {0})
+delete j befores p = if j.delete_on_error then delete_each j p j.plan.targets befores else done tt
+
+unfoldable pub fail : Job → List (Option ℕ) → Place → ℕ → Acts Outcome
+fail j befores p status = do
   u ← own (say (messages.failed p j.plan.target status))
-  v ← delete j before p
+  v ← delete j befores p
   done (outcome.Failed status)
 
 -- ---- all lines
@@ -215,8 +223,8 @@ abbrev pub is_lenient : Job → Placed → Bool
 is_lenient j l = j.lenient || l.command.marks.lenient
 
 -- what follows a line with this status
-abbrev pub after_line : Job → Option ℕ → Placed → Option Entries → ℕ → Acts Turn
-after_line j before l next status = if status == 0 then done (Next next) else if is_lenient j l then ignore else stop
+abbrev pub after_line : Job → List (Option ℕ) → Placed → Option Entries → ℕ → Acts Turn
+after_line j befores l next status = if status == 0 then done (Next next) else if is_lenient j l then ignore else stop
   where
     ignore : Acts Turn
     ignore = do
@@ -225,13 +233,13 @@ after_line j before l next status = if status == 0 then done (Next next) else if
 
     stop : Acts Turn
     stop = do
-      o ← fail j before l.place status
+      o ← fail j befores l.place status
       done (turn.Ended o)
 
 unfoldable pub turn_of : Job → Opened → Option Entries → Ready → Acts Turn
 turn_of j x env r = do
   ran ← run_line j x.autos env r.placed r.line
-  after_line j x.stamp r.placed ran.0 ran.1
+  after_line j x.stamps r.placed ran.0 ran.1
 
 abbrev pub lines_by : (Option Entries → Acts Outcome) → Turn → Acts Outcome
 lines_by rest (Next env) = rest env

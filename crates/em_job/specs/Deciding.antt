@@ -1,7 +1,8 @@
--- Whether a job remakes its target: what it asks of its prerequisites' jobs and of stamps, and what
+-- Whether a job remakes its targets: what it asks of its prerequisites' jobs and of stamps, and what
 -- follows from that.
---     prerequisites j         the outcomes of the prerequisites' jobs, normal ones and then order-only ones, all of them
+--     prerequisites j         the outcomes of all jobs of the prerequisites, normal ones and then order-only ones
 --     stamp_of cwd name       the stamp of what the name says; a name that is no path is absent and isn't asked
+--     stamps_of cwd names ..  the stamps of these names, in order, behind those so far
 --     newer_among ..          the normal prerequisites that make remaking due
 --     is_due, decision        remaking is due; what becomes of the job
 use Rattle.std.specs.Prelude.{ℕ, nat_lt, ◌==◌, Bool, true, false, not, ◌&&◌, ◌||◌, List, [], ◌∷◌, ◌++◌, length, Option, Some, None, if◌then◌else◌}
@@ -19,8 +20,8 @@ use Rattle.em_plan.specs.declared.planned.Pre.{Pre}
 use Rattle.em_rules.specs.declared.rule.RecipeLine.{RecipeLine}
 use Rattle.em_recipe.specs.Automatic.{names_of}
 use Rattle.em_task.specs.declared.job.Job.{Job}
-use Rattle.em_job.specs.declared.due.Awaited.{Awaited}
-use Rattle.em_job.specs.declared.due.Ending.{Ending}
+use Rattle.em_job.specs.declared.awaiting.Awaited.{Awaited}
+use Rattle.em_job.specs.declared.awaiting.Ending.{Ending}
 use Rattle.em_job.specs.declared.due.Verdict.{Verdict}
 use Rattle.em_job.specs.declared.due.Verdict.TheVariants.{Ended, NoRule, Remake}
 use Rattle.em_job.specs.Stops.{Acts, early}
@@ -48,6 +49,22 @@ await_job dry job = do
   o ← below early (rows.outcome job)
   done (ending_of dry o)
 
+-- what the ends of two jobs mean together: a job goes on with both, and one is enough to make
+-- remaking due
+abbrev pub together : Ending → Ending → Ending
+together e x = record { fine = e.fine && x.fine; renewed = e.renewed || x.renewed }
+
+-- what the jobs of these numbers mean, all of them, with what was so far
+abbrev pub await_jobs : Bool → List ℕ → Ending → Acts Ending
+await_jobs dry [] so_far = done so_far
+await_jobs dry (k ∷ ks) so_far = do
+  e ← await_job dry k
+  await_jobs dry ks (together so_far e)
+
+-- before the first job
+abbrev pub unasked : Ending
+unasked = record { fine = true; renewed = false }
+
 abbrev pub awaited : Pre → Ending → Awaited
 awaited p e = record { name = p.name; renewed = e.renewed }
 
@@ -55,13 +72,13 @@ awaited p e = record { name = p.name; renewed = e.renewed }
 abbrev pub await_normal : Bool → List Pre → List Awaited → Bool → Acts (List Awaited × Bool)
 await_normal dry [] so_far fine = done (so_far, fine)
 await_normal dry (p ∷ ps) so_far fine = do
-  e ← await_job dry p.job
+  e ← await_jobs dry p.jobs unasked
   await_normal dry ps (so_far ++ awaited p e ∷ []) (fine && e.fine)
 
 abbrev pub await_order : List Pre → Bool → Acts Bool
 await_order [] fine = done fine
 await_order (p ∷ ps) fine = do
-  e ← await_job false p.job
+  e ← await_jobs false p.jobs unasked
   await_order ps (fine && e.fine)
 
 unfoldable pub prerequisites : Job → Acts (List Awaited × Bool)
@@ -85,6 +102,12 @@ stamp_by (Some p) = below early (stamp_at p)
 unfoldable pub stamp_of : List ℕ → List ℕ → Acts (Option ℕ)
 stamp_of cwd name = stamp_by (path_of cwd name)
 
+abbrev pub stamps_of : List ℕ → List (List ℕ) → List (Option ℕ) → Acts (List (Option ℕ))
+stamps_of cwd [] so_far = done so_far
+stamps_of cwd (name ∷ names) so_far = do
+  stamp ← stamp_of cwd name
+  stamps_of cwd names (so_far ++ stamp ∷ [])
+
 abbrev pub same_stamp : Option ℕ → Option ℕ → Bool
 same_stamp None None = true
 same_stamp (Some a) (Some b) = a == b
@@ -93,34 +116,45 @@ same_stamp a b = false
 abbrev pub is_phony : Job → List ℕ → Bool
 is_phony j name = list_any (λ p. bytes_eq p name) j.phony
 
--- a prerequisite with a greater stamp; an equal one isn't newer
-abbrev pub is_later : Option ℕ → Option ℕ → Bool
-is_later (Some own) (Some other) = nat_lt own other
-is_later None (Some other) = false
-is_later own None = true
+-- a target that is there has a stamp below this one; an equal one isn't below it
+abbrev pub precedes : ℕ → Option ℕ → Bool
+precedes other None = false
+precedes other (Some own) = nat_lt own other
 
-abbrev pub is_newer : Job → Option ℕ → Awaited → Option ℕ → Bool
-is_newer j own a stamp = is_phony j a.name || (a.renewed || is_later own stamp)
+-- a prerequisite that is absent, or newer than one of the targets
+abbrev pub is_later : List (Option ℕ) → Option ℕ → Bool
+is_later owns None = true
+is_later owns (Some other) = list_any (precedes other) owns
+
+abbrev pub is_newer : Job → List (Option ℕ) → Awaited → Option ℕ → Bool
+is_newer j owns a stamp = is_phony j a.name || (a.renewed || is_later owns stamp)
 
 abbrev pub with_newer : Bool → List (List ℕ) → List ℕ → List (List ℕ)
 with_newer is names name = if is then names ++ name ∷ [] else names
 
-abbrev pub newer_among : Job → Option ℕ → List Awaited → List (List ℕ) → Acts (List (List ℕ))
-newer_among j own [] so_far = done so_far
-newer_among j own (a ∷ more) so_far = do
+abbrev pub newer_among : Job → List (Option ℕ) → List Awaited → List (List ℕ) → Acts (List (List ℕ))
+newer_among j owns [] so_far = done so_far
+newer_among j owns (a ∷ more) so_far = do
   stamp ← stamp_of j.cwd a.name
-  newer_among j own more (with_newer (is_newer j own a stamp) so_far a.name)
+  newer_among j owns more (with_newer (is_newer j owns a stamp) so_far a.name)
 
 abbrev pub is_absent : Option ℕ → Bool
 is_absent None = true
 is_absent (Some stamp) = false
 
-abbrev pub is_due : Job → Option ℕ → List (List ℕ) → Bool
-is_due j own newer = j.flags.always || (j.plan.phony || (is_absent own || nat_lt 0 (length newer)))
+abbrev pub is_one_absent : List (Option ℕ) → Bool
+is_one_absent owns = list_any is_absent owns
 
--- what made remaking due: all prerequisites where the target is absent, and under `-B`
-abbrev pub reasons : Job → Option ℕ → List (List ℕ) → List (List ℕ)
-reasons j own newer = if j.flags.always || is_absent own then names_of j.plan.normal else newer
+-- a double-colon rule without normal prerequisites
+abbrev pub is_unbound : Job → Bool
+is_unbound j = j.plan.double && (length j.plan.normal == 0)
+
+abbrev pub is_due : Job → List (Option ℕ) → List (List ℕ) → Bool
+is_due j owns newer = j.flags.always || (j.plan.phony || (is_one_absent owns || (is_unbound j || nat_lt 0 (length newer))))
+
+-- what made remaking due: all prerequisites where a target is absent, and under `-B`
+abbrev pub reasons : Job → List (Option ℕ) → List (List ℕ) → List (List ℕ)
+reasons j owns newer = if j.flags.always || is_one_absent owns then names_of j.plan.normal else newer
 
 abbrev pub without_recipe : Bool → Outcome
 without_recipe true = outcome.Counted
@@ -132,10 +166,10 @@ by_recipe (Some lines) false question = Ended outcome.Upto
 by_recipe (Some lines) true true = Ended outcome.Made
 by_recipe (Some lines) true false = Remake
 
--- a name that is neither phony nor has a rule
-abbrev pub unruled : Option ℕ → Verdict
-unruled None = NoRule
-unruled (Some stamp) = Ended outcome.Upto
+-- targets that are neither phony nor have a rule
+abbrev pub unruled : Bool → Verdict
+unruled true = NoRule
+unruled false = Ended outcome.Upto
 
-abbrev pub decision : Job → Option ℕ → List (List ℕ) → Verdict
-decision j own newer = if not (j.plan.phony || j.plan.ruled) then unruled own else by_recipe j.plan.recipe (is_due j own newer) j.flags.question
+abbrev pub decision : Job → List (Option ℕ) → List (List ℕ) → Verdict
+decision j owns newer = if not (j.plan.phony || j.plan.ruled) then unruled (is_one_absent owns) else by_recipe j.plan.recipe (is_due j owns newer) j.flags.question

@@ -3,7 +3,7 @@
 --     covers names n           a special target speaks of the name
 --     job_of .. i plan         the job of this number
 --     jobs_of ..               all of them
-use Rattle.std.specs.Prelude.{ℕ, suc, ◌||◌, Bool, true, false, not, List, [], ◌∷◌, ◌≡◌}
+use Rattle.std.specs.Prelude.{ℕ, suc, ◌||◌, Bool, true, false, not, List, [], ◌∷◌, ◌++◌, ◌≡◌}
 use Rattle.std.specs.List.{filter}
 use Rattle.em_path.specs.Paths.{root_text}
 use Rattle.em_path.specs.Reading.{resolved_text}
@@ -47,7 +47,7 @@ module _ (book : Book) (order : Order) (base : ℕ) where
     quiet = order.silent || covers (special book.rules).silent plan.target;
     lenient = order.ignore || covers (special book.rules).ignore plan.target;
     delete_on_error = (special book.rules).delete_on_error;
-    phony = filter (is_phony book.rules) (plan.target ∷ names_of plan.normal);
+    phony = filter (is_phony book.rules) (plan.targets ++ names_of plan.normal);
     plan = plan;
     vars = book.vars;
   }

@@ -17,7 +17,7 @@ use Rattle.em_recipe.specs.Commands.{commands_of}
 use Rattle.em_recipe.specs.Automatic.{texts}
 use Rattle.em_recipe.specs.Messages as messages
 use Rattle.em_task.specs.declared.job.Job.{Job}
-use Rattle.em_job.specs.declared.due.Awaited.{Awaited}
+use Rattle.em_job.specs.declared.awaiting.Awaited.{Awaited}
 use Rattle.em_job.specs.declared.due.Verdict.{Verdict}
 use Rattle.em_job.specs.declared.due.Verdict.TheVariants as decision
 use Rattle.em_job.specs.declared.prepare.Placed.{Placed}
@@ -26,7 +26,7 @@ use Rattle.em_job.specs.declared.prepare.Prepared.TheVariants.{Ended, Lines}
 use Rattle.em_job.specs.declared.stop.Stop.{Stop}
 use Rattle.em_job.specs.declared.stop.Stop.TheVariants.{Refused}
 use Rattle.em_job.specs.Stops.{Acts, of_expand}
-use Rattle.em_job.specs.Deciding.{prerequisites, stamp_of, newer_among, reasons, decision}
+use Rattle.em_job.specs.Deciding.{prerequisites, stamps_of, newer_among, reasons, decision}
 
 -- the text stands behind what was said
 abbrev pub say : List ℕ → Spoken → Result (Unit {0} × Spoken) (Stop × Spoken)
@@ -67,26 +67,26 @@ expand_lines j autos (l ∷ ls) so_far = do
 abbrev pub recipe_of : Job → List RecipeLine
 recipe_of j = unwrap_or j.plan.recipe []
 
-unfoldable pub expand_recipe : Job → Option ℕ → List (List ℕ) → Acts Prepared
-expand_recipe j stamp newer = do
+unfoldable pub expand_recipe : Job → List (Option ℕ) → List (List ℕ) → Acts Prepared
+expand_recipe j owns newer = do
   lines ← expand_lines j (texts j.plan newer) (recipe_of j) []
-  done (Lines (record { stamp = stamp; autos = texts j.plan newer }) lines)
+  done (Lines (record { stamps = owns; autos = texts j.plan newer }) lines)
 
 abbrev pub no_rule : Job → Acts Prepared
 no_rule j = do
   u ← own (say (messages.no_rule j.plan.target j.plan.needed_by j.flags.keep_going))
   done (Ended outcome.NoRule)
 
-abbrev pub by_decision : Job → Option ℕ → List (List ℕ) → Verdict → Acts Prepared
-by_decision j own newer (decision.Ended o) = done (Ended o)
-by_decision j own newer decision.NoRule = no_rule j
-by_decision j own newer decision.Remake = expand_recipe j own (reasons j own newer)
+abbrev pub by_decision : Job → List (Option ℕ) → List (List ℕ) → Verdict → Acts Prepared
+by_decision j owns newer (decision.Ended o) = done (Ended o)
+by_decision j owns newer decision.NoRule = no_rule j
+by_decision j owns newer decision.Remake = expand_recipe j owns (reasons j owns newer)
 
 unfoldable pub decide : Job → List Awaited → Acts Prepared
 decide j normal = do
-  own ← stamp_of j.cwd j.plan.target
-  newer ← newer_among j own normal []
-  by_decision j own newer (decision j own newer)
+  owns ← stamps_of j.cwd j.plan.targets []
+  newer ← newer_among j owns normal []
+  by_decision j owns newer (decision j owns newer)
 
 abbrev pub if_fine : Job → List Awaited → Bool → Acts Prepared
 if_fine j normal true = decide j normal

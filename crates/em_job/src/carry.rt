@@ -55,13 +55,13 @@ fn after_line<V: View>(
     desk: &mut Desk<V>,
     spoken: &mut Spoken,
     job: &Job,
-    stamp: Option<u64>,
+    stamps: &[Option<u64>],
     placed: &Placed,
     next: Option<Vars>,
     status: u8,
 ) -> Result<Turn, Stop>
     ensures { Does is_free V.tells desk.old desk.new spoken.old spoken.new result
-        (carrying.after_line job.now stamp placed.now next status) }
+        (carrying.after_line job.now stamps.now placed.now next status) }
 {
     if is_zero(status) {
         return Ok(Turn::Next(next));
@@ -70,7 +70,7 @@ fn after_line<V: View>(
         say_ignored(spoken, job, &placed.place, status)?;
         return Ok(Turn::Next(next));
     }
-    let outcome = fail(alloc, desk, spoken, job, stamp, &placed.place, status)?;
+    let outcome = fail(alloc, desk, spoken, job, stamps, &placed.place, status)?;
     Ok(Turn::Ended(outcome))
 }
 
@@ -90,7 +90,8 @@ fn run_turn<V: View>(
     let Ready { placed, line } = ready;
     let autos = opened.autos.items();
     let (next, status) = run_line(alloc, desk, spoken, job, autos, env, placed, line)?;
-    after_line(alloc, desk, spoken, job, opened.stamp, placed, next, status)
+    let stamps = opened.stamps.items();
+    after_line(alloc, desk, spoken, job, stamps, placed, next, status)
 }
 
 /// Runs the lines in order.

@@ -1,13 +1,13 @@
-//! Whether a job remakes its target.
-ghost use Rattle.std.specs.Prelude.{◌≡◌, ◌&&◌, [], ◌∷◌, ◌++◌, true, IfOk, OnOk};
+//! Whether a job remakes its targets.
+ghost use Rattle.std.specs.Prelude.{◌≡◌, [], IfOk, OnOk};
+ghost use Rattle.std.specs.List.{list_any};
 ghost use Rattle.em_expand.specs.declared.spoken.Spoken.{Spoken};
-ghost use Rattle.em_job.specs.Stops as stops;
 ghost use Rattle.em_job.specs.Stops.{is_free};
 ghost use Rattle.em_job.specs.Deciding as deciding;
 ghost use Rattle.em_recipe.specs.Automatic as automatic;
-ghost use Rattle.em_view.specs.Rows as rows;
 ghost use Rattle.em_view.specs.Steps.{Does};
 
+use crate::awaiting::Awaited;
 use crate::stop::{Stop, early};
 use em_base::{NoMemory, Seq, Text};
 use em_path::{Path, PathNo};
@@ -17,138 +17,11 @@ use em_tree::Outcome;
 use em_view::{Desk, View};
 use std::alloc::Global;
 
-/// A normal prerequisite whose job has ended.
-#[derive(Drop)]
-pub(crate) struct Awaited {
-    pub(crate) name: Text,
-    /// Whether it makes remaking due by itself.
-    pub(crate) renewed: bool,
-}
-
 /// What becomes of a job.
 pub(crate) enum Verdict {
     Ended(Outcome),
     NoRule,
     Remake,
-}
-
-/// Whether a job goes on with a prerequisite that ended so.
-fn goes_on(outcome: &Option<Outcome>) -> bool
-    ensures { result ≡ deciding.goes_on outcome.now }
-{
-    matches!(
-        outcome,
-        Some(Outcome::Upto) | Some(Outcome::Counted) | Some(Outcome::Made)
-    )
-}
-
-/// Whether it makes remaking due by itself.
-fn is_renewed(dry: bool, outcome: &Option<Outcome>) -> bool
-    ensures { result ≡ deciding.is_renewed dry outcome.now }
-{
-    match outcome {
-        Some(Outcome::Counted) => true,
-        Some(Outcome::Made) => dry,
-        _ => false,
-    }
-}
-
-/// What the end of a prerequisite's job means.
-#[derive(Clone, Copy)]
-struct Ending {
-    /// Whether a job goes on with it.
-    fine: bool,
-    /// Whether it makes remaking due by itself.
-    renewed: bool,
-}
-
-/// What an outcome means.
-fn ending_of(dry: bool, outcome: &Option<Outcome>) -> Ending
-    ensures { result ≡ deciding.ending_of dry outcome.now }
-{
-    Ending {
-        fine: goes_on(outcome),
-        renewed: is_renewed(dry, outcome),
-    }
-}
-
-/// How a prerequisite's job ended.
-fn await_job<V: View>(desk: &mut Desk<V>, dry: bool, job: u32) -> Result<Ending, Stop>
-    ensures { (s : Spoken) → Does is_free V.tells desk.old desk.new s s result
-        (deciding.await_job dry job) }
-{
-    match desk.outcome(job) {
-        Ok(outcome) => Ok(ending_of(dry, &outcome)),
-        Err(e) => Err(early(e)),
-    }
-}
-
-/// Adds a prerequisite whose job has ended so.
-fn put_awaited(
-    alloc: Global,
-    so_far: &mut Seq<Awaited>,
-    pre: &Pre,
-    ending: Ending,
-) -> Result<(), NoMemory>
-    ensures { OnOk result (so_far.new ≡ so_far.old ++ deciding.awaited pre.now ending ∷ []) }
-{
-    let name = pre.name.copy(alloc)?;
-    let renewed = ending.renewed;
-    so_far.push(Awaited { name, renewed })
-}
-
-fn both(a: bool, b: bool) -> bool
-    ensures { result ≡ a && b }
-{
-    a && b
-}
-
-/// The normal prerequisites, once their jobs have ended, and whether the job goes on with all of
-/// them.
-fn await_normal<V: View>(
-    alloc: Global,
-    desk: &mut Desk<V>,
-    dry: bool,
-    pres: &[Pre],
-) -> Result<(Seq<Awaited>, bool), Stop>
-    ensures { (s : Spoken) → Does is_free V.tells desk.old desk.new s s result
-        (deciding.await_normal dry pres.now [] true) }
-{
-    let mut so_far = Seq::new(alloc);
-    let mut fine = true;
-    for pre in pres {
-        let ending = await_job(desk, dry, pre.job)?;
-        put_awaited(alloc, &mut so_far, pre, ending)?;
-        fine = both(fine, ending.fine);
-    }
-    Ok((so_far, fine))
-}
-
-/// Whether the job goes on with all of these, and did so before.
-fn await_order<V: View>(desk: &mut Desk<V>, pres: &[Pre], before: bool) -> Result<bool, Stop>
-    ensures { (s : Spoken) → Does is_free V.tells desk.old desk.new s s result
-        (deciding.await_order pres.now before) }
-{
-    let mut fine = before;
-    for pre in pres {
-        let ending = await_job(desk, false, pre.job)?;
-        fine = both(fine, ending.fine);
-    }
-    Ok(fine)
-}
-
-/// The prerequisites, once their jobs have ended.
-pub(crate) fn prerequisites<V: View>(
-    alloc: Global,
-    desk: &mut Desk<V>,
-    job: &Job,
-) -> Result<(Seq<Awaited>, bool), Stop>
-    ensures { (s : Spoken) → Does is_free V.tells desk.old desk.new s s result
-        (deciding.prerequisites job.now) }
-{
-    let (normal, fine) = await_normal(alloc, desk, job.flags.dry, job.plan.normal.items())?;
-    let fine = await_order(desk, job.plan.order.items(), fine)?;
-    Ok((normal, fine))
 }
 
 /// The path that a name says, if it says one.
@@ -181,6 +54,24 @@ pub(crate) fn stamp_of<V: View>(
     }
 }
 
+/// The stamps of what these names say, in order.
+pub(crate) fn stamps_of<V: View>(
+    alloc: Global,
+    desk: &mut Desk<V>,
+    cwd: &Path,
+    names: &[Text],
+) -> Result<Seq<Option<u64>>, Stop>
+    ensures { (s : Spoken) → Does is_free V.tells desk.old desk.new s s result
+        (deciding.stamps_of cwd.now names.now []) }
+{
+    let mut stamps = Seq::new(alloc);
+    for name in names {
+        let stamp = stamp_of(alloc, desk, cwd, name.bytes())?;
+        stamps.push(stamp)?;
+    }
+    Ok(stamps)
+}
+
 /// Whether two nodes, or absences, have one stamp.
 pub(crate) fn same_stamp(a: Option<u64>, b: Option<u64>) -> bool
     ensures { result ≡ deciding.same_stamp a b }
@@ -192,28 +83,45 @@ pub(crate) fn same_stamp(a: Option<u64>, b: Option<u64>) -> bool
     }
 }
 
-fn is_phony(job: &Job, name: &[u8]) -> bool
+/// Whether a target or a normal prerequisite is phony.
+pub(crate) fn is_phony(job: &Job, name: &[u8]) -> bool
     ensures { result ≡ deciding.is_phony job.now name.now }
 {
     job.phony.items().iter().any(|p| p.bytes() == name)
 }
 
-/// Whether the other is absent, or has a greater stamp.
-fn is_later(own: Option<u64>, other: Option<u64>) -> bool
-    ensures { result ≡ deciding.is_later own other }
+/// Whether a target is there, with a stamp below this one.
+fn precedes(other: u64, own: Option<u64>) -> bool
+    ensures { result ≡ deciding.precedes other own }
 {
-    match (own, other) {
-        (_, None) => true,
-        (None, Some(_)) => false,
-        (Some(own), Some(other)) => own < other,
+    match own {
+        None => false,
+        Some(own) => own < other,
+    }
+}
+
+/// Whether one of the targets is there, with a stamp below this one.
+fn is_one_before(owns: &[Option<u64>], other: u64) -> bool
+    ensures { result ≡ list_any (deciding.precedes other) owns.now }
+{
+    owns.iter().any(|own| precedes(other, *own))
+}
+
+/// Whether a prerequisite is absent, or has a greater stamp than one of the targets.
+fn is_later(owns: &[Option<u64>], other: Option<u64>) -> bool
+    ensures { result ≡ deciding.is_later owns.now other }
+{
+    match other {
+        None => true,
+        Some(other) => is_one_before(owns, other),
     }
 }
 
 /// Whether a prerequisite makes remaking due.
-fn is_newer(job: &Job, own: Option<u64>, awaited: &Awaited, stamp: Option<u64>) -> bool
-    ensures { result ≡ deciding.is_newer job.now own awaited.now stamp }
+fn is_newer(job: &Job, owns: &[Option<u64>], awaited: &Awaited, stamp: Option<u64>) -> bool
+    ensures { result ≡ deciding.is_newer job.now owns.now awaited.now stamp }
 {
-    is_phony(job, awaited.name.bytes()) || awaited.renewed || is_later(own, stamp)
+    is_phony(job, awaited.name.bytes()) || awaited.renewed || is_later(owns, stamp)
 }
 
 /// Adds a prerequisite that makes remaking due.
@@ -236,11 +144,11 @@ pub(crate) fn newer_among<V: View>(
     alloc: Global,
     desk: &mut Desk<V>,
     job: &Job,
-    own: Option<u64>,
+    owns: &[Option<u64>],
     normal: &[Awaited],
 ) -> Result<Seq<Text>, Stop>
     ensures { (s : Spoken) → Does is_free V.tells desk.old desk.new s s result
-        (deciding.newer_among job.now own normal.now []) }
+        (deciding.newer_among job.now owns.now normal.now []) }
 {
     let mut newer = Seq::new(alloc);
     for awaited in normal {
@@ -249,16 +157,34 @@ pub(crate) fn newer_among<V: View>(
             alloc,
             &mut newer,
             awaited,
-            is_newer(job, own, awaited, stamp),
+            is_newer(job, owns, awaited, stamp),
         )?;
     }
     Ok(newer)
 }
 
-fn is_due(job: &Job, own: Option<u64>, newer: &[Text]) -> bool
-    ensures { result ≡ deciding.is_due job.now own newer.now }
+/// Whether one of the targets is absent.
+fn is_one_absent(owns: &[Option<u64>]) -> bool
+    ensures { result ≡ deciding.is_one_absent owns.now }
 {
-    job.flags.always || job.plan.phony || own.is_none() || !newer.is_empty()
+    owns.iter().any(|own| own.is_none())
+}
+
+/// Whether it is the job of a double-colon rule without normal prerequisites.
+fn is_unbound(job: &Job) -> bool
+    ensures { result ≡ deciding.is_unbound job.now }
+{
+    job.plan.double && job.plan.normal.is_empty()
+}
+
+fn is_due(job: &Job, owns: &[Option<u64>], newer: &[Text]) -> bool
+    ensures { result ≡ deciding.is_due job.now owns.now newer.now }
+{
+    job.flags.always
+        || job.plan.phony
+        || is_one_absent(owns)
+        || is_unbound(job)
+        || !newer.is_empty()
 }
 
 /// The names of the prerequisites.
@@ -276,28 +202,36 @@ fn names_of(alloc: Global, pres: &[Pre]) -> Result<Seq<Text>, NoMemory>
 pub(crate) fn reasons(
     alloc: Global,
     job: &Job,
-    own: Option<u64>,
+    owns: &[Option<u64>],
     newer: Seq<Text>,
 ) -> Result<Seq<Text>, NoMemory>
-    ensures { IfOk result (λ ns. ns ≡ deciding.reasons job.now own newer) }
+    ensures { IfOk result (λ ns. ns ≡ deciding.reasons job.now owns.now newer) }
 {
-    if job.flags.always || own.is_none() {
+    if job.flags.always || is_one_absent(owns) {
         return names_of(alloc, job.plan.normal.items());
     }
     Ok(newer)
 }
 
+/// What becomes of a job whose targets are neither phony nor have a rule.
+fn unruled(is_one_absent: bool) -> Verdict
+    ensures { result ≡ deciding.unruled is_one_absent }
+{
+    if is_one_absent {
+        Verdict::NoRule
+    } else {
+        Verdict::Ended(Outcome::Upto)
+    }
+}
+
 /// What becomes of the job.
-pub(crate) fn decision(job: &Job, own: Option<u64>, newer: &[Text]) -> Verdict
-    ensures { result ≡ deciding.decision job.now own newer.now }
+pub(crate) fn decision(job: &Job, owns: &[Option<u64>], newer: &[Text]) -> Verdict
+    ensures { result ≡ deciding.decision job.now owns.now newer.now }
 {
     if !(job.plan.phony || job.plan.ruled) {
-        return match own {
-            None => Verdict::NoRule,
-            Some(_) => Verdict::Ended(Outcome::Upto),
-        };
+        return unruled(is_one_absent(owns));
     }
-    let due = is_due(job, own, newer);
+    let due = is_due(job, owns, newer);
     match &job.plan.recipe {
         None if due => Verdict::Ended(Outcome::Counted),
         None => Verdict::Ended(Outcome::Upto),

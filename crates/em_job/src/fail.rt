@@ -6,9 +6,9 @@ ghost use Rattle.em_job.specs.Preparing as preparing;
 ghost use Rattle.em_recipe.specs.Messages as messages;
 ghost use Rattle.em_view.specs.Steps.{Does, Works};
 
-use crate::due::{path_of, same_stamp};
+use crate::due::{is_phony, path_of, same_stamp};
 use crate::stop::{Stop, of_desk};
-use em_base::Place;
+use em_base::{Place, Text};
 use em_expand::Spoken;
 use em_path::Path;
 use em_recipe::{put_deleted, put_failed};
@@ -17,11 +17,11 @@ use em_tree::{Kind, Outcome};
 use em_view::{Desk, DeskNo, View};
 use std::alloc::Global;
 
-fn say_deleted(spoken: &mut Spoken, job: &Job) -> Result<(), Stop>
+fn say_deleted(spoken: &mut Spoken, target: &[u8]) -> Result<(), Stop>
     ensures { Works is_free spoken.old spoken.new result
-        (preparing.say (messages.deleted job.now.plan.target)) }
+        (preparing.say (messages.deleted target.now)) }
 {
-    put_deleted(&mut spoken.said, job.plan.target.bytes())?;
+    put_deleted(&mut spoken.said, target)?;
     Ok(())
 }
 
@@ -33,97 +33,129 @@ fn say_failed(spoken: &mut Spoken, job: &Job, place: &Place, status: u8) -> Resu
     Ok(())
 }
 
-/// Removes the target, where that isn't refused.
+/// Removes a target, where that isn't refused.
 fn remove<V: View>(
     alloc: Global,
     desk: &mut Desk<V>,
     spoken: &mut Spoken,
-    job: &Job,
+    target: &[u8],
     place: &Place,
     path: &Path,
 ) -> Result<(), Stop>
     ensures { Does is_free V.tells desk.old desk.new spoken.old spoken.new result
-        (carrying.remove_target job.now place.now path.now) }
+        (carrying.remove_target target.now place.now path.now) }
 {
     match desk.remove(path) {
-        Ok(()) => say_deleted(spoken, job),
+        Ok(()) => say_deleted(spoken, target),
         Err(DeskNo::File(_)) => Ok(()),
         Err(DeskNo::Spent) => Err(of_desk(alloc, place, DeskNo::Spent)),
         Err(DeskNo::NoMemory) => Err(Stop::NoMemory),
     }
 }
 
-/// Removes the target's file, where its stamp isn't the one from before the recipe.
+/// Removes a target's file, where its stamp isn't the one from before the recipe.
 fn remove_changed<V: View>(
     alloc: Global,
     desk: &mut Desk<V>,
     spoken: &mut Spoken,
-    job: &Job,
-    own: Option<u64>,
+    target: &[u8],
+    before: Option<u64>,
     place: &Place,
     path: &Path,
 ) -> Result<(), Stop>
     ensures { Does is_free V.tells desk.old desk.new spoken.old spoken.new result
-        (carrying.remove_changed job.now own place.now path.now) }
+        (carrying.remove_changed target.now before place.now path.now) }
 {
     match desk.stamp(path) {
         Ok(now) => {
-            if same_stamp(now, own) {
+            if same_stamp(now, before) {
                 return Ok(());
             }
-            remove(alloc, desk, spoken, job, place, path)
+            remove(alloc, desk, spoken, target, place, path)
         }
         Err(e) => Err(of_desk(alloc, place, e)),
     }
 }
 
-/// Removes the target, where it is a file that the recipe changed.
+/// Removes a target, where it is a file that the recipe changed.
 fn delete_at<V: View>(
     alloc: Global,
     desk: &mut Desk<V>,
     spoken: &mut Spoken,
-    job: &Job,
-    own: Option<u64>,
+    target: &[u8],
+    before: Option<u64>,
     place: &Place,
     path: &Path,
 ) -> Result<(), Stop>
     ensures { Does is_free V.tells desk.old desk.new spoken.old spoken.new result
-        (carrying.delete_at job.now own place.now path.now) }
+        (carrying.delete_at target.now before place.now path.now) }
 {
     match desk.kind(path) {
-        Ok(Kind::File) => remove_changed(alloc, desk, spoken, job, own, place, path),
+        Ok(Kind::File) => remove_changed(alloc, desk, spoken, target, before, place, path),
         Ok(Kind::Absent) => Ok(()),
         Ok(Kind::Dir) => Ok(()),
         Err(e) => Err(of_desk(alloc, place, e)),
     }
 }
 
-/// Whether the target of a failed job may go.
-fn deletes(job: &Job) -> bool
-    ensures { result ≡ carrying.deletes job.now }
+/// What becomes of a target of a job that failed. This was its stamp before the recipe.
+fn delete_one<V: View>(
+    alloc: Global,
+    desk: &mut Desk<V>,
+    spoken: &mut Spoken,
+    job: &Job,
+    place: &Place,
+    target: &[u8],
+    before: Option<u64>,
+) -> Result<(), Stop>
+    ensures { Does is_free V.tells desk.old desk.new spoken.old spoken.new result
+        (carrying.delete_one job.now place.now target.now before) }
 {
-    job.delete_on_error && !job.plan.phony
+    if is_phony(job, target) {
+        return Ok(());
+    }
+    match path_of(alloc, &job.cwd, target)? {
+        None => Ok(()),
+        Some(path) => delete_at(alloc, desk, spoken, target, before, place, &path),
+    }
 }
 
-/// What becomes of the target of a job that failed.
+/// What becomes of the targets of a job that failed, in order.
+fn delete_each<V: View>(
+    alloc: Global,
+    desk: &mut Desk<V>,
+    spoken: &mut Spoken,
+    job: &Job,
+    place: &Place,
+    targets: &[Text],
+    befores: &[Option<u64>],
+) -> Result<(), Stop>
+    ensures { Does is_free V.tells desk.old desk.new spoken.old spoken.new result
+        (carrying.delete_each job.now place.now targets.now befores.now) }
+{
+    for (target, before) in targets.iter().zip(befores) {
+        delete_one(alloc, desk, spoken, job, place, target.bytes(), *before)?;
+    }
+    Ok(())
+}
+
+/// What becomes of the targets of a job that failed. These were their stamps before the recipe.
 fn delete<V: View>(
     alloc: Global,
     desk: &mut Desk<V>,
     spoken: &mut Spoken,
     job: &Job,
-    own: Option<u64>,
+    befores: &[Option<u64>],
     place: &Place,
 ) -> Result<(), Stop>
     ensures { Does is_free V.tells desk.old desk.new spoken.old spoken.new result
-        (carrying.delete job.now own place.now) }
+        (carrying.delete job.now befores.now place.now) }
 {
-    if !deletes(job) {
+    if !job.delete_on_error {
         return Ok(());
     }
-    match path_of(alloc, &job.cwd, job.plan.target.bytes())? {
-        None => Ok(()),
-        Some(path) => delete_at(alloc, desk, spoken, job, own, place, &path),
-    }
+    let targets = job.plan.targets.items();
+    delete_each(alloc, desk, spoken, job, place, targets, befores)
 }
 
 /// Ends a job by a line with this status.
@@ -132,14 +164,14 @@ pub(crate) fn fail<V: View>(
     desk: &mut Desk<V>,
     spoken: &mut Spoken,
     job: &Job,
-    own: Option<u64>,
+    befores: &[Option<u64>],
     place: &Place,
     status: u8,
 ) -> Result<Outcome, Stop>
     ensures { Does is_free V.tells desk.old desk.new spoken.old spoken.new result
-        (carrying.fail job.now own place.now status) }
+        (carrying.fail job.now befores.now place.now status) }
 {
     say_failed(spoken, job, place, status)?;
-    delete(alloc, desk, spoken, job, own, place)?;
+    delete(alloc, desk, spoken, job, befores, place)?;
     Ok(Outcome::Failed(status))
 }

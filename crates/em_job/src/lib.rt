@@ -1,6 +1,7 @@
-//! One job: whether it remakes its target, and how its recipe runs.
+//! One job: whether it remakes its targets, and how its recipe runs.
 #![tactic(auto)]
 
+mod awaiting;
 mod carry;
 mod due;
 mod environment;

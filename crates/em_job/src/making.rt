@@ -1,5 +1,5 @@
 //! The specs of a plan's jobs.
-ghost use Rattle.std.specs.Prelude.{◌≡◌, ◌≤◌, ◌^◌, ◌∷◌, ℕ, None, length, IfOk};
+ghost use Rattle.std.specs.Prelude.{◌≡◌, ◌≤◌, ◌^◌, ◌++◌, ℕ, None, length, IfOk, OnOk};
 ghost use Rattle.std.specs.List.{filter};
 ghost use Rattle.em_job.specs.Making as making;
 ghost use Rattle.em_path.specs.Paths.{root_text};
@@ -12,7 +12,7 @@ use crate::spec::JobSpec;
 use em_base::{NoMemory, Seq, Text};
 use em_cmdline::Order;
 use em_path::Path;
-use em_plan::{Plan, PlanJob};
+use em_plan::{Plan, PlanJob, Pre};
 use em_rules::{Book, Names, Rules, Special};
 use em_task::{Flags, Job, SharedVars};
 use std::alloc::Global;
@@ -33,15 +33,22 @@ fn covers(names: &Names, name: &[u8]) -> bool
     }
 }
 
-/// The target and the normal prerequisites.
-fn names_of(alloc: Global, plan: &PlanJob) -> Result<Vec<Text>, NoMemory>
-    ensures { IfOk result (λ ns. ns.items ≡ plan.now.target ∷ names_of plan.now.normal) }
+/// Adds the names of the prerequisites.
+fn add_names(alloc: Global, names: &mut Vec<Text>, pres: &[Pre]) -> Result<(), NoMemory>
+    ensures { OnOk result (names.new.items ≡ names.old.items ++ names_of pres.now) }
 {
-    let mut names = Vec::new(alloc);
-    names.push(plan.target.copy(alloc)?)?;
-    for pre in plan.normal.items() {
+    for pre in pres {
         names.push(pre.name.copy(alloc)?)?;
     }
+    Ok(())
+}
+
+/// The targets and the normal prerequisites.
+fn names_of(alloc: Global, plan: &PlanJob) -> Result<Vec<Text>, NoMemory>
+    ensures { IfOk result (λ ns. ns.items ≡ plan.now.targets ++ names_of plan.now.normal) }
+{
+    let mut names = plan.targets.copy(alloc)?.into_vec();
+    add_names(alloc, &mut names, plan.normal.items())?;
     Ok(names)
 }
 
@@ -52,10 +59,10 @@ fn keep_phony(names: &mut Vec<Text>, rules: &Rules)
     names.retain(|n| rules.is_phony(n.bytes()));
 }
 
-/// The phony names among the target and the normal prerequisites.
+/// The phony names among the targets and the normal prerequisites.
 fn phony_names(alloc: Global, rules: &Rules, plan: &PlanJob) -> Result<Seq<Text>, NoMemory>
     ensures { IfOk result (λ ns. ns
-        ≡ filter (is_phony rules.now) (plan.now.target ∷ names_of plan.now.normal)) }
+        ≡ filter (is_phony rules.now) (plan.now.targets ++ names_of plan.now.normal)) }
 {
     let mut names = names_of(alloc, plan)?;
     keep_phony(&mut names, rules);

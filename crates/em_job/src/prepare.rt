@@ -5,7 +5,8 @@ ghost use Rattle.em_job.specs.Preparing as preparing;
 ghost use Rattle.em_recipe.specs.Messages as messages;
 ghost use Rattle.em_view.specs.Steps.{Does, Works};
 
-use crate::due::{Awaited, Verdict, decision, newer_among, prerequisites, reasons, stamp_of};
+use crate::awaiting::{Awaited, prerequisites};
+use crate::due::{Verdict, decision, newer_among, reasons, stamps_of};
 use crate::stop::{Stop, of_expand, refused};
 use em_base::{Construct, NoMemory, Place, Seq, Text};
 use em_expand::{Layers, OwnVar, Spoken, expand};
@@ -26,8 +27,8 @@ pub(crate) struct Placed {
 /// A recipe that is to run.
 #[derive(Drop)]
 pub(crate) struct Opened {
-    /// The target's stamp before it.
-    pub(crate) stamp: Option<u64>,
+    /// The targets' stamps before it, in order.
+    pub(crate) stamps: Seq<Option<u64>>,
     /// The automatic variables.
     pub(crate) autos: Seq<OwnVar>,
 }
@@ -144,15 +145,15 @@ fn expand_recipe<V: View>(
     desk: &mut Desk<V>,
     spoken: &mut Spoken,
     job: &Job,
-    stamp: Option<u64>,
+    stamps: Seq<Option<u64>>,
     newer: &[Text],
 ) -> Result<Prepared, Stop>
     ensures { Does is_free V.tells desk.old desk.new spoken.old spoken.new result
-        (preparing.expand_recipe job.now stamp newer.now) }
+        (preparing.expand_recipe job.now stamps newer.now) }
 {
     let autos = automatic_vars(alloc, &job.plan, newer)?;
     let lines = expand_lines(alloc, desk, spoken, job, autos.items(), recipe_of(job))?;
-    Ok(Prepared::Lines(Opened { stamp, autos }, lines))
+    Ok(Prepared::Lines(Opened { stamps, autos }, lines))
 }
 
 /// Says that no rule makes the target.
@@ -182,17 +183,17 @@ fn decide<V: View>(
     ensures { Does is_free V.tells desk.old desk.new spoken.old spoken.new result
         (preparing.decide job.now normal.now) }
 {
-    let own = stamp_of(alloc, desk, &job.cwd, job.plan.target.bytes())?;
-    let newer = newer_among(alloc, desk, job, own, normal)?;
-    match decision(job, own, newer.items()) {
+    let owns = stamps_of(alloc, desk, &job.cwd, job.plan.targets.items())?;
+    let newer = newer_among(alloc, desk, job, owns.items(), normal)?;
+    match decision(job, owns.items(), newer.items()) {
         Verdict::Ended(outcome) => Ok(Prepared::Ended(outcome)),
         Verdict::NoRule => {
             no_rule(spoken, job)?;
             Ok(Prepared::Ended(Outcome::NoRule))
         }
         Verdict::Remake => {
-            let reasons = reasons(alloc, job, own, newer)?;
-            expand_recipe(alloc, desk, spoken, job, own, reasons.items())
+            let reasons = reasons(alloc, job, owns.items(), newer)?;
+            expand_recipe(alloc, desk, spoken, job, owns, reasons.items())
         }
     }
 }

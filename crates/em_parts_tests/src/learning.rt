@@ -9,7 +9,7 @@ use em_learning::{learnt, report_of, waits_with};
 use em_path::Path;
 use em_plan::{Plan, plan};
 use em_report::CauseWord;
-use em_rules::{Book, Rule};
+use em_rules::{Book, Rule, RuleKind};
 use em_tree::{Answer, Question, Tree};
 use std::alloc::Global;
 use std::test::Fail;
@@ -27,6 +27,7 @@ fn texts(alloc: Global, names: &[&[u8]]) -> Result<Seq<Text>, NoMemory> {
 fn rule(alloc: Global, target: &[u8], needed: &[u8]) -> Result<Rule, NoMemory> {
     Ok(Rule {
         targets: texts(alloc, &[target])?,
+        kind: RuleKind::Ordinary,
         pattern: false,
         form: None,
         normal: texts(alloc, &[needed])?,

@@ -127,9 +127,13 @@ fn recipe_of(alloc: Global, text: &str) -> Result<Seq<RecipeLine>, NoMemory> {
 
 fn plan_of(alloc: Global, text: &str) -> Result<PlanJob, NoMemory> {
     let target = Text::from_slice(alloc, b"all")?;
+    let mut targets = Seq::new(alloc);
+    targets.push(target.copy(alloc)?)?;
     let recipe = recipe_of(alloc, text)?;
     Ok(PlanJob {
         target,
+        targets,
+        double: false,
         normal: Seq::new(alloc),
         order: Seq::new(alloc),
         stem: Text::new(alloc),

@@ -1,6 +1,8 @@
-//! The tests of a whole line for the shell, and of a job with one line.
+//! The tests of a whole line for the shell, and of jobs with one line.
 #![tactic(auto)]
 
+#[cfg(test)]
+mod group;
 #[cfg(test)]
 mod job;
 #[cfg(test)]

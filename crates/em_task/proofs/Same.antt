@@ -43,7 +43,9 @@ same_text : (x y : List ℕ) → pointwise nat_eq x y ≡ true → x ≡ y
 same_text x y e = (bytes_decides x y).0 e
 
 same_pre : (x y : Pre) → pre_eq.ghosts.eq x y ≡ true → x ≡ y
-same_pre x y e = first_of (search rules, grind (arith, common_steps))
+same_pre x y e =
+    let both = and_parts _ _ e in
+    λ i. record { name = same_text x.name y.name both.0 i; jobs = same_text x.jobs y.jobs both.1 i }
 
 same_line : (x y : RecipeLine) → line_eq.ghosts.eq x y ≡ true → x ≡ y
 same_line x y e = first_of (search rules, grind (arith, common_steps))
@@ -74,16 +76,20 @@ same_plan x y e =
     let g = and_parts _ _ f.1 in
     let h = and_parts _ _ g.1 in
     let k = and_parts _ _ h.1 in
+    let l = and_parts _ _ k.1 in
+    let m = and_parts _ _ l.1 in
     λ i. record {
       target = same_text x.target y.target a.0 i;
-      normal = same_list pre_eq.ghosts.eq same_pre x.normal y.normal b.0 i;
-      order = same_list pre_eq.ghosts.eq same_pre x.order y.order c.0 i;
-      stem = same_text x.stem y.stem d.0 i;
-      recipe = same_option (pointwise line_eq.ghosts.eq) (same_list line_eq.ghosts.eq same_line) x.recipe y.recipe f.0 i;
-      ruled = same_bool x.ruled y.ruled g.0 i;
-      phony = same_bool x.phony y.phony h.0 i;
-      needed_by = same_option (pointwise nat_eq) same_text x.needed_by y.needed_by k.0 i;
-      waits = same_text x.waits y.waits k.1 i;
+      targets = same_list (pointwise nat_eq) same_text x.targets y.targets b.0 i;
+      double = same_bool x.double y.double c.0 i;
+      normal = same_list pre_eq.ghosts.eq same_pre x.normal y.normal d.0 i;
+      order = same_list pre_eq.ghosts.eq same_pre x.order y.order f.0 i;
+      stem = same_text x.stem y.stem g.0 i;
+      recipe = same_option (pointwise line_eq.ghosts.eq) (same_list line_eq.ghosts.eq same_line) x.recipe y.recipe h.0 i;
+      ruled = same_bool x.ruled y.ruled k.0 i;
+      phony = same_bool x.phony y.phony l.0 i;
+      needed_by = same_option (pointwise nat_eq) same_text x.needed_by y.needed_by m.0 i;
+      waits = same_text x.waits y.waits m.1 i;
     }
 
 pub same_job : (x y : Job) → job_eq.ghosts.eq x y ≡ true → x ≡ y

@@ -36,13 +36,13 @@ pub struct Job {
     /// The working directory.
     pub cwd: Path,
     pub flags: Flags,
-    /// Its lines aren't echoed: `-s`, or `.SILENT` covers the target.
+    /// Its lines aren't echoed: `-s`, or `.SILENT` covers the plan's target.
     pub quiet: bool,
-    /// Failures of its lines are ignored: `-i`, or `.IGNORE` covers the target.
+    /// Failures of its lines are ignored: `-i`, or `.IGNORE` covers the plan's target.
     pub lenient: bool,
     /// `.DELETE_ON_ERROR`
     pub delete_on_error: bool,
-    /// The phony names among the target and the normal prerequisites.
+    /// The phony names among the targets and the normal prerequisites.
     pub phony: Seq<Text>,
     pub plan: PlanJob,
     /// The makefile's variables.

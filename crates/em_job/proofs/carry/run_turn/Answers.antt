@@ -8,4 +8,4 @@ returns-in_err-next g c = leave_s _ c.from_residual.ensures.1 (rw c.items-autos.
 
 pub returns : goal.returns
 unfolding turn_of
-returns g c = then_s _ (rw c.items-autos.ensures at c.in_ok-next.ensures) c.after_line.ensures
+returns g c = then_s _ (rw c.items-autos.ensures at c.in_ok-next.ensures) (rw c.items-stamps.ensures at c.after_line.ensures)

@@ -1,10 +1,10 @@
-use Rattle.em_job.proofs.Keeping.{without_order, phony_stays, directory_stays, unchanged_stays}
+use Rattle.em_job.proofs.Keeping.{without_order, phony_stay, all_kept, others_stay}
 use Rattle.em_job.proofs.laws.law_deleted.Goals as goal
 
 pub returns : goal.returns
 returns c = record {
-  by_order = λ j before p said o w e. without_order j before p said o w e;
-  phony = λ j before p said o w e. phony_stays j before p said o w e;
-  directory = λ j before p said s w path at other. directory_stays s j before p said w path at other;
-  unchanged = λ j before p said s w path at same. unchanged_stays s j before p said w path at same;
+  by_order = λ j befores p said o w e. without_order j p befores said o w e;
+  phony = λ j befores p said o w all. phony_stay j p befores said o w all;
+  kept = λ j befores p said s w all. all_kept j p s befores said w all;
+  others = λ j befores p said s w q all. others_stay j p s befores said w q all;
 }
