@@ -24,7 +24,7 @@ use Rattle.em_history.specs.Histories.{Pair}
 use Rattle.em_plan.specs.declared.planned.PlanJob.{PlanJob}
 use Rattle.em_plan.specs.Jobs.{rising}
 use Rattle.em_learning.specs.Waits.{ArePlanned, IsPlanned, below, is_needed, is_paired_job, waits_from, waits_with}
-use Rattle.em_learning.specs.Links.{AreNumbers, is_number, is_target, link, added_by, added}
+use Rattle.em_learning.specs.Links.{AreNumbers, is_target, lower, added_to, added_by, added}
 
 -- ---- the numbers below one
 
@@ -78,10 +78,15 @@ row_is waits more k paired low has =
 
 -- ---- what a history adds
 
-added_finds : (a b : Option ℕ) (k q : ℕ) → list_any (nat_eq q) (added_by k (link a b)) ≡ (nat_lt q k && (is_number a k && is_number b q))
-added_finds None b k q = grind arith
-added_finds (Some m) None k q = grind arith
-added_finds (Some m) (Some n) k q = grind (arith, nat_tests)
+lower_has : (m q : ℕ) (needed : List ℕ) → list_any (nat_eq q) (lower m needed) ≡ (nat_lt q m && list_any (nat_eq q) needed)
+lower_has m q needed = any-filter_same (nat_eq q) (λ n. nat_lt n m) (nat_lt q m) (λ n is. ap (λ x. nat_lt x m) (sym (eqb-true q n is))) needed
+
+added_one : (k q m : ℕ) (needed : List ℕ) → list_any (nat_eq q) (added_to k needed m) ≡ (nat_lt q k && (nat_eq k m && list_any (nat_eq q) needed))
+added_one k q m needed = grind (arith, nat_tests, lower_has m q needed)
+
+added_finds : (made needed : List ℕ) (k q : ℕ) → list_any (nat_eq q) (added_by k made needed) ≡ (nat_lt q k && (list_any (nat_eq k) made && list_any (nat_eq q) needed))
+added_finds [] needed k q = grind arith
+added_finds (m ∷ made) needed k q = grind (arith, list_any-append (nat_eq q) (added_to k needed m) (added_by k made needed), added_one k q m needed, added_finds made needed k q)
 
 paired_more : (p : Pair) (ps : List Pair) (t : List ℕ) (o : Option PlanJob) → ((bytes_eq p.0 t && is_target p.1 o) || is_paired_job ps t o) ≡ is_paired_job (p ∷ ps) t o
 paired_more p ps t None = grind arith
@@ -92,12 +97,12 @@ paired_none t l None = grind arith
 paired_none t l (Some job) = grind arith
 
 module _ (jobs : List PlanJob) where
-  added_has : (numbers : List ℕ → Option ℕ) → AreNumbers numbers jobs → (k : ℕ) (job : PlanJob) → slice_get jobs k ≡ Some job → (old : List Pair) (q : ℕ)
+  added_has : (numbers : List ℕ → List ℕ) → AreNumbers numbers jobs → (k : ℕ) (job : PlanJob) → slice_get jobs k ≡ Some job → (old : List Pair) (q : ℕ)
       → list_any (nat_eq q) (added numbers old k) ≡ (nat_lt q k && is_paired_job old job.target (slice_get jobs q))
   added_has numbers are k job at [] q = paired_none job.target (nat_lt q k) (slice_get jobs q)
   added_has numbers are k job at (p ∷ ps) q =
-      let made : is_number (numbers p.0) k ≡ bytes_eq p.0 job.target = are.found p.0 k ∙ ap (is_target p.0) at in
-      grind (arith, list_any-append (nat_eq q) (added_by k (link (numbers p.0) (numbers p.1))) (added numbers ps k), added_finds (numbers p.0) (numbers p.1) k q, added_has numbers are k job at ps q, made, are.found p.1 q, paired_more p ps job.target (slice_get jobs q))
+      let made : list_any (nat_eq k) (numbers p.0) ≡ bytes_eq p.0 job.target = are.found p.0 k ∙ ap (is_target p.0) at in
+      grind (arith, list_any-append (nat_eq q) (added_by k (numbers p.0) (numbers p.1)) (added numbers ps k), added_finds (numbers p.0) (numbers p.1) k q, added_has numbers are k job at ps q, made, are.found p.1 q, paired_more p ps job.target (slice_get jobs q))
 
   -- ---- all jobs
 
@@ -123,7 +128,7 @@ module _ (jobs : List PlanJob) where
         row k (Some job) there = ap (λ (w : List ℕ). Some w) (is k job there (subst (λ o. IfSome o (IsPlanned k)) there (planned.waits k))
             ∙ ap (λ m. filter (is_needed old jobs job) (below m)) (let e : k ≡ 0 + k = omega arith in e))
 
-    pub waits_are : (old : List Pair) (numbers : List ℕ → Option ℕ) → AreNumbers numbers jobs → (rows : List (List ℕ))
+    pub waits_are : (old : List Pair) (numbers : List ℕ → List ℕ) → AreNumbers numbers jobs → (rows : List (List ℕ))
         → ((k : ℕ) → slice_get rows k ≡ option_map (λ (w : List ℕ). w ++ added numbers old k) (slice_get (map (λ (j : PlanJob). j.waits) jobs) k)) → map rising rows ≡ waits_with old jobs
     waits_are old numbers are rows at = each old (λ k w. rising (w ++ added numbers old k))
         (λ k job there is. row_is job.waits (added numbers old k) k (λ q. is_paired_job old job.target (slice_get jobs q)) is.1 (added_has numbers are k job there old))

@@ -1,8 +1,9 @@
 -- For which jobs a job waits, once a history is known.
 --     is_paired old t u        the history pairs the target t with the name u
 --     waits_with old jobs      of each job, in order, the jobs below it that it waits for by the plan or whose target the history pairs with its own
---     ArePlanned jobs          what a plan's jobs are: each target stands once, and the waits rise and stand below
-use Rattle.std.specs.Prelude.{◌≡◌, ◌<◌, ◌^◌, ℕ, zero, suc, ◌&&◌, ◌||◌, Bool, false, nat_eq, List, [], ◌∷◌, ◌++◌, Option, Some, None, IfSome, All, length, slice_get}
+--     ArePlanned jobs          what a plan's jobs are: the waits rise and stand below. Several jobs may have one target, as those of
+--                              double-colon rules have
+use Rattle.std.specs.Prelude.{◌<◌, ◌^◌, ℕ, zero, suc, ◌&&◌, ◌||◌, Bool, false, nat_eq, List, [], ◌∷◌, ◌++◌, Option, Some, None, IfSome, All, length, slice_get}
 use Rattle.std.specs.List.{filter, list_any}
 use Rattle.std.specs.List.Sorted.{IsStrictlySortedBy}
 use Rattle.std.specs.Ordering.{nat_cmp}
@@ -39,4 +40,3 @@ IsPlanned k job = IsStrictlySortedBy nat_cmp job.waits × All (λ i. i < k) job.
 pub record ArePlanned (jobs : List PlanJob) : Type 0 where
   pub few : length jobs < 2 ^ 32
   pub waits : (k : ℕ) → IfSome (slice_get jobs k) (IsPlanned k)
-  pub once : (i k : ℕ) (a b : PlanJob) → slice_get jobs i ≡ Some a → slice_get jobs k ≡ Some b → i < k → a.target ≡ b.target → ⊥

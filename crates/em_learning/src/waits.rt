@@ -1,8 +1,10 @@
 //! The jobs that each job waits for.
-ghost use Rattle.std.specs.Prelude.{◌≡◌, ◌<◌, ◌++◌, ℕ, List, length, map, slice_get, IfOk, OnOk};
+ghost use Rattle.std.specs.Prelude.{◌≡◌, ◌<◌, ◌^◌, ◌++◌, ◌∷◌, [], ℕ, List, All, length, map, slice_get, if◌then◌else◌, IfOk, OnOk};
 ghost use Rattle.std.specs.FinMap as finmap;
-ghost use Rattle.std.specs.Option.{ForSome, option_map};
-ghost use Rattle.em_learning.specs.Links.{AreNumbers, added, added_by, link};
+ghost use Rattle.std.specs.Option.{option_map};
+ghost use Rattle.std.specs.Str.{bytes_eq};
+ghost use Rattle.em_learning.specs.Links as links;
+ghost use Rattle.em_learning.specs.Links.{AreNumbers};
 ghost use Rattle.em_learning.specs.Waits as waits;
 ghost use Rattle.em_learning.specs.Waits.{ArePlanned};
 ghost use Rattle.em_plan.specs.Jobs as jobs;
@@ -23,55 +25,95 @@ fn planned(alloc: Global, jobs: &[PlanJob]) -> Result<Vec<Seq<u32>>, NoMemory>
     Ok(waits)
 }
 
-/// The number of each job by its target.
-fn numbers(alloc: Global, jobs: &[PlanJob]) -> Result<Table<u32>, NoMemory>
-    requires { ArePlanned jobs.now }
-    ensures { IfOk result (λ t. AreNumbers (finmap.get t) jobs.now) }
+/// The numbers of the name.
+fn listed<'a>(numbers: &'a Table<Seq<u32>>, name: &[u8]) -> &'a [u32]
+    ensures { result.now ≡ links.listed (finmap.get numbers.now name.now) }
+{
+    match numbers.get(name) {
+        Some(numbers) => numbers.items(),
+        None => &[],
+    }
+}
+
+/// Takes the numbers of the name out of the table.
+fn taken(alloc: Global, numbers: &mut Table<Seq<u32>>, name: &[u8]) -> Seq<u32>
+    ensures value { result ≡ links.listed (finmap.get numbers.old name.now) }
+    ensures rest { numbers.new ≡ finmap.remove numbers.old name.now }
+{
+    match numbers.remove(name) {
+        Some(numbers) => numbers,
+        None => Seq::new(alloc),
+    }
+}
+
+/// Puts a number to those of the name.
+fn put(
+    alloc: Global,
+    numbers: &mut Table<Seq<u32>>,
+    name: &Text,
+    number: u32,
+) -> Result<(), NoMemory>
+    ensures { OnOk result ((q : List ℕ) → links.listed (finmap.get numbers.new q)
+        ≡ links.listed (finmap.get numbers.old q)
+        ++ (if bytes_eq q name.now then number ∷ [] else [])) }
+{
+    let mut own = taken(alloc, numbers, name.bytes());
+    own.push(number)?;
+    numbers.insert(name.copy(alloc)?, own)?;
+    Ok(())
+}
+
+/// The numbers of the jobs by their targets.
+fn numbers(alloc: Global, jobs: &[PlanJob]) -> Result<Table<Seq<u32>>, NoMemory>
+    requires { length jobs.now < 2 ^ 32 }
+    ensures { IfOk result (λ t. AreNumbers (λ name. links.listed (finmap.get t name)) jobs.now) }
 {
     let mut numbers = Table::new(alloc);
     for (number, job) in jobs.iter().enumerate() {
-        numbers.insert(job.target.copy(alloc)?, number as u32)?;
+        put(alloc, &mut numbers, &job.target, number as u32)?;
     }
     Ok(numbers)
 }
 
-/// The numbers of two targets, where the second stands below.
-fn link(numbers: &Table<u32>, made: &Text, needed: &Text) -> Option<(u32, u32)>
-    ensures { result ≡ link (finmap.get numbers.now made.now) (finmap.get numbers.now needed.now) }
+/// Puts to the waits of job `made` those of the numbers that are below it.
+fn add_lower(waits: &mut Seq<u32>, made: u32, needed: &[u32]) -> Result<(), NoMemory>
+    ensures { OnOk result (waits.new ≡ waits.old ++ links.lower made needed.now) }
 {
-    let made = *numbers.get(made.bytes())?;
-    let needed = *numbers.get(needed.bytes())?;
-    if needed < made {
-        Some((made, needed))
-    } else {
-        None
+    for number in needed {
+        if *number < made {
+            waits.push(*number)?;
+        }
     }
+    Ok(())
 }
 
-/// Puts to the waits of the first job the second one.
-fn add(waits: &mut [Seq<u32>], link: Option<(u32, u32)>) -> Result<(), NoMemory>
-    requires { ForSome link (λ l. l.0 < length waits.old) }
-    ensures { OnOk result ((k : ℕ) → slice_get waits.new k
-        ≡ option_map (λ w. w ++ added_by k link) (slice_get waits.old k)) }
+/// Puts to the waits of each job of `made` those of the numbers that are below it.
+fn add(waits: &mut [Seq<u32>], made: &[u32], needed: &[u32]) -> Result<(), NoMemory>
+    requires { All (λ m. m < length waits.old) made.now }
+    ensures { OnOk result ((k : ℕ) → slice_get waits.new k ≡ option_map
+        (λ w. w ++ links.added_by k made.now needed.now) (slice_get waits.old k)) }
 {
-    if let Some((made, needed)) = link {
-        waits[made as usize].push(needed)?;
+    for job in made {
+        add_lower(&mut waits[*job as usize], *job, needed)?;
     }
     Ok(())
 }
 
 /// Puts to the waits of each job the jobs below it with whose targets the pairs have its own.
 fn add_all(
-    numbers: &Table<u32>,
+    numbers: &Table<Seq<u32>>,
     pairs: &[(Text, Text)],
     waits: &mut [Seq<u32>],
 ) -> Result<(), NoMemory>
-    requires { (name : List ℕ) → ForSome (finmap.get numbers.now name) (λ n. n < length waits.old) }
-    ensures { OnOk result ((k : ℕ) → slice_get waits.new k ≡
-        option_map (λ w. w ++ added (finmap.get numbers.now) pairs.now k) (slice_get waits.old k)) }
+    requires { (name : List ℕ) → All (λ m. m < length waits.old)
+        (links.listed (finmap.get numbers.now name)) }
+    ensures { OnOk result ((k : ℕ) → slice_get waits.new k ≡ option_map
+        (λ w. w ++ links.added (λ name. links.listed (finmap.get numbers.now name)) pairs.now k)
+        (slice_get waits.old k)) }
 {
     for (made, needed) in pairs {
-        add(waits, link(numbers, made, needed))?;
+        let made = listed(numbers, made.bytes());
+        add(waits, made, listed(numbers, needed.bytes()))?;
     }
     Ok(())
 }
@@ -98,8 +140,10 @@ fn all_rising(alloc: Global, waits: Vec<Seq<u32>>) -> Result<Seq<Seq<u32>>, NoMe
 }
 
 /// Of each job, in rising order, the jobs below it that it waits for by the plan, or whose target
-/// the history pairs with its own. A search by name for each name of the history, and n log n for
-/// the n waits of each job; linear where the history is empty.
+/// the history pairs with its own. Two searches by name for each job and for each pair, and n log n
+/// for the n waits of each job; linear where the history is empty. Where several jobs have one
+/// target, as those of double-colon rules have, a pair of names with m and n jobs puts up to m n
+/// waits.
 pub fn waits_with(
     alloc: Global,
     history: &History,

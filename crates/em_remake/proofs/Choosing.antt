@@ -1,5 +1,5 @@
 -- Goals are chosen among names, and names are compared by their stamps.
-use Rattle.std.proofs.Common.{◌≡◌, refl, ap, ℕ, Bool, true, false, not, ◌&&◌, ◌||◌, nat_eq, List, [], ◌∷◌, Option, Some, None}
+use Rattle.std.proofs.Common.{◌≡◌, refl, ap, ℕ, Bool, true, false, not, ◌&&◌, ◌||◌, nat_eq, List, [], ◌∷◌, Option, Some, None, arith}
 use Rattle.std.specs.Prelude.{All}
 use Rattle.std.specs.Bool.{Decides}
 use Rattle.std.specs.List.{filter}
@@ -9,10 +9,19 @@ use Rattle.std.proofs.lemmas.List.Elements.{All-weaker, filter_passes}
 use Rattle.std.proofs.lemmas.Option.{same_Some}
 use Rattle.em_tree.specs.Trees.{Table}
 use Rattle.em_rules.specs.declared.book.Book.{Book}
-use Rattle.em_rules.specs.Rules.{is_phony}
-use Rattle.em_remake.specs.Remaking.{has_way, is_goal, goals_among, stamp_at, changed}
+use Rattle.em_rules.specs.declared.rule.Rule.{Rule}
+use Rattle.em_rules.specs.Groups.{is_double, is_double_kind}
+use Rattle.em_rules.specs.Rules.{has_target, is_phony}
+use Rattle.em_remake.specs.Remaking.{has_way, is_bare, is_endless, is_goal, goals_among, stamp_at, changed}
 
 -- ---- goals
+
+not_bare : (r : Rule) (name : List ℕ) → has_target r name && is_double_kind r.kind ≡ false → is_bare r name ≡ false
+not_bare r name e = grind (arith, e)
+
+pub none_endless : (rules : List Rule) (name : List ℕ) → is_double rules name ≡ false → is_endless rules name ≡ false
+none_endless [] name e = refl
+none_endless (r ∷ rules) name e = grind (arith, e, not_bare r name, none_endless rules name)
 
 not_phony : (phony way : Bool) → not phony && way ≡ true → phony ≡ false
 not_phony true way e = absurd cc
@@ -20,7 +29,7 @@ not_phony false way e = refl
 
 pub goals_not_phony : (book : Book) (tree : Table) (cwd : List ℕ) (names : List (List ℕ)) → All (λ n. is_phony book.rules n ≡ false) (goals_among book tree cwd names)
 goals_not_phony book tree cwd names = All-weaker (λ n. is_goal book tree cwd n ≡ true) (λ n. is_phony book.rules n ≡ false)
-    (λ n e. not_phony (is_phony book.rules n) (has_way book tree cwd n) e) (goals_among book tree cwd names) (filter_passes (is_goal book tree cwd) names)
+    (λ n e. not_phony (is_phony book.rules n) (not (is_endless book.rules n) && has_way book tree cwd n) e) (goals_among book tree cwd names) (filter_passes (is_goal book tree cwd) names)
 
 none_pass : {X : Type 0} (p : X → Bool) → ((x : X) → p x ≡ false) → (xs : List X) → filter p xs ≡ []
 none_pass p none [] = refl

@@ -1,7 +1,7 @@
 -- Names are gathered from one list after another.
 use Rattle.std.proofs.Common.{◌≡◌, refl, ℕ, List, [], ◌∷◌, ◌++◌}
 use Rattle.em_rules.specs.Dots.{undotted}
-use Rattle.em_plan.specs.Plans.{each_once, once_more}
+use Rattle.em_plan.specs.Once.{each_once, once_more}
 
 pub each_once_append : (names xs ys : List (List ℕ)) → each_once names (xs ++ ys) ≡ each_once (each_once names xs) ys
 each_once_append names [] ys = refl

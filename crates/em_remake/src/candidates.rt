@@ -1,8 +1,8 @@
 //! The makefiles that may be goals.
 ghost use Rattle.std.specs.Prelude.{◌≡◌, ℕ, List, IfOk, OnOk, is_some, map};
 ghost use Rattle.std.specs.FinMap as finmap;
-ghost use Rattle.em_plan.specs.Order.{is_in};
-ghost use Rattle.em_plan.specs.Plans.{each_once};
+ghost use Rattle.em_plan.specs.Once.{is_among};
+ghost use Rattle.em_plan.specs.Once.{each_once};
 ghost use Rattle.em_remake.specs.Remaking.{candidates};
 
 use crate::once::{add_all, add_once};
@@ -17,9 +17,9 @@ fn add_missing(
     there: &mut Table<()>,
     missing: &[Missing],
 ) -> Result<(), NoMemory>
-    requires { (q : List ℕ) → is_some (finmap.get there.old q) ≡ is_in names.old q }
+    requires { (q : List ℕ) → is_some (finmap.get there.old q) ≡ is_among names.old q }
     ensures there { OnOk result
-        ((q : List ℕ) → is_some (finmap.get there.new q) ≡ is_in names.new q) }
+        ((q : List ℕ) → is_some (finmap.get there.new q) ≡ is_among names.new q) }
     ensures names { OnOk result
         (names.new ≡ each_once names.old (map (λ m. m.name) missing.now)) }
 {

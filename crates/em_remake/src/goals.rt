@@ -1,6 +1,6 @@
 //! The makefiles that are goals.
 ghost use Rattle.std.specs.Prelude.{◌≡◌, ◌++◌, ◌∷◌, [], IfOk, OnOk};
-ghost use Rattle.em_remake.specs.Remaking.{goals_among, goals_of, is_goal};
+ghost use Rattle.em_remake.specs.Remaking.{goals_among, goals_of, is_bare, is_endless, is_found, is_goal};
 
 use crate::candidates::candidates;
 use em_base::{NoMemory, Seq, Text};
@@ -8,22 +8,55 @@ use em_implicit::find;
 use em_path::Path;
 use em_plan::Makefile;
 use em_reader::Round;
+use em_rules::{Rule, Rules};
 use em_tree::Tree;
 use std::alloc::Global;
 
-/// Whether the name isn't phony, and a rule for it has a recipe or a pattern rule is found for it.
+/// Whether the rule is a double-colon rule for the name, with a recipe and without prerequisites.
+fn is_bare(rule: &Rule, name: &[u8]) -> bool
+    ensures { result ≡ is_bare rule.now name.now }
+{
+    let alone = rule.normal.is_empty() && rule.order.is_empty();
+    rule.has_target(name) && rule.kind.is_double() && rule.recipe.is_some() && alone
+}
+
+/// Whether one of the rules is such a one. Steps for each rule, where the name has double-colon
+/// rules at all.
+fn is_endless(rules: &Rules, name: &[u8]) -> bool
+    ensures { result ≡ is_endless rules.now name.now }
+{
+    if !rules.is_double(name) {
+        return false;
+    }
+    rules.items().iter().any(|rule| is_bare(rule, name))
+}
+
+/// Whether a pattern rule is found for the name, and it has no double-colon rules.
+fn is_found(alloc: Global, makefile: Makefile, name: &[u8]) -> Result<bool, NoMemory>
+    ensures { let m = makefile.entry in IfOk result
+        (λ b. b ≡ is_found m.book.now m.tree.now m.cwd.now name.now) }
+{
+    if makefile.book.rules.is_double(name) {
+        return Ok(false);
+    }
+    let found = find(alloc, makefile.book, name, makefile.tree, makefile.cwd)?;
+    Ok(found.is_some())
+}
+
+/// Whether the name isn't phony, and a rule for it has a recipe or a pattern rule is found for it;
+/// none that is always remade by a double-colon rule.
 fn is_goal(alloc: Global, makefile: Makefile, name: &[u8]) -> Result<bool, NoMemory>
     ensures { let m = makefile.entry in IfOk result
         (λ b. b ≡ is_goal m.book.now m.tree.now m.cwd.now name.now) }
 {
-    if makefile.book.rules.is_phony(name) {
+    let rules = &makefile.book.rules;
+    if rules.is_phony(name) || is_endless(rules, name) {
         return Ok(false);
     }
-    if makefile.book.rules.recipe_rule(name).is_some() {
+    if rules.recipe_rule(name).is_some() {
         return Ok(true);
     }
-    let found = find(alloc, makefile.book, name, makefile.tree, makefile.cwd)?;
-    Ok(found.is_some())
+    is_found(alloc, makefile, name)
 }
 
 /// The name at the end, if it is a goal.
@@ -56,10 +89,12 @@ fn goals_among(alloc: Global, makefile: Makefile, names: Seq<Text>) -> Result<Se
 
 /// The makefiles that are to be remade before the goals: of the files that were read and then those
 /// that aren't there, each where it first stands, those that aren't phony and for which a rule has a
-/// recipe or a pattern rule is found, by what exists in the tree. Their names are taken without the
-/// `./` that they begin with, and read against the working directory.
+/// recipe or a pattern rule is found, by what exists in the tree; but for those for which a
+/// double-colon rule has a recipe and no prerequisites. Their names are taken without the `./` that
+/// they begin with, and read against the working directory.
 ///
-/// A few searches by name for each file, and `find` for each that isn't phony and has no recipe.
+/// A few searches by name for each file, steps for each rule where it has double-colon rules, and
+/// `find` for each that isn't phony, has no recipe and no double-colon rules.
 /// Each name is copied twice.
 pub fn goals_of(alloc: Global, r: &Round, tree: &Tree, cwd: &Path) -> Result<Seq<Text>, NoMemory>
     ensures { IfOk result (λ g. g ≡ goals_of r.now tree.now cwd.now) }

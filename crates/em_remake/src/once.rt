@@ -2,8 +2,8 @@
 ghost use Rattle.std.specs.Prelude.{◌≡◌, ℕ, List, OnOk, is_some};
 ghost use Rattle.std.specs.FinMap as finmap;
 ghost use Rattle.em_rules.specs.Dots.{undotted};
-ghost use Rattle.em_plan.specs.Order.{is_in};
-ghost use Rattle.em_plan.specs.Plans.{each_once, once_more};
+ghost use Rattle.em_plan.specs.Once.{is_among};
+ghost use Rattle.em_plan.specs.Once.{each_once, once_more};
 
 use em_base::{NoMemory, Seq, Table, Text};
 use em_rules::undotted;
@@ -17,9 +17,9 @@ pub(crate) fn add_once(
     there: &mut Table<()>,
     name: &[u8],
 ) -> Result<(), NoMemory>
-    requires { (q : List ℕ) → is_some (finmap.get there.old q) ≡ is_in names.old q }
+    requires { (q : List ℕ) → is_some (finmap.get there.old q) ≡ is_among names.old q }
     ensures there { OnOk result
-        ((q : List ℕ) → is_some (finmap.get there.new q) ≡ is_in names.new q) }
+        ((q : List ℕ) → is_some (finmap.get there.new q) ≡ is_among names.new q) }
     ensures names { OnOk result (names.new ≡ once_more names.old (undotted name.now)) }
 {
     let name = undotted(name);
@@ -37,9 +37,9 @@ pub(crate) fn add_all(
     there: &mut Table<()>,
     more: &[Text],
 ) -> Result<(), NoMemory>
-    requires { (q : List ℕ) → is_some (finmap.get there.old q) ≡ is_in names.old q }
+    requires { (q : List ℕ) → is_some (finmap.get there.old q) ≡ is_among names.old q }
     ensures there { OnOk result
-        ((q : List ℕ) → is_some (finmap.get there.new q) ≡ is_in names.new q) }
+        ((q : List ℕ) → is_some (finmap.get there.new q) ≡ is_among names.new q) }
     ensures names { OnOk result (names.new ≡ each_once names.old more.now) }
 {
     for name in more {

@@ -16,5 +16,4 @@ returns c = λ says goals p is.
     ] in record {
       few = omega (arith, c.law_limit.ensures.few says goals p is);
       waits = λ k. at k (slice_get p.jobs k) refl;
-      once = c.law_once.ensures says goals p is;
     }

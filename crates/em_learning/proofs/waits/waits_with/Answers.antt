@@ -5,9 +5,9 @@ use Rattle.std.proofs.lemmas.List.{length-map}
 use Rattle.std.proofs.Math.Seq.{take-append_seam}
 use Rattle.em_plan.specs.declared.planned.PlanJob.{PlanJob}
 use Rattle.em_plan.specs.Jobs.{rising}
-use Rattle.em_learning.specs.Links.{added}
+use Rattle.em_learning.specs.Links.{added, listed}
 use Rattle.em_learning.specs.Waits.{waits_with}
-use Rattle.em_learning.proofs.Numbers.{number_within}
+use Rattle.em_learning.proofs.Numbers.{numbers_within}
 use Rattle.em_learning.proofs.Rows.{no_pairs, waits_are, waits_none}
 use Rattle.em_learning.proofs.waits.waits_with.Goals as goal
 
@@ -21,13 +21,13 @@ pub add_all-requires : goal.add_all-requires
 add_all-requires c name =
     let jobs = c.args.jobs.now in
     let long : length jobs ≡ length c.as_mut_slice.result.now = sym (length-map jobs (λ (j : PlanJob). j.waits)) ∙ ap length (sym (c.as_mut_slice.ensures.value ∙ c.in_ok-waits.ensures)) in
-    rw (← long) (number_within jobs (get c.in_ok-numbers.numbers) c.in_ok-numbers.ensures name)
+    rw (← long) (numbers_within jobs (λ q. listed (get c.in_ok-numbers.numbers q)) c.in_ok-numbers.ensures name)
 
 pub returns : goal.returns
 returns c =
     let jobs = c.args.jobs.now in
     let pairs = c.pairs-pairs.result.now in
-    let numbers = get c.in_ok-numbers.numbers in
+    let numbers = λ (q : List ℕ). listed (get c.in_ok-numbers.numbers q) in
     let all : map rising c.add_all.new.waits ≡ waits_with pairs jobs =
     waits_are jobs c.requires pairs numbers c.in_ok-numbers.ensures c.add_all.new.waits (λ k.
     c.in_ok-add_all.ensures k ∙ ap (λ (w : List (List ℕ)). option_map (λ v. v ++ added numbers pairs k) (slice_get w k)) (c.as_mut_slice.ensures.value ∙ c.in_ok-waits.ensures)) in

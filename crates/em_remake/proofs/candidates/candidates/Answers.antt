@@ -1,5 +1,5 @@
 use Rattle.std.proofs.Common.{◌≡◌, sym, [], map}
-use Rattle.em_plan.specs.Plans.{each_once}
+use Rattle.em_plan.specs.Once.{each_once}
 use Rattle.em_plan.proofs.Asked.{there_none}
 use Rattle.em_remake.proofs.Gathering.{each_once_append}
 use Rattle.em_remake.proofs.candidates.candidates.Goals as goal
