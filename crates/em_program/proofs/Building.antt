@@ -30,7 +30,7 @@ use Rattle.em_program.specs.declared.project.Project.{Project}
 use Rattle.em_program.specs.declared.stop.Stop.{Stop}
 use Rattle.em_program.specs.declared.stop.Stop.TheVariants.{End, NoMemory}
 use Rattle.em_program.specs.declared.verdict.Verdict.{Verdict}
-use Rattle.em_program.specs.Closing.{has_ended}
+use Rattle.em_program.specs.Statuses.{has_ended}
 use Rattle.em_program.specs.Course.{Follows, say_all, stop_of_build}
 use Rattle.em_program.specs.Endings.{IsRan}
 use Rattle.em_program.specs.Rounds.{Build, is_early, left_by}

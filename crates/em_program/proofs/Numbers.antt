@@ -9,7 +9,7 @@ use Rattle.std.proofs.lemmas.List.Elements.{All-nil, All-cons, All-append, All-f
 use Rattle.em_cmdline.specs.declared.order.Order.{Order}
 use Rattle.em_rules.specs.declared.book.Book.{Book}
 use Rattle.em_plan.specs.declared.planned.PlanJob.{PlanJob}
-use Rattle.em_plan.specs.declared.making.Making.{Making}
+use Rattle.em_plan.specs.Order.{Says}
 use Rattle.em_plan.specs.declared.planned.Plan.{Plan}
 use Rattle.em_plan.specs.Makings.{making_of}
 use Rattle.em_plan.specs.Plans.{asked, plan_for, plan_of}
@@ -53,23 +53,22 @@ module _ (book : Book) (order : Order) (base : ℕ) where
   unfolding jobs_of
   flagged plans = flags_from 0 plans
 
-pub plan_few : ((says : List ℕ → Making) (goals : List (List ℕ)) (p : Plan) → plan_for says goals ≡ Ok p → length p.jobs ≤ 65536)
+pub plan_few : ((says : Says) (goals : List (List ℕ)) (p : Plan) → plan_for says goals ≡ Ok p → length p.jobs ≤ 65536)
     → (book : Book) (goals : List (List ℕ)) (t : Table) (cwd : List ℕ) (p : Plan) → plan_of book goals t cwd ≡ Ok p → length p.jobs ≤ 65536
 unfolding plan_of
 plan_few law book goals t cwd p e = law (making_of book.rules book.patterns t cwd) (asked goals book.default_goal) p e
 
 module _ (book : Book) (goals : List (List ℕ)) (t : Table) (cwd : List ℕ) (p : Plan) where
-  pub planned_so : ((says : List ℕ → Making) (goals : List (List ℕ)) (p : Plan) → plan_for says goals ≡ Ok p → length p.jobs ≤ 65536)
-      → ((says : List ℕ → Making) (goals : List (List ℕ)) (p : Plan) → plan_for says goals ≡ Ok p → (k : ℕ) (job : PlanJob) → slice_get p.jobs k ≡ Some job → IsStrictlySortedBy nat_cmp job.waits)
-      → ((says : List ℕ → Making) (goals : List (List ℕ)) (p : Plan) → plan_for says goals ≡ Ok p → (k : ℕ) (job : PlanJob) → slice_get p.jobs k ≡ Some job → (i : ℕ) → Contains job.waits i → i < k)
-      → ((says : List ℕ → Making) (goals : List (List ℕ)) (p : Plan) → plan_for says goals ≡ Ok p → (i k : ℕ) (a b : PlanJob) → slice_get p.jobs i ≡ Some a → slice_get p.jobs k ≡ Some b → i < k → a.target ≡ b.target → ⊥)
+  pub planned_so : ((says : Says) (goals : List (List ℕ)) (p : Plan) → plan_for says goals ≡ Ok p → length p.jobs ≤ 65536)
+      → ((says : Says) (goals : List (List ℕ)) (p : Plan) → plan_for says goals ≡ Ok p → (k : ℕ) (job : PlanJob) → slice_get p.jobs k ≡ Some job → IsStrictlySortedBy nat_cmp job.waits)
+      → ((says : Says) (goals : List (List ℕ)) (p : Plan) → plan_for says goals ≡ Ok p → (k : ℕ) (job : PlanJob) → slice_get p.jobs k ≡ Some job → (i : ℕ) → Contains job.waits i → i < k)
       → plan_of book goals t cwd ≡ Ok p → ArePlanned p.jobs
   unfolding plan_of
-  planned_so limit rise below once e =
+  planned_so limit rise below e =
       let says = making_of book.rules book.patterns t cwd in
       let asks = asked goals book.default_goal in
       let few : length p.jobs ≤ 65536 = limit says asks p e in
-      record { few = omega arith; waits = λ k. by_job k (slice_get p.jobs k) refl; once = once says asks p e }
+      record { few = omega arith; waits = λ k. by_job k (slice_get p.jobs k) refl }
     where
       by_job : (k : ℕ) (o : Option PlanJob) → slice_get p.jobs k ≡ o → IfSome o (IsPlanned k)
       by_job k None at = tt

@@ -20,7 +20,7 @@ use Rattle.em_program.specs.declared.verdict.Verdict.{Verdict}
 use Rattle.em_program.specs.declared.verdict.Verdict.TheVariants.{Done, Outdated, Faulty, Refused, Spent}
 use Rattle.em_program.specs.declared.stop.Stop.{Stop}
 use Rattle.em_program.specs.declared.stop.Stop.TheVariants.{End, Failed, NoMemory}
-use Rattle.em_program.specs.Closing.{code_of}
+use Rattle.em_program.specs.Statuses.{code_of}
 use Rattle.em_program.specs.Course.{Trace, go_on, ◌>>=◌, done, Ends, Meets, Follows}
 use Rattle.em_program.specs.Projects.{site}
 use Rattle.em_program.specs.Rounds.{Build, first}

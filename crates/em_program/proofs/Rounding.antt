@@ -25,7 +25,7 @@ use Rattle.em_program.specs.declared.site.Site.{Site}
 use Rattle.em_program.specs.declared.verdict.Verdict.{Verdict}
 use Rattle.em_program.specs.declared.stop.Stop.{Stop}
 use Rattle.em_program.specs.declared.stop.Stop.TheVariants.{End, Failed, NoMemory}
-use Rattle.em_program.specs.Closing.{has_ended}
+use Rattle.em_program.specs.Statuses.{has_ended}
 use Rattle.em_program.specs.Course.{Course, ◌>>=◌, done, say_all, Meets, Follows}
 use Rattle.em_program.specs.Endings.{Tally, is_whole, is_asked, last_by, last_of, next_or_last, after_jobs, run_from, Given, Behind, AreRun, AllAt, AllBehind, AreAll, notes_of, tally_in, IsOver, IsDone, IsRan, IsRun}
 use Rattle.em_program.specs.Rounds.{is_lacking, refused_by as lacking_refused, all_there, Build, is_early, left_by, moved, following, goes_by, goes_on, based, final, remade, by_goals, round, rank_of, IsNext}

@@ -76,7 +76,7 @@ module _ (old : List Pair) (notes : List Note) where
 
   projects : (s : Site) (book : Book) (cwd : List ℕ) (f : Files) → SameBy AreProjects (project_at s book cwd f) (project_at (other s) book cwd f)
   projects s book cwd f = behind AreProjects (planned book s.order s.start.tree cwd) _ _
-      (λ plan g. at_once AreProjects (assembled s book plan) (assembled (other s) book plan) (record { order = refl; outcomes = refl; plan = refl; start = refl; specs = refl }) g) f
+      (λ plan g. at_once AreProjects (assembled s book plan) (assembled (other s) book plan) (record { order = refl; outcomes = refl; plan = refl; goals = refl; start = refl; specs = refl }) g) f
 
   finals : (s : Site) (cwd : List ℕ) (r : Round) (f : Files) → SameBy AreSteps (final s cwd r f) (final (other s) cwd r f)
   finals s cwd r f =
@@ -96,7 +96,7 @@ module _ (old : List Pair) (notes : List Note) where
   goals left s cwd r (g ∷ gs) f = remades left s cwd r (g ∷ gs) f
 
   same_step : (c : Trace Step) → SameBy AreSteps c c
-  same_step c = record { calls = refl; end = same_end AreSteps (λ u. record { project = record { order = refl; outcomes = refl; plan = refl; start = refl; specs = refl }; remaking = refl }) c.end }
+  same_step c = record { calls = refl; end = same_end AreSteps (λ u. record { project = record { order = refl; outcomes = refl; plan = refl; goals = refl; start = refl; specs = refl }; remaking = refl }) c.end }
 
   rounds : (left : ℕ) (s : Site) (cwd : List ℕ) (f : Files) → SameBy AreSteps (round left s cwd f) (round left (other s) cwd f)
   unfolding round

@@ -19,7 +19,7 @@ use Rattle.em_program.specs.declared.site.Site.{Site}
 use Rattle.em_program.specs.declared.verdict.Verdict.{Verdict}
 use Rattle.em_program.specs.declared.stop.Stop.{Stop}
 use Rattle.em_program.specs.declared.stop.Stop.TheVariants.{End, Failed, NoMemory}
-use Rattle.em_program.specs.Closing.{code_of}
+use Rattle.em_program.specs.Statuses.{code_of}
 use Rattle.em_program.specs.Course.{Trace, Course, go_on, ◌>>=◌, done, quit, say, stop, Ends, Meets, Follows}
 use Rattle.em_program.specs.Messages.{summary}
 use Rattle.em_program.specs.Headline.{first_in}

@@ -20,6 +20,7 @@ pub record AreProjects (p q : Project) : Type 0 where
   pub order : p.terms.order ≡ q.terms.order
   pub outcomes : p.terms.earlier.outcomes ≡ q.terms.earlier.outcomes
   pub plan : p.terms.plan ≡ q.terms.plan
+  pub goals : p.terms.goals ≡ q.terms.goals
   pub start : p.start ≡ q.start
   pub specs : p.specs ≡ q.specs
 

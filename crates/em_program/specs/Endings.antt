@@ -38,7 +38,8 @@ use Rattle.em_program.specs.declared.stop.Stop.{Stop}
 use Rattle.em_program.specs.declared.stop.Stop.TheVariants.{End, Failed, NoMemory}
 use Rattle.em_program.specs.declared.verdict.Verdict.{Verdict}
 use Rattle.em_program.specs.declared.verdict.Verdict.TheVariants.{Faulty}
-use Rattle.em_program.specs.Closing.{closing, code_of, status_of}
+use Rattle.em_closing.specs.Closing.{closing}
+use Rattle.em_program.specs.Statuses.{code_of, status_of}
 use Rattle.em_program.specs.Course.{Trace, Course, ◌>>=◌, done, say, say_all, keep, stop, Follows, Meets}
 use Rattle.em_program.specs.Messages.{image_line, summary}
 use Rattle.em_program.specs.Projects.{site}
@@ -92,7 +93,7 @@ module _ (t : Terms) (notes : List Note) where
   abbrev pub finish : Bool → List ℕ → Bool → State → Course Verdict
   finish asked fuel early s =
       if asked then done (status_of true false t.earlier.outcomes s.outcomes)
-      else replaced t.order.image fuel (closing t.order.silent t.plan s.outcomes early) s
+      else replaced t.order.image fuel (closing t.order.silent t.plan s.outcomes t.goals early) s
 
 abbrev pub fuel_of : List Made → List ℕ
 fuel_of made = map (λ m. m.fuel) made

@@ -14,7 +14,7 @@ use Rattle.em_program.specs.declared.rounds.Step.{Step}
 use Rattle.em_program.specs.declared.verdict.Verdict.{Verdict}
 use Rattle.em_program.specs.declared.stop.Stop.{Stop}
 use Rattle.em_program.specs.declared.stop.Stop.TheVariants.{End, Failed, NoMemory}
-use Rattle.em_program.specs.Closing.{code_of}
+use Rattle.em_program.specs.Statuses.{code_of}
 use Rattle.em_program.specs.Course.{Trace, ◌>>=◌, Meets}
 use Rattle.em_program.specs.Endings.{ended, verdict_in, notes_of, AllAt, AreAll, AreRun, IsOver}
 use Rattle.em_program.specs.Projects.{site}

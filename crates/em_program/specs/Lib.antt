@@ -1,7 +1,7 @@
 pub mod Words
 pub mod Messages
 pub mod Course
-pub mod Closing
+pub mod Statuses
 pub mod Explaining
 pub mod Projects
 pub mod Serial

@@ -2,7 +2,6 @@
 --     word_line e, image_line e, dir_line name, read_line e, plan_line found e     why there is no build
 --     still_changing                                                               why rounds come to no end
 --     report_line at, insight_line e                                               why a report isn't explained
---     not_remade, nothing_to_do, up_to_date                                        the closing text's lines
 --     summary jobs printed nodes status                                            what a generated project's build comes to
 use Rattle.std.specs.Prelude.{ℕ, Bool, true, false, List, [], ◌++◌, codes, decimal}
 use Rattle.em_base.specs.declared.place.Place.{Place}
@@ -101,6 +100,8 @@ dir_line name = stopped (name ++ codes ": no such directory")
 abbrev pub rule_text : RuleNo → List ℕ
 rule_text rule.Recipe = codes "recipe commences before first target"
 rule_text (rule.Static target) = codes "target " ++ quoted target ++ codes " doesn't match the target pattern"
+rule_text (rule.Group target) = codes "grouped target " ++ quoted target ++ codes " needs a recipe"
+rule_text (rule.Mixed target) = codes "target file " ++ quoted target ++ codes " has both : and :: entries"
 
 abbrev pub read_text : Fault → List ℕ
 read_text fault.Separator = codes "missing separator"
@@ -137,15 +138,6 @@ plan_line found e = stopped (plan_text found e)
 -- the last round has changed a makefile again
 abbrev pub still_changing : List ℕ
 still_changing = stopped (codes "Makefiles still change after 8 readings")
-
-abbrev pub not_remade : List ℕ → List ℕ
-not_remade goal = codes "emake: Target " ++ quoted goal ++ codes " not remade because of errors.\n"
-
-abbrev pub nothing_to_do : List ℕ → List ℕ
-nothing_to_do goal = codes "emake: Nothing to be done for " ++ quoted goal ++ codes ".\n"
-
-abbrev pub up_to_date : List ℕ → List ℕ
-up_to_date goal = codes "emake: " ++ quoted goal ++ codes " is up to date.\n"
 
 abbrev pub summary : ℕ → ℕ → ℕ → ℕ → List ℕ
 summary jobs printed nodes status =

@@ -34,6 +34,7 @@ use Rattle.em_plan.specs.declared.no.PlanNo.{PlanNo}
 use Rattle.em_plan.specs.declared.planned.Plan.{Plan}
 use Rattle.em_plan.specs.Plans.{plan_of}
 use Rattle.em_learning.specs.Waits.{waits_with}
+use Rattle.em_closing.specs.Closing.{goals_of}
 use Rattle.em_task.specs.declared.job.Job.{Job}
 use Rattle.em_job.specs.Making.{flags_of, jobs_of}
 use Rattle.em_engine.specs.Fronts.{AreNumbered}
@@ -152,12 +153,12 @@ site words = do
   old ← recalled order.mode order.history
   done (record { order = order; start = start_of tree; old = old; earlier = none_earlier })
 
-abbrev pub terms_of : Site → Plan → Terms
-terms_of s plan = record { order = s.order; old = s.old; earlier = s.earlier; plan = plan; waits = waits_with s.old plan.jobs }
+abbrev pub terms_of : Site → Book → Plan → Terms
+terms_of s book plan = record { order = s.order; old = s.old; earlier = s.earlier; plan = plan; waits = waits_with s.old plan.jobs; goals = goals_of book s.order.goals }
 
 abbrev pub assembled : Site → Book → Plan → Project
 assembled s book plan = record {
-  terms = terms_of s plan;
+  terms = terms_of s book plan;
   start = s.start;
   specs = jobs_of book s.order (base_of s.start.tree) plan.jobs;
 }

@@ -7,11 +7,11 @@ ghost use Rattle.em_program.specs.Endings.{IsRan, IsRun, tally_in};
 ghost use Rattle.em_program.specs.Projects.{IsReady};
 ghost use Rattle.em_program.specs.Rounds.{IsStep};
 
-use crate::closing::has_ended;
 use crate::ending::finish;
 use crate::project::{Project, Terms};
 use crate::rounds::{Step, behind, joined};
 use crate::site::Earlier;
+use crate::status::has_ended;
 use crate::stop::Stop;
 use crate::verdict::Verdict;
 use em_base::{NoMemory, Seq};
@@ -111,6 +111,7 @@ fn ended<H: Host>(
         earlier,
         plan: _,
         waits: _,
+        goals: _,
     } = terms;
     let Earlier { notes, outcomes: _ } = earlier;
     let Built {

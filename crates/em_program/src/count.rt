@@ -1,7 +1,7 @@
 //! A generated project's build, which is only counted.
 ghost use Rattle.std.specs.Prelude.{◌≡◌, IfOk};
 ghost use Rattle.em_host.specs.Outside.{Tells};
-ghost use Rattle.em_program.specs.Closing.{code_of};
+ghost use Rattle.em_program.specs.Statuses.{code_of};
 ghost use Rattle.em_program.specs.Course.{faults_after};
 ghost use Rattle.em_program.specs.Endings.{IsCount, IsWork};
 ghost use Rattle.em_program.specs.Messages as messages;

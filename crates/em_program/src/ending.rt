@@ -6,13 +6,14 @@ ghost use Rattle.em_program.specs.Course.{Follows, faults_after};
 ghost use Rattle.em_program.specs.Endings as endings;
 ghost use Rattle.em_program.specs.Messages as messages;
 
-use crate::closing::{closing_text, status_of};
 use crate::messages::image_line;
 use crate::project::Terms;
 use crate::say::{keep, say};
+use crate::status::status_of;
 use crate::stop::Stop;
 use crate::verdict::Verdict;
 use em_base::{NoMemory, Seq, Text};
+use em_closing::closing_text;
 use em_cmdline::HistoryMode;
 use em_engine::Note;
 use em_host::Host;
@@ -202,6 +203,8 @@ pub fn finish<H: Host>(
     if asked {
         return Ok(status_of(true, false, terms.earlier.outcomes.items(), outcomes));
     }
-    let text = closing_text(alloc, terms.order.silent, &terms.plan, outcomes, early)?;
+    let goals = terms.goals.items();
+    let silent = terms.order.silent;
+    let text = closing_text(alloc, silent, goals, &terms.plan, outcomes, early)?;
     replace_all(alloc, terms, notes, fuel, text, state, host)
 }

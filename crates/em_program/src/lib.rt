@@ -2,7 +2,6 @@
 #![tactic(auto)]
 
 mod build;
-mod closing;
 mod count;
 mod ending;
 mod explain;
@@ -11,6 +10,7 @@ mod project;
 mod rounds;
 mod say;
 mod site;
+mod status;
 mod stop;
 mod top;
 mod verdict;

@@ -1,5 +1,5 @@
 //! What `emake` says besides its jobs.
-ghost use Rattle.std.specs.Prelude.{◌≡◌, ◌++◌, IfOk, OnOk};
+ghost use Rattle.std.specs.Prelude.{◌≡◌, ◌++◌, IfOk};
 ghost use Rattle.em_recipe.specs.Messages.{quoted};
 ghost use Rattle.em_program.specs.Messages as messages;
 
@@ -171,6 +171,16 @@ fn rule_text(alloc: Global, no: &RuleNo) -> Result<Text, NoMemory>
             text.add(b" doesn't match the target pattern")?;
             Ok(text)
         }
+        RuleNo::Group(target) => {
+            let mut text = of_name(alloc, b"grouped target ", target.bytes())?;
+            text.add(b" needs a recipe")?;
+            Ok(text)
+        }
+        RuleNo::Mixed(target) => {
+            let mut text = of_name(alloc, b"target file ", target.bytes())?;
+            text.add(b" has both : and :: entries")?;
+            Ok(text)
+        }
     }
 }
 
@@ -235,33 +245,4 @@ pub fn plan_line(alloc: Global, found: bool, no: PlanNo) -> Result<Text, NoMemor
     ensures { IfOk result (λ t. t ≡ messages.plan_line found no) }
 {
     stopped(alloc, plan_text(found, no))
-}
-
-// ---- the closing text
-
-/// Appends that the goal isn't remade, since a prerequisite of it failed.
-pub fn put_not_remade(out: &mut Text, goal: &[u8]) -> Result<(), NoMemory>
-    ensures { OnOk result (out.new ≡ out.old ++ messages.not_remade goal.now) }
-{
-    out.add(b"emake: Target ")?;
-    put_quoted(out, goal)?;
-    out.add(b" not remade because of errors.\n")
-}
-
-/// Appends that the goal has no recipe, or is phony, and that nothing was made for it.
-pub fn put_nothing_to_do(out: &mut Text, goal: &[u8]) -> Result<(), NoMemory>
-    ensures { OnOk result (out.new ≡ out.old ++ messages.nothing_to_do goal.now) }
-{
-    out.add(b"emake: Nothing to be done for ")?;
-    put_quoted(out, goal)?;
-    out.add(b".\n")
-}
-
-/// Appends that the goal needn't be made again.
-pub fn put_up_to_date(out: &mut Text, goal: &[u8]) -> Result<(), NoMemory>
-    ensures { OnOk result (out.new ≡ out.old ++ messages.up_to_date goal.now) }
-{
-    out.add(b"emake: ")?;
-    put_quoted(out, goal)?;
-    out.add(b" is up to date.\n")
 }

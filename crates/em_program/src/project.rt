@@ -13,13 +13,14 @@ use crate::site::{Earlier, Site};
 use crate::stop::Stop;
 use crate::verdict::Verdict;
 use em_base::{NoMemory, Seq, Text};
+use em_closing::{Goal, goals_of};
 use em_cmdline::Order;
 use em_history::History;
 use em_host::Host;
 use em_job::{JobSpec, specs};
 use em_learning::waits_with;
 use em_path::{Path, PathNo};
-use em_plan::laws::{law_limit, law_once, law_waits};
+use em_plan::laws::{law_limit, law_waits};
 use em_plan::{Plan, PlanNo, plan};
 use em_reader::{ReadNo, Round, read_round};
 use em_rules::Book;
@@ -36,6 +37,8 @@ pub struct Terms {
     pub plan: Plan,
     /// Of each job of the plan the jobs that it waits for.
     pub waits: Seq<Seq<u32>>,
+    /// The goals, one for each of the plan's.
+    pub goals: Seq<Goal>,
 }
 
 /// What there is to build, and from what state.
@@ -124,7 +127,6 @@ fn planned<H: Host>(
 {
     law_limit();
     law_waits();
-    law_once();
     match plan(alloc, book, order.goals.items(), tree, cwd) {
         Ok(plan) => {
             say(host, plan.notes.bytes())?;
@@ -158,6 +160,7 @@ fn assembled(alloc: Global, site: Site, book: &Book, plan: Plan) -> Result<Proje
     } = site;
     let specs = specs(alloc, &plan, book, &order, start.tree.base())?;
     let waits = waits_with(alloc, &old, plan.jobs.items())?;
+    let goals = goals_of(alloc, book, order.goals.items())?;
     Ok(Project {
         terms: Terms {
             order,
@@ -165,6 +168,7 @@ fn assembled(alloc: Global, site: Site, book: &Book, plan: Plan) -> Result<Proje
             earlier,
             plan,
             waits,
+            goals,
         },
         start,
         specs: Seq::from_vec(specs),
@@ -172,7 +176,7 @@ fn assembled(alloc: Global, site: Site, book: &Book, plan: Plan) -> Result<Proje
 }
 
 /// What there is to build at the site, in this working directory, by what the makefiles say. It
-/// takes what `plan`, `specs` and `waits_with` take.
+/// takes what `plan`, `specs`, `waits_with` and `goals_of` take.
 pub fn project_at<H: Host>(
     alloc: Global,
     site: Site,

@@ -321,6 +321,7 @@ fn moved(alloc: Global, order: Order, done: JobsDone) -> Result<Site, NoMemory>
         earlier,
         plan: _,
         waits: _,
+        goals: _,
     } = terms;
     let Earlier { notes, outcomes } = earlier;
     let Built {

@@ -1,6 +1,6 @@
 //! How a build ended that neither the host nor want of memory broke off.
 ghost use Rattle.std.specs.Prelude.{◌≡◌};
-ghost use Rattle.em_program.specs.Closing.{code_of};
+ghost use Rattle.em_program.specs.Statuses.{code_of};
 
 /// How a build ended that neither the host nor want of memory broke off.
 #[derive(Clone, Copy, Debug, PartialEq, Eq)]

@@ -17,7 +17,7 @@ use Rattle.em_host.specs.Calls.{files_after, printed_by}
 use Rattle.em_host.proofs.Telling.{files_after-append, printed_by-append}
 use Rattle.em_workers.specs.Printing.{print, prints}
 use Rattle.em_program.specs.declared.verdict.Verdict.{Verdict}
-use Rattle.em_program.specs.Closing.{code_of}
+use Rattle.em_program.specs.Statuses.{code_of}
 use Rattle.em_program.specs.Course.{Trace, Course, behind, go_on, ◌>>=◌, done, quit, say, say_all, take, keep, stop}
 
 pub ok_same : {A E : Type 0} {a b : A} → let x : Result A E = Ok a in let y : Result A E = Ok b in x ≡ y → a ≡ b

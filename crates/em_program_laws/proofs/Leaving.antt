@@ -25,7 +25,8 @@ use Rattle.em_program.specs.declared.rounds.Step.{Step}
 use Rattle.em_program.specs.declared.site.Site.{Site}
 use Rattle.em_program.specs.declared.verdict.Verdict.{Verdict}
 use Rattle.em_program.specs.declared.verdict.Verdict.TheVariants.{Done, Faulty, Refused, Spent}
-use Rattle.em_program.specs.Closing.{is_spent, is_refused, is_faulty, closing, code_of, status_of}
+use Rattle.em_closing.specs.Closing.{closing}
+use Rattle.em_program.specs.Statuses.{is_spent, is_refused, is_faulty, code_of, status_of}
 use Rattle.em_program.specs.Course.{Trace, Course, ◌>>=◌, done, say, say_all, keep}
 use Rattle.em_program.specs.Messages.{image_line, summary}
 use Rattle.em_program.specs.Projects.{site}
@@ -87,7 +88,7 @@ module _ (t : Terms) (notes : List Note) where
 
 module _ (st : Step) (b : Build) where
   abbrev pub text_at : List ℕ
-  text_at = closing st.project.terms.order.silent st.project.terms.plan (state_by st.project b).outcomes (is_early st.project b)
+  text_at = closing st.project.terms.order.silent st.project.terms.plan (state_by st.project b).outcomes st.project.terms.goals (is_early st.project b)
 
   abbrev pub replacing : Course Verdict
   replacing = replaced st.project.terms b.notes st.project.terms.order.image (fuel_of b.made) text_at (state_by st.project b)

@@ -47,7 +47,7 @@ use Rattle.em_program.specs.declared.rounds.Remaking.{Remaking}
 use Rattle.em_program.specs.declared.rounds.Step.{Step}
 use Rattle.em_program.specs.declared.site.Site.{Site}
 use Rattle.em_program.specs.declared.verdict.Verdict.TheVariants.{Done, Faulty}
-use Rattle.em_program.specs.Closing.{code_of}
+use Rattle.em_program.specs.Statuses.{code_of}
 use Rattle.em_program.specs.Course.{Course, done, say, take}
 use Rattle.em_program.specs.Endings.{is_asked}
 use Rattle.em_program.specs.Explaining as explaining

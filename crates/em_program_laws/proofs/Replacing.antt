@@ -32,7 +32,7 @@ use Rattle.em_program.specs.declared.project.Terms.{Terms}
 use Rattle.em_program.specs.declared.rounds.Step.{Step}
 use Rattle.em_program.specs.declared.site.Site.{Site}
 use Rattle.em_program.specs.declared.verdict.Verdict.{Verdict}
-use Rattle.em_program.specs.Closing.{status_of}
+use Rattle.em_program.specs.Statuses.{status_of}
 use Rattle.em_program.specs.Course.{Trace, Course, ◌>>=◌, done, say, say_all, keep}
 use Rattle.em_program.specs.Messages.{image_line}
 use Rattle.em_program.specs.Projects.{site}

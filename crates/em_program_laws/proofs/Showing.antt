@@ -26,7 +26,7 @@ use Rattle.em_program.specs.declared.rounds.Step.{Step}
 use Rattle.em_program.specs.declared.site.Site.{Site}
 use Rattle.em_program.specs.declared.verdict.Verdict.{Verdict}
 use Rattle.em_program.specs.Alike.{AreSites, AreSteps, EndAlike, IsSame}
-use Rattle.em_program.specs.Closing.{code_of}
+use Rattle.em_program.specs.Statuses.{code_of}
 use Rattle.em_program.specs.Course.{Trace, Course, behind, ◌>>=◌, done, quit, say, say_all, take, stop}
 use Rattle.em_program.specs.Explaining.{explained}
 use Rattle.em_program.specs.Messages.{summary}
@@ -181,7 +181,14 @@ twin_ways c d f g is quiet = record {
 abbrev other_step : Step → List Pair → List Note → List (List ℕ) → Step
 other_step u old notes waits = record {
   project = record {
-    terms = record { order = u.project.terms.order; old = old; earlier = record { notes = notes; outcomes = u.project.terms.earlier.outcomes }; plan = u.project.terms.plan; waits = waits };
+    terms = record {
+      order = u.project.terms.order;
+      old = old;
+      earlier = record { notes = notes; outcomes = u.project.terms.earlier.outcomes };
+      goals = u.project.terms.goals;
+      plan = u.project.terms.plan;
+      waits = waits;
+    };
     start = u.project.start;
     specs = u.project.specs;
   };
@@ -195,6 +202,7 @@ is_other_step u v same = λ i. record {
       order = same.project.order i;
       old = v.project.terms.old;
       earlier = record { notes = v.project.terms.earlier.notes; outcomes = same.project.outcomes i };
+      goals = same.project.goals i;
       plan = same.project.plan i;
       waits = v.project.terms.waits;
     };

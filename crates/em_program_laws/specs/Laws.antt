@@ -15,7 +15,7 @@ use Rattle.em_cmdline.specs.declared.order.Order.{Order}
 use Rattle.em_cmdline.specs.Words.{order_of}
 use Rattle.em_program.specs.declared.rounds.Step.{Step}
 use Rattle.em_program.specs.declared.verdict.Verdict.{Verdict}
-use Rattle.em_program.specs.Closing.{code_of}
+use Rattle.em_program.specs.Statuses.{code_of}
 use Rattle.em_program.specs.Course.{Course}
 use Rattle.em_program.specs.Endings.{ended}
 use Rattle.em_program.specs.Headline.{verdict_of}

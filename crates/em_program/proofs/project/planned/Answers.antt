@@ -18,4 +18,4 @@ returns-in_ok-say-in-Ok-clause-few g c =
 
 pub returns-in_ok-say-in-Ok-clause-planned : goal.returns-in_ok-say-in-Ok-clause-planned
 returns-in_ok-say-in-Ok-clause-planned g c =
-    planned_so c.args.book.now c.items.result.now c.args.tree.now c.args.cwd.now c.in-Ok.plan c.law_limit.ensures.few c.law_waits.ensures.rise c.law_waits.ensures.below c.law_once.ensures c.in-Ok.ensures.ok
+    planned_so c.args.book.now c.items.result.now c.args.tree.now c.args.cwd.now c.in-Ok.plan c.law_limit.ensures.few c.law_waits.ensures.rise c.law_waits.ensures.below c.in-Ok.ensures.ok
