@@ -292,7 +292,7 @@ module _ (words : List (List ℕ)) where
       c = other_build b notes
 
       alike_steps : AreSteps u v
-      alike_steps = record { project = record { order = refl; outcomes = refl; plan = refl; start = refl; specs = refl }; remaking = refl }
+      alike_steps = record { project = record { order = refl; outcomes = refl; plan = refl; goals = refl; start = refl; specs = refl }; remaking = refl }
 
       on_other : IsOn words v
       on_other = record { from = on.from; asked = on.asked; set = on.set }
