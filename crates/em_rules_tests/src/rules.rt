@@ -121,14 +121,19 @@ const UNMATCHED: [(Row, &[u8]); 4] = [
     ([b"a", b"", b"", b"", b"r"], b"a"),
 ];
 
+/// Whether a rule was refused for this target, which its target pattern doesn't match.
+fn names_target(added: &Result<(), BookNo>, want: &[u8]) -> bool {
+    match added {
+        Err(BookNo::Static(target)) => target.bytes() == want,
+        _ => false,
+    }
+}
+
 /// Whether the rule is refused for this target, and the book has no rule then.
 fn is_unmatched(alloc: Global, row: &Row, want: &[u8]) -> Result<bool, NoMemory> {
     let mut book = Book::new(alloc)?;
-    let named = match add(alloc, &mut book, row) {
-        Err(BookNo::Static(target)) => target.bytes() == want,
-        _ => false,
-    };
-    Ok(named && book.rules.is_empty())
+    let added = add(alloc, &mut book, row);
+    Ok(names_target(&added, want) && book.rules.is_empty())
 }
 
 #[test]
