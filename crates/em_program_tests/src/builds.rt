@@ -24,7 +24,7 @@ pub enum After {
 pub const PROJECT: &[u8] =
     b"EMTREE 1\nd 5 /\nf 5 240 /Makefile\nSRC := main.c util.c\nOBJ := $(SRC:.c=.o)\n.PHONY: all clean edit\nall: config.h prog\nprog: $(OBJ)\n\tcat $^ > $@\n%.o: %.c\n\tcat $< config.h > $@\nconfig.h: config.in\n\techo '#define N 1' > $@\nedit:\n\ttouch main.c\nclean:\n\trm -f $(OBJ) prog config.h\n\nf 5 2 /config.in\n1\n\nf 5 5 /main.c\nmain\n\nf 5 5 /util.c\nutil\n\n.\n";
 
-pub static BUILDS: [Build; 68] = [
+pub static BUILDS: [Build; 63] = [
     Build {
         words: "-I i",
         before: Some(b"EMTREE 1\nd 1 /\nf 1 15 /Makefile\nall:\n\t@echo hi\n\n.\n"),
@@ -539,54 +539,5 @@ pub static BUILDS: [Build; 68] = [
         printed: b"cat main.c config.h > main.o\ncat main.o util.o > prog\n",
         status: 0,
         after: After::Any,
-    },
-    // a group is made once, by the name at which it is reached
-    Build {
-        words: "-I i y x",
-        before: Some(
-            b"EMTREE 1\nd 5 /\nf 5 35 /Makefile\nx y &: s\n\tcp s x\n\tcp s y\n\t@echo $@\n\nf 5 2 /s\ns\n\n.\n",
-        ),
-        printed: b"cp s x\ncp s y\ny\n",
-        status: 0,
-        after: After::Is(
-            b"EMTREE 1\nd 1048583 /\nf 5 35 /Makefile\nx y &: s\n\tcp s x\n\tcp s y\n\t@echo $@\n\nf 5 2 /s\ns\n\nf 1048582 2 /x\ns\n\nf 1048583 2 /y\ns\n\n.\n",
-        ),
-    },
-    // each double-colon rule is a job of its own
-    Build {
-        words: "-I i t",
-        before: Some(
-            b"EMTREE 1\nd 5 /\nf 5 34 /Makefile\nt::\n\techo 1 >> t\nt::\n\techo 2 >> t\n\n.\n",
-        ),
-        printed: b"echo 1 >> t\necho 2 >> t\n",
-        status: 0,
-        after: After::Is(
-            b"EMTREE 1\nd 6 /\nf 5 34 /Makefile\nt::\n\techo 1 >> t\nt::\n\techo 2 >> t\n\nf 1048582 4 /t\n1\n2\n\n.\n",
-        ),
-    },
-    // the second finds its target newer
-    Build {
-        words: "-I i t",
-        before: Some(
-            b"EMTREE 1\nd 5 /\nf 5 36 /Makefile\nt:: a\n\tcat a >> t\nt:: b\n\tcat b >> t\n\nf 5 2 /a\na\n\nf 5 2 /b\nb\n\n.\n",
-        ),
-        printed: b"cat a >> t\n",
-        status: 0,
-        after: After::Any,
-    },
-    // both kinds of rules, and a group without a recipe
-    Build {
-        words: "-I i",
-        before: Some(b"EMTREE 1\nd 5 /\nf 5 7 /Makefile\na:\na::\n\n.\n"),
-        printed: b"Makefile:2: *** target file 'a' has both : and :: entries.  Stop.\n",
-        status: 2,
-        after: After::Same,
-    },
-    Build {
-        words: "-I i",
-        before: Some(b"EMTREE 1\nd 5 /\nf 5 7 /Makefile\na b &:\n\n.\n"),
-        printed: b"Makefile:1: *** grouped target 'a' needs a recipe.  Stop.\n",
-        status: 2,
-        after: After::Same,
     },
 ];
