@@ -5,7 +5,8 @@ use em_tree::{Node, State};
 use em_workers::Built;
 use std::alloc::AllocError;
 
-/// A directory with its stamp, or a file with what it holds and its stamp.
+/// A directory with its stamp, a file with what it holds, or a link with what it says, and its
+/// stamp.
 fn show_file(log: &mut String, path: &Path, node: &Node) -> Result<(), AllocError> {
     show_path(log, "", path)?;
     let stamp = match node {
@@ -15,6 +16,11 @@ fn show_file(log: &mut String, path: &Path, node: &Node) -> Result<(), AllocErro
             stamp
         }
         Node::Dir { stamp } => stamp,
+        Node::Link { text, stamp } => {
+            log.push_str(" to ")?;
+            show_bytes(log, text.bytes())?;
+            stamp
+        }
     };
     write!(log, "@{stamp} ")
 }

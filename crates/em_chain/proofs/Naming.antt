@@ -280,6 +280,7 @@ told_names : (o : Kind) (ms ns : List (List ℕ)) → in_dir o ms ≡ Some ns �
 told_names kind.Absent ms ns e = cc
 told_names kind.File ms ns e = cc
 told_names kind.Dir ms ns e = cc
+told_names kind.Link ms ns e = cc
 
 pub listing_of_tree : (t : Table) (p : List ℕ) (ns : List (List ℕ)) → IsTree t → names_of t p ≡ Some ns → IsNameList ns → IsListing p t ns
 listing_of_tree t p ns h e named = record { names = named; children = children_named p (keys t) (all_paths t h) ∙ ap (map (child_text p)) (told_names (kind_of (get t p)) (filter_map last_of (children_of t p)) ns e) }
@@ -288,6 +289,7 @@ no_dir : (o : Kind) (ms : List (List ℕ)) → in_dir o ms ≡ None → o ≡ ki
 no_dir kind.Absent ms e is = cc
 no_dir kind.File ms e is = cc
 no_dir kind.Dir ms e is = cc
+no_dir kind.Link ms e is = cc
 
 pub listing_of_none : (t : Table) (p : List ℕ) → IsTree t → names_of t p ≡ None → IsListing p t []
 listing_of_none t p h e = record { names = IsNameList-none; children = sym (children_none t p (λ k. by_case k (is_parent p k) (contains_key t k) refl refl)) }

@@ -6,7 +6,7 @@ ghost use Rattle.em_tree.specs.Answers.{holds_memory};
 ghost use Rattle.std.specs.List.{AllByRecursion};
 ghost use Rattle.em_path.specs.Paths.{parent_text};
 ghost use Rattle.em_tree.specs.Names.{IsNameList, names_of};
-ghost use Rattle.em_tree.specs.Trees.{Table, kind_of, stamp_of, content_of};
+ghost use Rattle.em_tree.specs.Trees.{Table, kind_of, stamp_of, content_of, link_of};
 ghost use Rattle.em_chain.specs.Chains.{counted, last_below};
 ghost use Rattle.em_chain.specs.Floors.{chain_over, change_over, last_over, table_over, outcome_over, looked_over, entries_of, IsRaised};
 ghost use Rattle.em_chain.specs.Listing.{IsListing, changed_at};
@@ -20,7 +20,7 @@ use crate::names::{amend, list_of, listed, name_set};
 use crate::post::Post;
 use em_base::{NoMemory, Text};
 use em_path::Path;
-use em_tree::{Answer, Body, Delta, Kind, NameList, Node, Outcome, Question, State};
+use em_tree::{Answer, Body, Delta, Kind, LinkText, NameList, Node, Outcome, Question, State};
 use std::alloc::Global;
 use std::collections::btree_set::Iter;
 use std::collections::{BTreeMap, BTreeSet};
@@ -237,6 +237,7 @@ impl Versions {
             Kind::Dir => true,
             Kind::File => false,
             Kind::Absent => false,
+            Kind::Link => false,
         }
     }
 
@@ -256,6 +257,17 @@ impl Versions {
         match self.node(job, p) {
             Some(Node::File { body, .. }) => Some(body),
             _ => None,
+        }
+    }
+
+    /// What the link there says; `None` where there is none.
+    fn link(&self, job: u32, p: &Path) -> Option<&LinkText>
+        requires { self.now.floor ≤ job }
+        ensures { option_copied result ≡ link_of (map.get (table_over self.now job) p.now) }
+    {
+        match self.node(job, p) {
+            Some(n) => n.link(),
+            None => None,
         }
     }
 
@@ -349,6 +361,10 @@ impl Versions {
                 None => None,
             }),
             Question::Names(p) => Answer::Names(self.names(job, p)?),
+            Question::Link(p) => Answer::Link(match self.link(job, p) {
+                Some(text) => Some(text.copy()?),
+                None => None,
+            }),
             Question::Outcome(k) => Answer::Outcome(match self.outcome(job, *k) {
                 Some(outcome) => Some(outcome.copy(self.alloc)?),
                 None => None,

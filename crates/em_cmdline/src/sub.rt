@@ -91,9 +91,9 @@ fn order_from(alloc: Global, found: &ArgMatches<'_>) -> Result<Order, NoMemory>
 
 /// Reads the words of a sub-make, those behind `make` or `emake` in a line of a recipe. They are
 /// read as the words of the command line, with these options: `-C` (without it the directory is
-/// `.`), `-f`, `-k`, `-s`, `-i`, `-B`; `-j N` and `--no-print-directory`, which GNU make hands to
-/// sub-makes, are read and order nothing. The error is the first of `Unknown`, `BadNumber` (of
-/// `-j`) and `BadName` that applies, or `NoMemory`.
+/// `.`), `-f`, `-k`, `-s`, `-i`, `-B`; `-j N` and `--no-print-directory`, which makefiles for GNU
+/// make write there, are read and order nothing. The error is the first of `Unknown`, `BadNumber`
+/// (of `-j`) and `BadName` that applies, or `NoMemory`.
 ///
 /// Steps for each byte of the words, and a copy of each.
 #[tactic(auto, unfolding(crate::specs::SubWords::sub_refusal, crate::specs::SubWords::sub_order))]

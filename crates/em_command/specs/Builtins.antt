@@ -82,6 +82,7 @@ wrong r = operand.Fault [] r
 abbrev pub only_directory : List ℕ → List ℕ → Kind → Result (List ℕ) OperandNo
 only_directory name p kind.Dir = Ok p
 only_directory name p kind.File = Err (operand.Fault name (reason.File file.NotDir))
+only_directory name p kind.Link = Err (operand.Fault name (reason.File file.NotDir))
 only_directory name p kind.Absent = Err (operand.Fault name (reason.File file.Absent))
 
 abbrev pub if_directory : List ℕ → List ℕ → Kind → Action OperandNo (List ℕ)

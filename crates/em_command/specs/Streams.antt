@@ -51,6 +51,7 @@ emptied word p = do
 abbrev pub added_by : List ℕ → List ℕ → Kind → Action OperandNo Source
 added_by word p kind.Absent = emptied word p
 added_by word p kind.File = done (Writes p)
+added_by word p kind.Link = done (Writes p)
 added_by word p kind.Dir = fail (operand.Fault word (reason.File file.IsDir))
 
 unfoldable pub added : List ℕ → List ℕ → Action OperandNo Source

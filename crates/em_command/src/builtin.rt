@@ -104,7 +104,7 @@ fn only_directory(alloc: Global, name: &[u8], path: Path, kind: Kind) -> Result<
 {
     match kind {
         Kind::Dir => Ok(path),
-        Kind::File => Err(fault(alloc, name, Reason::File(FileNo::NotDir))),
+        Kind::File | Kind::Link => Err(fault(alloc, name, Reason::File(FileNo::NotDir))),
         Kind::Absent => Err(fault(alloc, name, Reason::File(FileNo::Absent))),
     }
 }

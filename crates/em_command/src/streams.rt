@@ -125,6 +125,7 @@ fn added<V: View>(
     match named(alloc, word, desk.kind(&path))? {
         Kind::Absent => emptied(alloc, word, path, desk),
         Kind::File => Ok(Source::Writes(path)),
+        Kind::Link => Ok(Source::Writes(path)),
         Kind::Dir => Err(fault(alloc, word, Reason::File(FileNo::IsDir))),
     }
 }

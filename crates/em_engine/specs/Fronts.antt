@@ -45,6 +45,7 @@ last_among ds (ask.Kind p) = named_last ds p
 last_among ds (ask.Stamp p) = named_last ds p
 last_among ds (ask.Content p) = named_last ds p
 last_among ds (ask.Names p) = named_last ds p
+last_among ds (ask.Link p) = named_last ds p
 last_among ds (ask.Outcome k) = if nat_lt k (length ds) then Some k else None
 
 abbrev pub last_change : {S : Type 0} → Standing S → Question → Option ℕ

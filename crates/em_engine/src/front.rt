@@ -123,6 +123,7 @@ impl<S: Spec> Front<S> {
             Question::Stamp(p) => self.changed_last(p),
             Question::Content(p) => self.changed_last(p),
             Question::Names(p) => self.changed_last(p),
+            Question::Link(p) => self.changed_last(p),
             Question::Outcome(k) => self.committed_job(*k),
         }
     }
@@ -309,6 +310,7 @@ fn same_answer(a: &Answer, b: &Answer) -> bool
         (Answer::Stamp(stamp), Answer::Stamp(other)) => stamp == other,
         (Answer::Content(body), Answer::Content(other)) => body == other,
         (Answer::Names(names), Answer::Names(other)) => names == other,
+        (Answer::Link(text), Answer::Link(other)) => text == other,
         (Answer::Outcome(outcome), Answer::Outcome(other)) => outcome == other,
         _ => false,
     }

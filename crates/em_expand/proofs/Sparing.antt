@@ -21,7 +21,14 @@ use Rattle.em_vars.specs.Entries.{Entries, value_of}
 use Rattle.em_view.specs.declared.no.DeskNo.{DeskNo}
 use Rattle.em_view.specs.declared.no.DeskNo.TheVariants as desk
 use Rattle.em_view.specs.Actions.{Workspace, Oracle, Action, ◌>>=◌, go_on, done, ask, mine, spend, taken}
-use Rattle.em_view.specs.Rows.{blocks, is_dir, kind_by, kind_below, kind_at, stamp_by, stamp_below, stamp_at, told_names, amend, made_names, other_names, names_by, names_below, names, outcome}
+use Rattle.em_path.specs.Paths.{parent_text}
+use Rattle.em_tree.specs.declared.way.Met.{Met}
+use Rattle.em_tree.specs.declared.way.Way.{Way}
+use Rattle.em_tree.specs.declared.way.Way.TheVariants.{To, TooMany, Bad}
+use Rattle.em_tree.specs.declared.way.Led.{Led}
+use Rattle.em_tree.specs.Resolving.{most, levels as link_levels, onward}
+use Rattle.em_view.specs.Walking.{link_by, link_below, passed_by, passed_under, passed, pass_above, pass, lead_by, lead_on, too_many, resolve_from, resolve}
+use Rattle.em_view.specs.Rows.{blocks, is_dir, kind_by, kind_below, kind_to, kind_at, stamp_by, stamp_below, stamp_to, stamp_at, told_names, amend, made_names, other_names, names_by, names_below, names_to, names, outcome}
 use Rattle.em_view.specs.Steps.{Steps, and_then, below, own, within, refuse}
 use Rattle.em_view.specs.Steps as steps
 use Rattle.em_expand.specs.declared.no.ExpandNo.{ExpandNo}
@@ -111,17 +118,79 @@ names_below_spares p = spares_mine p by_own
     by_own (Some n) = by_dir n (is_dir n)
     by_own None = spares_then (told_spares p) (λ ns. spares_amend p ns)
 
+-- ---- where a path leads
+
+link_below_spares : (p : List ℕ) → Spares (link_below p)
+unfolding link_below
+link_below_spares p = spares_mine p by_own
+  where
+    by_own : (m : Option (Option Node)) → Spares (link_by m p)
+    by_own (Some n) = spares_done _
+    by_own None = spares_ask _ _
+
+passed_by_spares : (dir p : List ℕ) (m : Option Met) → Spares (passed_by dir p m)
+passed_by_spares dir p (Some m) = spares_done _
+passed_by_spares dir p None = spares_then (link_below_spares p) (λ t. spares_done _)
+
+passed_under_spares : (above : List ℕ → Action DeskNo (Option Met)) → ((q : List ℕ) → Spares (above q)) → (p : List ℕ) (o : Option (List ℕ)) → Spares (passed_under above p o)
+passed_under_spares above h p None = spares_done _
+passed_under_spares above h p (Some dir) = spares_then (h dir) (passed_by_spares dir p)
+
+passed_spares : (left : ℕ) (p : List ℕ) → Spares (passed left p)
+passed_spares zero p = spares_done _
+passed_spares (suc left) p = passed_under_spares (passed left) (passed_spares left) p (parent_text p)
+
+pass_above_spares : (o : Option (List ℕ)) → Spares (pass_above o)
+pass_above_spares None = spares_done _
+pass_above_spares (Some dir) = passed_spares link_levels dir
+
+pass_spares : (last : Bool) (p : List ℕ) → Spares (pass last p)
+pass_spares true p = passed_spares link_levels p
+pass_spares false p = pass_above_spares (parent_text p)
+
+lead_by_spares : (follow : Met → Action DeskNo Led) → ((m : Met) → Spares (follow m)) → (n : ℕ) (p : List ℕ) (o : Option Met) → Spares (lead_by follow n p o)
+lead_by_spares follow h n p None = spares_done _
+lead_by_spares follow h n p (Some m) = h m
+
+lead_on_spares : (next : List ℕ → Action DeskNo Led) → ((q : List ℕ) → Spares (next q)) → (n : ℕ) (o : Option (List ℕ)) → Spares (lead_on next n o)
+lead_on_spares next h n None = spares_done _
+lead_on_spares next h n (Some q) = h q
+
+resolve_from_spares : (last : Bool) (left n : ℕ) (p : List ℕ) → Spares (resolve_from last left n p)
+resolve_from_spares last zero n p = spares_then (pass_spares last p) (lead_by_spares (too_many n) (λ m. spares_done _) n p)
+resolve_from_spares last (suc left) n p = spares_then (pass_spares last p)
+    (lead_by_spares (λ m. lead_on (resolve_from last left (suc n)) n (onward p m)) (λ m. lead_on_spares (resolve_from last left (suc n)) (resolve_from_spares last left (suc n)) n (onward p m)) n p)
+
+pub spares_resolve : (last : Bool) (p : List ℕ) → Spares (resolve last p)
+unfolding resolve
+spares_resolve last p = resolve_from_spares last most 0 p
+
+kind_to_spares : (way : Way) → Spares (kind_to way)
+kind_to_spares (To q) = kind_below_spares q
+kind_to_spares TooMany = spares_done _
+kind_to_spares Bad = spares_done _
+
+stamp_to_spares : (way : Way) → Spares (stamp_to way)
+stamp_to_spares (To q) = stamp_below_spares q
+stamp_to_spares TooMany = spares_done _
+stamp_to_spares Bad = spares_done _
+
+names_to_spares : (way : Way) → Spares (names_to way)
+names_to_spares (To q) = names_below_spares q
+names_to_spares TooMany = spares_done _
+names_to_spares Bad = spares_done _
+
 pub spares_kind : (p : List ℕ) → Spares (kind_at p)
 unfolding kind_at
-spares_kind p = spares_then (spares_spend 1) (λ u. kind_below_spares p)
+spares_kind p = spares_then (spares_spend 1) (λ u. spares_then (spares_resolve true p) (λ f. spares_then (kind_to_spares f.way) (λ k. spares_then (spares_spend _) (λ v. spares_done _))))
 
 pub spares_stamp : (p : List ℕ) → Spares (stamp_at p)
 unfolding stamp_at
-spares_stamp p = spares_then (spares_spend 1) (λ u. stamp_below_spares p)
+spares_stamp p = spares_then (spares_spend 1) (λ u. spares_then (spares_resolve true p) (λ f. spares_then (stamp_to_spares f.way) (λ s. spares_then (spares_spend _) (λ v. spares_done _))))
 
 spares_names : (p : List ℕ) → Spares (names p)
 unfolding names
-spares_names p = spares_then (spares_spend 1) (λ u. spares_then (names_below_spares p) (λ ns. spares_then (spares_spend _) (λ v. spares_done _)))
+spares_names p = spares_then (spares_spend 1) (λ u. spares_then (spares_resolve true p) (λ f. spares_then (names_to_spares f.way) (λ ns. spares_then (spares_spend _) (λ v. spares_done _))))
 
 pub spares_outcome : (j : ℕ) → Spares (outcome j)
 unfolding outcome

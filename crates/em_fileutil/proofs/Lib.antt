@@ -1,3 +1,4 @@
 mod Spotting
 mod Levels
 mod Commands
+mod Linked

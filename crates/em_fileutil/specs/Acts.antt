@@ -10,13 +10,13 @@ use Rattle.em_fileutil.specs.declared.copy.Target.{Target}
 use Rattle.em_fileutil.specs.Spots.{operand_at, gives, levels}
 use Rattle.em_fileutil.specs.Making.{make_directory, remove_directory, touch_operand}
 use Rattle.em_fileutil.specs.Removing.{remove_node, remove_beneath}
-use Rattle.em_fileutil.specs.Copying.{copy_node, copy_beneath, destination}
+use Rattle.em_fileutil.specs.Copying.{copy_top, copy_beneath, destination}
 use Rattle.em_fileutil.specs.Listing.{list_operand}
 
 unfoldable pub copy_operand : List ℕ → Manner → Target → Operand → Tries
 copy_operand utility manner to s = do
   t ← gives (destination to s)
-  copy_node utility (copy_beneath utility manner levels) manner s t
+  copy_top utility (copy_beneath utility manner levels) manner s t
 
 abbrev pub act_on : List ℕ → Act → Operand → Tries
 act_on utility (Copy manner to) o = copy_operand utility manner to o

@@ -7,7 +7,7 @@ use Rattle.em_tree.specs.declared.node.Kind.{Kind}
 use Rattle.em_tree.specs.declared.node.Kind.TheVariants as kind
 use Rattle.em_view.specs.declared.no.FileNo.TheVariants as file
 use Rattle.em_view.specs.declared.done.Done.{Done}
-use Rattle.em_view.specs.Rows.{kind_at, names, content, stamp_at, put, place, remove}
+use Rattle.em_view.specs.Rows.{kind_at, link_at, names, content, stamp_at, put, place, make_link, remove}
 use Rattle.em_view.specs.Steps.{Steps, done, refuse}
 use Rattle.em_view.specs.Do.{◌>>=◌}
 use Rattle.em_utility.specs.declared.reason.Reason.TheVariants as reason
@@ -19,6 +19,7 @@ use Rattle.em_fileutil.specs.declared.copy.Manner.TheVariants.{Copy, CopyTree, M
 use Rattle.em_fileutil.specs.declared.copy.Target.{Target}
 use Rattle.em_fileutil.specs.Spots.{operand_at, fault, told, child, is_within, gives, there, ending}
 use Rattle.em_fileutil.specs.Making.{make_missing}
+use Rattle.em_fileutil.specs.Linking.{clear}
 
 unfoldable pub copy_file : Operand → Operand → Tries
 copy_file s t = do
@@ -69,6 +70,7 @@ recurs Move = true
 
 abbrev pub copy_by : List ℕ → Deeper → Manner → Operand → Operand → Kind → Tries
 copy_by utility deeper manner s t kind.Absent = refuse (told s file.Absent)
+copy_by utility deeper manner s t kind.Link = refuse (told s file.Absent)
 copy_by utility deeper manner s t kind.File = copy_as_file manner s t
 copy_by utility deeper manner s t kind.Dir = if recurs manner then copy_tree utility deeper manner s t else refuse (told s file.IsDir)
 
@@ -77,10 +79,33 @@ copy_node utility deeper manner s t = do
   k ← at s.name (kind_at s.path)
   copy_by utility deeper manner s t k
 
+-- a link is made anew where the source goes, with a new stamp
+unfoldable pub copy_link : Manner → Operand → Operand → List ℕ → Tries
+copy_link manner s t text = do
+  u ← clear t
+  v ← at t.name (make_link t.path text)
+  leave_source manner s
+
+abbrev pub copy_past : List ℕ → Deeper → Manner → Operand → Operand → Option (List ℕ) → Tries
+copy_past utility deeper manner s t (Some text) = copy_link manner s t text
+copy_past utility deeper manner s t None = copy_node utility deeper manner s t
+
+-- a source that may be a link
+unfoldable pub copy_linked : List ℕ → Deeper → Manner → Operand → Operand → Tries
+copy_linked utility deeper manner s t = do
+  l ← at s.name (link_at s.path)
+  copy_past utility deeper manner s t l
+
 -- below the last level nothing has a path
 abbrev pub copy_beneath : List ℕ → Manner → ℕ → Deeper
 copy_beneath utility manner zero s t = refuse (fault s reason.BadPath)
-copy_beneath utility manner (suc left) s t = copy_node utility (copy_beneath utility manner left) manner s t
+copy_beneath utility manner (suc left) s t = copy_linked utility (copy_beneath utility manner left) manner s t
+
+-- cp follows the links that its operands are; mv moves them
+abbrev pub copy_top : List ℕ → Deeper → Manner → Operand → Operand → Tries
+copy_top utility deeper Move s t = copy_linked utility deeper Move s t
+copy_top utility deeper Copy s t = copy_node utility deeper Copy s t
+copy_top utility deeper CopyTree s t = copy_node utility deeper CopyTree s t
 
 -- ---- where to
 

@@ -4,6 +4,7 @@ pub use Rattle.em_utility.specs.Operands
 pub mod Spots
 pub mod Making
 pub mod Removing
+pub mod Linking
 pub mod Copying
 pub mod Listing
 pub mod Acts

@@ -49,6 +49,7 @@ list_directory how o = do
 
 abbrev pub list_by : Listing → Operand → Kind → Tries
 list_by how o kind.Absent = refuse (told o file.Absent)
+list_by how o kind.Link = refuse (told o file.Absent)
 list_by how o kind.File = own (prints (line o.name))
 list_by how o kind.Dir = if how.itself then own (prints (line o.name)) else list_directory how o
 

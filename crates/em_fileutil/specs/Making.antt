@@ -4,7 +4,7 @@ use Rattle.em_path.specs.Paths.{parent_text}
 use Rattle.em_tree.specs.declared.node.Kind.{Kind}
 use Rattle.em_tree.specs.declared.node.Kind.TheVariants as kind
 use Rattle.em_view.specs.declared.no.FileNo.TheVariants as file
-use Rattle.em_view.specs.Rows.{kind_at, make_dir, remove, put, touch}
+use Rattle.em_view.specs.Rows.{kind_at, link_at, make_dir, remove, put, touch}
 use Rattle.em_view.specs.Steps.{done, refuse}
 use Rattle.em_view.specs.Do.{◌>>=◌}
 use Rattle.em_utility.specs.declared.reason.Reason.TheVariants as reason
@@ -17,6 +17,7 @@ abbrev pub make_by : List ℕ → List ℕ → Kind → Tries
 make_by name p kind.Absent = at name (make_dir p)
 make_by name p kind.File = refuse (Fault name (reason.File file.NotDir))
 make_by name p kind.Dir = done tt
+make_by name p kind.Link = done tt
 
 -- a directory that isn't there is made; the faults are those of the name
 unfoldable pub make_missing : List ℕ → List ℕ → Tries
@@ -41,13 +42,24 @@ make_directory parents o = if parents then make_all levels o.name o.path else at
 
 abbrev pub remove_directory_by : Operand → Kind → Tries
 remove_directory_by o kind.File = refuse (told o file.NotDir)
+remove_directory_by o kind.Link = refuse (told o file.NotDir)
 remove_directory_by o _ = at o.name (remove o.path)
+
+unfoldable pub remove_other_directory : Operand → Tries
+remove_other_directory o = do
+  k ← at o.name (kind_at o.path)
+  remove_directory_by o k
+
+-- a link is no directory, whatever it leads to
+abbrev pub remove_directory_past : Operand → Option (List ℕ) → Tries
+remove_directory_past o (Some text) = refuse (told o file.NotDir)
+remove_directory_past o None = remove_other_directory o
 
 -- rmdir
 unfoldable pub remove_directory : Operand → Tries
 remove_directory o = do
-  k ← at o.name (kind_at o.path)
-  remove_directory_by o k
+  l ← at o.name (link_at o.path)
+  remove_directory_past o l
 
 abbrev pub touch_absent : Bool → Operand → Tries
 touch_absent create o = if create then at o.name (put o.path []) else done tt

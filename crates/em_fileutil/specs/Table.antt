@@ -3,7 +3,7 @@ use Rattle.std.specs.Prelude.{ℕ, Bool, List, [], ◌∷◌, Option, codes}
 use Rattle.std.specs.List.{find}
 use Rattle.std.specs.Str.{bytes_eq}
 use Rattle.em_fileutil.specs.declared.table.Utility.{Utility}
-use Rattle.em_fileutil.specs.declared.table.Utility.TheVariants.{Copy, Move, Remove, MakeDirectory, RemoveDirectory, Touch, ListDirectory}
+use Rattle.em_fileutil.specs.declared.table.Utility.TheVariants.{Copy, Move, Remove, MakeDirectory, RemoveDirectory, Touch, ListDirectory, MakeLink, ReadLink}
 use Rattle.em_fileutil.specs.declared.table.Entry.{Entry}
 
 pub record Row : Type 0 where
@@ -23,6 +23,8 @@ table =
     ∷ row (codes "rmdir") RemoveDirectory []
     ∷ row (codes "touch") Touch (codes "c")
     ∷ row (codes "ls") ListDirectory (codes "1ad")
+    ∷ row (codes "ln") MakeLink (codes "fs")
+    ∷ row (codes "readlink") ReadLink []
     ∷ []
 
 -- the row of the code's entry

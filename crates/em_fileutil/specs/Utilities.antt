@@ -3,12 +3,14 @@
 --     utility words cwd            what it leaves; nothing where the first word is no file utility
 use Rattle.std.specs.Prelude.{ℕ, ◌-◌, nat_lt, Bool, not, List, [], ◌∷◌, length, take, drop, slice_get, unwrap_or, codes, Option, Some, None, Result, Ok, if◌then◌else◌}
 use Rattle.em_view.specs.declared.done.Done.{Done}
+use Rattle.em_base.specs.declared.construct.Construct.TheVariants.{Command}
 use Rattle.em_view.specs.declared.done.ExecNo.{ExecNo}
+use Rattle.em_view.specs.declared.done.ExecNo.TheVariants.{Refused}
 use Rattle.em_view.specs.Actions as action
 use Rattle.em_view.specs.Actions.{Action}
-use Rattle.em_view.specs.Steps.{own}
+use Rattle.em_view.specs.Steps.{own, refuse}
 use Rattle.em_view.specs.Do.{◌>>=◌}
-use Rattle.em_utility.specs.declared.reason.Reason.TheVariants.{MissingOperand}
+use Rattle.em_utility.specs.declared.reason.Reason.TheVariants.{MissingOperand, ExtraOperand}
 use Rattle.em_utility.specs.Options.{is_in, read_options}
 use Rattle.em_utility.specs.Writing.{faulted}
 use Rattle.em_utility.specs.Operands.{gives, each, caught, command, Tries, Runs}
@@ -22,6 +24,7 @@ use Rattle.em_fileutil.specs.declared.table.Utility.{Utility}
 use Rattle.em_fileutil.specs.declared.table.Utility.TheVariants as named
 use Rattle.em_fileutil.specs.Spots.{ending}
 use Rattle.em_fileutil.specs.Copying.{target_at}
+use Rattle.em_fileutil.specs.Linking.{link_operand, read_link}
 use Rattle.em_fileutil.specs.Acts.{act_for}
 use Rattle.em_fileutil.specs.Table.{Row, utility_of}
 
@@ -66,6 +69,28 @@ or_here (o ∷ os) = o ∷ os
 abbrev pub list : List ℕ → Listing → List ℕ → List (List ℕ) → Runs
 list name how cwd os = for_each name (act.ListDirectory how) cwd (or_here os)
 
+abbrev pub exceeding : List ℕ → Done → Result (Unit {0} × Done) (ExecNo × Done)
+exceeding name d = Ok (tt, faulted name [] ExtraOperand d)
+
+abbrev pub extra : List ℕ → Runs
+extra name = own (exceeding name)
+
+-- two operands: what the link says, and its name
+abbrev pub link_two : List ℕ → Bool → List ℕ → List (List ℕ) → Runs
+link_two name force cwd (text ∷ l ∷ []) = caught name (link_operand cwd force text l)
+link_two name force cwd (text ∷ l ∷ o ∷ os) = extra name
+link_two name force cwd _ = missing name
+
+-- links of the other kind aren't known
+abbrev pub link : List ℕ → (ℕ → Bool) → List ℕ → List (List ℕ) → Runs
+link name has cwd os = if has 115 then link_two name (has 102) cwd os else refuse (Refused (Command name))
+
+-- one operand
+abbrev pub read_one : List ℕ → List ℕ → List (List ℕ) → Runs
+read_one name cwd [] = missing name
+read_one name cwd (l ∷ []) = caught name (read_link cwd l)
+read_one name cwd (l ∷ o ∷ os) = extra name
+
 -- `has` tells whether a letter is given
 abbrev pub run : Utility → List ℕ → (ℕ → Bool) → List ℕ → List (List ℕ) → Runs
 run named.Copy name has cwd os = copy name (if has 114 then CopyTree else Copy) cwd os
@@ -75,6 +100,8 @@ run named.MakeDirectory name has cwd os = some name os (for_each name (act.MakeD
 run named.RemoveDirectory name has cwd os = some name os (for_each name act.RemoveDirectory cwd os)
 run named.Touch name has cwd os = some name os (for_each name (act.Touch (not (has 99))) cwd os)
 run named.ListDirectory name has cwd os = list name (record { all = has 97; itself = has 100; headed = nat_lt 1 (length os) }) cwd os
+run named.MakeLink name has cwd os = link name has cwd os
+run named.ReadLink name has cwd os = read_one name cwd os
 
 unfoldable pub utility_by : Row → List (List ℕ) → List ℕ → Action ExecNo (Option Done)
 utility_by row words cwd = action.◌>>=◌ (gives (read_options row.name row.letters [] words))

@@ -5,7 +5,7 @@ ghost use Rattle.em_utility.specs.Operands.{is_free};
 ghost use Rattle.em_fileutil.specs.Acts.{copy_operand, act_on, act_for};
 ghost use Rattle.em_fileutil.specs.Utilities.{for_each};
 
-use crate::copy::{Manner, Target, copy_node, destination};
+use crate::copy::{Manner, Target, copy_top, destination};
 use crate::list::{Listing, list_operand};
 use crate::make::{make_directory, remove_directory, touch_operand};
 use crate::operand::{LEVELS, Operand};
@@ -42,7 +42,7 @@ fn copy_operand<V: View>(
         (copy_operand utility.now manner to.now source.now) }
 {
     let target = destination(alloc, to, source)?;
-    copy_node(alloc, utility, LEVELS, manner, source, &target, desk, done)
+    copy_top(alloc, utility, manner, source, &target, desk, done)
 }
 
 fn act_on<V: View>(

@@ -7,14 +7,15 @@ ghost use Rattle.em_utility.specs.Options.{is_in};
 ghost use Rattle.em_utility.specs.Operands.{is_free};
 ghost use Rattle.em_fileutil.specs.Table.{row_of, utility_of};
 ghost use Rattle.em_fileutil.specs.Utilities as utilities;
-ghost use Rattle.em_fileutil.specs.Utilities.{lacking, some, last, front, copy_all, copy, remove, list, run, utility_by, utility_for};
+ghost use Rattle.em_fileutil.specs.Utilities.{lacking, some, last, front, copy_all, copy, remove, list, exceeding, link_two, link, read_one, run, utility_by, utility_for};
 
 use crate::act::{Act, for_each};
 use crate::copy::{Manner, target_at};
+use crate::link::{link_operand, read_link};
 use crate::list::Listing;
 use crate::remove::Removal;
 use crate::table::{Entry, Utility, utility_of};
-use em_base::{NoMemory, Seq, Text};
+use em_base::{Construct, NoMemory, Seq, Text};
 use em_path::Path;
 use em_utility::{OperandNo, Options, Reason, begun, fail, read_options, settle};
 use em_view::{Desk, Done, ExecNo, View};
@@ -150,6 +151,83 @@ fn list<V: View>(
     for_each(alloc, utility, &act, cwd, operands, desk, done)
 }
 
+/// Writes that there is an operand too many.
+fn extra(alloc: Global, utility: &[u8], done: &mut Done) -> Result<(), ExecNo>
+    ensures { Works is_want done.old done.new result (exceeding utility.now) }
+{
+    Ok(fail(alloc, done, utility, b"", Reason::ExtraOperand)?)
+}
+
+fn link_two<V: View>(
+    alloc: Global,
+    utility: &[u8],
+    force: bool,
+    cwd: &Path,
+    operands: &[Text],
+    desk: &mut Desk<V>,
+    done: &mut Done,
+) -> Result<(), ExecNo>
+    ensures { Does is_want V.tells desk.old desk.new done.old done.new result
+        (link_two utility.now force cwd.now operands.now) }
+{
+    match operands {
+        [text, name] => {
+            let given = link_operand(alloc, cwd, force, text.bytes(), name.bytes(), desk);
+            settle(alloc, utility, given, done)
+        }
+        [_, _, _, ..] => extra(alloc, utility, done),
+        _ => missing(alloc, utility, done),
+    }
+}
+
+/// The construct under which ln without `-s` is refused.
+fn command(alloc: Global, utility: &[u8]) -> Result<Construct, NoMemory>
+    ensures { IfOk result (λ c. c ≡ Construct.Command utility.now) }
+{
+    Ok(Construct::Command(Text::from_slice(alloc, utility)?))
+}
+
+fn link<V: View>(
+    alloc: Global,
+    utility: &[u8],
+    options: &Options,
+    cwd: &Path,
+    operands: &[Text],
+    desk: &mut Desk<V>,
+    done: &mut Done,
+) -> Result<(), ExecNo>
+    ensures { Does is_want V.tells desk.old desk.new done.old done.new result
+        (link utility.now (is_in options.now.letters) cwd.now operands.now) }
+{
+    if options.has(b's') {
+        let force = options.has(b'f');
+        link_two(alloc, utility, force, cwd, operands, desk, done)
+    } else {
+        Err(ExecNo::Refused(command(alloc, utility)?))
+    }
+}
+
+fn read_one<V: View>(
+    alloc: Global,
+    utility: &[u8],
+    cwd: &Path,
+    operands: &[Text],
+    desk: &mut Desk<V>,
+    done: &mut Done,
+) -> Result<(), ExecNo>
+    ensures { Does is_want V.tells desk.old desk.new done.old done.new result
+        (read_one utility.now cwd.now operands.now) }
+{
+    match operands {
+        [] => missing(alloc, utility, done),
+        [name] => {
+            let given = read_link(alloc, cwd, name.bytes(), desk, done);
+            settle(alloc, utility, given, done)
+        }
+        _ => extra(alloc, utility, done),
+    }
+}
+
 fn copy_manner(recursive: bool) -> Manner
     ensures { result ≡ (if recursive then Manner.CopyTree else Manner.Copy) }
 {
@@ -215,6 +293,8 @@ fn run<V: View>(
             };
             list(alloc, name, how, cwd, operands, desk, done)
         }
+        Utility::MakeLink => link(alloc, name, options, cwd, operands, desk, done),
+        Utility::ReadLink => read_one(alloc, name, cwd, operands, desk, done),
     }
 }
 
@@ -260,14 +340,15 @@ fn utility_for<V: View>(
 }
 
 /// Runs the file utility that the first word names, with the words behind it, in a working
-/// directory: cp, mv, rm, mkdir, rmdir, touch or ls, as POSIX has them but for the options, of
-/// which there are few (docs/FORMATS.md, "File utilities"). `None` comes exactly where the first
-/// word names none of them, and then nothing was asked. No utility reads its input.
+/// directory: cp, mv, rm, mkdir, rmdir, touch, ls, ln or readlink, as POSIX has them but for the
+/// options, of which there are few (docs/FORMATS.md, "File utilities"). `None` comes exactly where
+/// the first word names none of them, and then nothing was asked. No utility reads its input.
 ///
 /// Of an operand's faults a line is written to stream 2, the status is then 1, and the next operand
-/// is tried; where operands are missing, it is 2. Errors: `Refused` by an option's letter that the
-/// utility doesn't have, before anything is asked; `Spent` where fuel doesn't suffice for what the
-/// desk's calls cost, and then the changes till then stand.
+/// is tried; where operands are missing or too many, it is 2. Errors: `Refused` by an option's
+/// letter that the utility doesn't have, or by the name of `ln` without `-s`, before anything is
+/// asked; `Spent` where fuel doesn't suffice for what the desk's calls cost, and then the changes
+/// till then stand.
 ///
 /// Steps for each byte that is read and put and for each name that is listed, and for each call of
 /// the desk a search among the job's own changes; a file's bytes are copied once.

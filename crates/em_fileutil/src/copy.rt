@@ -7,13 +7,15 @@ ghost use Rattle.em_view.specs.Ends.{is_want};
 ghost use Rattle.em_view.specs.Performs.{is_free as free_in};
 ghost use Rattle.em_view.specs.Steps.{Does};
 ghost use Rattle.em_utility.specs.Operands.{is_free, each};
-ghost use Rattle.em_fileutil.specs.Copying.{copy_file, move_file, copy_as_file, leave_source, copy_child, copy_tree, recurs, copy_node, copy_beneath, as_name, target_by, target_at, is_slash, ends_with_dot, place_of, destination};
+ghost use Rattle.em_fileutil.specs.Spots.{levels};
+ghost use Rattle.em_fileutil.specs.Copying.{copy_file, move_file, copy_as_file, leave_source, copy_child, copy_tree, recurs, copy_node, copy_link, copy_linked, copy_beneath, copy_top, as_name, target_by, target_at, is_slash, ends_with_dot, place_of, destination};
 
+use crate::link::clear;
 use crate::make::make_missing;
-use crate::operand::{Operand, is_within};
+use crate::operand::{LEVELS, Operand, is_within};
 use em_base::Text;
 use em_path::Path;
-use em_tree::Kind;
+use em_tree::{Kind, LinkText};
 use em_utility::{OperandNo, Reason, settle};
 use em_view::{Desk, Done, ExecNo, FileNo, View};
 use std::alloc::Global;
@@ -62,6 +64,7 @@ fn target_by(
     match kind {
         Kind::Absent => as_name(alloc, several, operand),
         Kind::File => as_name(alloc, several, operand),
+        Kind::Link => as_name(alloc, several, operand),
         Kind::Dir => Ok(Target {
             operand,
             is_dir: true,
@@ -201,9 +204,70 @@ fn recurs(manner: Manner) -> bool
     }
 }
 
-/// Copies or moves a source to its target; below them, it goes `left` levels down.
+/// Makes a link anew where its source goes, in place of a link or a file.
+fn copy_link<V: View>(
+    alloc: Global,
+    manner: Manner,
+    source: &Operand,
+    target: &Operand,
+    text: &LinkText,
+    desk: &mut Desk<V>,
+) -> Result<(), OperandNo>
+    ensures { (d : Done) → Does is_free V.tells desk.old desk.new d d result
+        (copy_link manner source.now target.now text.now) }
+{
+    clear(alloc, target, desk)?;
+    target.tried(alloc, desk.make_link(&target.path, text.bytes()))?;
+    leave_source(alloc, manner, source, desk)
+}
+
+/// Copies or moves an operand of cp or mv: cp follows a link, mv moves it.
+pub(crate) fn copy_top<V: View>(
+    alloc: Global,
+    utility: &[u8],
+    manner: Manner,
+    source: &Operand,
+    target: &Operand,
+    desk: &mut Desk<V>,
+    done: &mut Done,
+) -> Result<(), OperandNo>
+    ensures { Does is_free V.tells desk.old desk.new done.old done.new result
+        (copy_top utility.now (copy_beneath utility.now manner levels) manner
+        source.now target.now) }
+{
+    match manner {
+        Manner::Move => copy_linked(alloc, utility, LEVELS, manner, source, target, desk, done),
+        Manner::Copy => copy_node(alloc, utility, LEVELS, manner, source, target, desk, done),
+        Manner::CopyTree => copy_node(alloc, utility, LEVELS, manner, source, target, desk, done),
+    }
+}
+
+/// Copies or moves a source, as a link where it is one; below it, it goes `left` levels down.
 #[cycle(copying)]
-pub(crate) fn copy_node<V: View>(
+fn copy_linked<V: View>(
+    alloc: Global,
+    utility: &[u8],
+    left: u32,
+    manner: Manner,
+    source: &Operand,
+    target: &Operand,
+    desk: &mut Desk<V>,
+    done: &mut Done,
+) -> Result<(), OperandNo>
+    ensures { Does is_free V.tells desk.old desk.new done.old done.new result
+        (copy_linked utility.now (copy_beneath utility.now manner left) manner
+        source.now target.now) }
+{
+    match source.tried(alloc, desk.link(&source.path))? {
+        Some(text) => copy_link(alloc, manner, source, target, &text, desk),
+        None => copy_node(alloc, utility, left, manner, source, target, desk, done),
+    }
+}
+
+/// Copies or moves a source to its target, behind its link; below them, it goes `left` levels
+/// down.
+#[cycle(copying)]
+fn copy_node<V: View>(
     alloc: Global,
     utility: &[u8],
     left: u32,
@@ -219,6 +283,7 @@ pub(crate) fn copy_node<V: View>(
 {
     match source.tried(alloc, desk.kind(&source.path))? {
         Kind::Absent => Err(source.told(alloc, FileNo::Absent)),
+        Kind::Link => Err(source.told(alloc, FileNo::Absent)),
         Kind::File => copy_as_file(alloc, manner, source, target, desk),
         Kind::Dir => {
             if recurs(manner) {
@@ -312,5 +377,5 @@ fn copy_child<V: View>(
     if left == 0 {
         return Err(from.fault(alloc, Reason::BadPath));
     }
-    copy_node(alloc, utility, left - 1, manner, &from, &to, desk, done)
+    copy_linked(alloc, utility, left - 1, manner, &from, &to, desk, done)
 }

@@ -1,9 +1,11 @@
-//! The utilities that work on files: cp, mv, rm, mkdir, rmdir, touch, ls.
+//! The utilities that work on files: cp, mv, rm, mkdir, rmdir, touch, ls, ln,
+//! readlink.
 #![tactic(auto)]
 
 mod act;
 mod command;
 mod copy;
+mod link;
 mod list;
 mod make;
 mod operand;

@@ -133,6 +133,7 @@ pub(crate) fn list_operand<V: View>(
 {
     match operand.tried(alloc, desk.kind(&operand.path))? {
         Kind::Absent => Err(operand.told(alloc, FileNo::Absent)),
+        Kind::Link => Err(operand.told(alloc, FileNo::Absent)),
         Kind::File => list_itself(alloc, operand, done),
         Kind::Dir => {
             if how.itself {

@@ -4,7 +4,7 @@ ghost use Rattle.em_path.specs.Paths.{parent_text};
 ghost use Rattle.em_view.specs.declared.done.Done.{Done};
 ghost use Rattle.em_view.specs.Steps.{Does};
 ghost use Rattle.em_utility.specs.Operands.{is_free};
-ghost use Rattle.em_fileutil.specs.Making.{make_missing, make_all, make_directory, remove_directory, touch_absent, touch_operand};
+ghost use Rattle.em_fileutil.specs.Making.{make_missing, make_all, make_directory, remove_other_directory, remove_directory, touch_absent, touch_operand};
 
 use crate::operand::{LEVELS, Operand};
 use em_base::NoMemory;
@@ -28,6 +28,7 @@ pub(crate) fn make_missing<V: View>(
         Kind::Absent => named(alloc, name, desk.make_dir(path)),
         Kind::File => Err(fault(alloc, name, Reason::File(FileNo::NotDir))),
         Kind::Dir => Ok(()),
+        Kind::Link => Ok(()),
     }
 }
 
@@ -79,7 +80,24 @@ pub(crate) fn make_directory<V: View>(
     }
 }
 
-/// rmdir: takes an empty directory away.
+/// Takes an empty directory away, where no link is.
+fn remove_other_directory<V: View>(
+    alloc: Global,
+    operand: &Operand,
+    desk: &mut Desk<V>,
+) -> Result<(), OperandNo>
+    ensures { (d : Done) → Does is_free V.tells desk.old desk.new d d result
+        (remove_other_directory operand.now) }
+{
+    match operand.tried(alloc, desk.kind(&operand.path))? {
+        Kind::Absent => operand.tried(alloc, desk.remove(&operand.path)),
+        Kind::File => Err(operand.told(alloc, FileNo::NotDir)),
+        Kind::Link => Err(operand.told(alloc, FileNo::NotDir)),
+        Kind::Dir => operand.tried(alloc, desk.remove(&operand.path)),
+    }
+}
+
+/// rmdir: takes an empty directory away. A link is none, whatever it leads to.
 pub(crate) fn remove_directory<V: View>(
     alloc: Global,
     operand: &Operand,
@@ -88,10 +106,9 @@ pub(crate) fn remove_directory<V: View>(
     ensures { (d : Done) → Does is_free V.tells desk.old desk.new d d result
         (remove_directory operand.now) }
 {
-    match operand.tried(alloc, desk.kind(&operand.path))? {
-        Kind::Absent => operand.tried(alloc, desk.remove(&operand.path)),
-        Kind::File => Err(operand.told(alloc, FileNo::NotDir)),
-        Kind::Dir => operand.tried(alloc, desk.remove(&operand.path)),
+    match operand.tried(alloc, desk.link(&operand.path))? {
+        Some(_text) => Err(operand.told(alloc, FileNo::NotDir)),
+        None => remove_other_directory(alloc, operand, desk),
     }
 }
 
@@ -126,5 +143,6 @@ pub(crate) fn touch_operand<V: View>(
         Kind::Absent => touch_absent(alloc, create, operand, desk),
         Kind::File => operand.tried(alloc, desk.touch(&operand.path)),
         Kind::Dir => operand.tried(alloc, desk.touch(&operand.path)),
+        Kind::Link => operand.tried(alloc, desk.touch(&operand.path)),
     }
 }

@@ -6,7 +6,7 @@ ghost use Rattle.em_view.specs.Ends.{is_want};
 ghost use Rattle.em_view.specs.Performs.{is_free as free_in};
 ghost use Rattle.em_view.specs.Steps.{Does};
 ghost use Rattle.em_utility.specs.Operands.{is_free, each};
-ghost use Rattle.em_fileutil.specs.Removing.{absent, remove_child, remove_tree, remove_node, remove_beneath};
+ghost use Rattle.em_fileutil.specs.Removing.{absent, remove_child, remove_tree, remove_other, remove_node, remove_beneath};
 
 use crate::operand::Operand;
 use em_base::Text;
@@ -35,7 +35,7 @@ fn absent(alloc: Global, force: bool, operand: &Operand) -> Result<(), OperandNo
     }
 }
 
-/// Removes what an operand says; below it, it goes `left` levels down.
+/// Removes what an operand says, the link where it is one; below it, it goes `left` levels down.
 #[cycle(removal)]
 pub(crate) fn remove_node<V: View>(
     alloc: Global,
@@ -48,9 +48,29 @@ pub(crate) fn remove_node<V: View>(
     ensures { Does is_free V.tells desk.old desk.new done.old done.new result
         (remove_node (remove_beneath how left) how operand.now) }
 {
+    match operand.tried(alloc, desk.link(&operand.path))? {
+        Some(_text) => operand.tried(alloc, desk.remove(&operand.path)),
+        None => remove_other(alloc, left, how, operand, desk, done),
+    }
+}
+
+/// Removes what is no link.
+#[cycle(removal)]
+fn remove_other<V: View>(
+    alloc: Global,
+    left: u32,
+    how: Removal,
+    operand: &Operand,
+    desk: &mut Desk<V>,
+    done: &mut Done,
+) -> Result<(), OperandNo>
+    ensures { Does is_free V.tells desk.old desk.new done.old done.new result
+        (remove_other (remove_beneath how left) how operand.now) }
+{
     match operand.tried(alloc, desk.kind(&operand.path))? {
         Kind::Absent => absent(alloc, how.force, operand),
         Kind::File => operand.tried(alloc, desk.remove(&operand.path)),
+        Kind::Link => operand.tried(alloc, desk.remove(&operand.path)),
         Kind::Dir => {
             if how.recursive {
                 remove_tree(alloc, left, how, operand, desk, done)

@@ -12,6 +12,8 @@ pub(crate) enum Utility {
     RemoveDirectory,
     Touch,
     ListDirectory,
+    MakeLink,
+    ReadLink,
 }
 
 /// A file utility.
@@ -33,7 +35,7 @@ macro_rules! row {
     };
 }
 
-static UTILITIES: [Entry; 7] = [
+static UTILITIES: [Entry; 9] = [
     row!(b"cp", Utility::Copy, b"fr"),
     row!(b"mv", Utility::Move, b"f"),
     row!(b"rm", Utility::Remove, b"fr"),
@@ -41,6 +43,8 @@ static UTILITIES: [Entry; 7] = [
     row!(b"rmdir", Utility::RemoveDirectory, b""),
     row!(b"touch", Utility::Touch, b"c"),
     row!(b"ls", Utility::ListDirectory, b"1ad"),
+    row!(b"ln", Utility::MakeLink, b"fs"),
+    row!(b"readlink", Utility::ReadLink, b""),
 ];
 
 fn utilities() -> &'static [Entry]

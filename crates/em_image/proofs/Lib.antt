@@ -5,6 +5,7 @@ pub mod Fields
 pub mod Nodes
 pub mod Order
 pub mod Chain
+pub mod Links
 pub mod Whole
 pub mod Laws
 pub mod Loop

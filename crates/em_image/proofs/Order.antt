@@ -92,6 +92,17 @@ module _ {X : Type 0} where
   found_itself (x ∷ es) fs e =
       elim (eq_by_cmp cmp e.0 x.0) as (λ b. is_some (cond b (Some x.1) (find cmp e.0 (es ++ e ∷ fs))) ≡ true) [ true ↦ refl | false ↦ found_itself es fs e ]
 
+  below_at : (k : Key) (es fs : List (Key × X)) (e : Key × X) → T (below_all cmp k (es ++ e ∷ fs)) → cmp k e.0 ≡ Less
+  below_at k [] fs e h = less_is _ (T_both (is_lt (cmp k e.0)) (below_all cmp k fs) h).0
+  below_at k (x ∷ es) fs e h = below_at k es fs e (T_both (is_lt (cmp k x.0)) (below_all cmp k (es ++ e ∷ fs)) h).1
+
+  -- of sorted entries each is found by its key
+  pub find_sorted : (es fs : List (Key × X)) (e : Key × X) → T (is_sorted cmp (es ++ e ∷ fs)) → find cmp e.0 (es ++ e ∷ fs) ≡ Some e.1
+  find_sorted [] fs e h = rw (tied_itself total e.0) refl
+  find_sorted (x ∷ es) fs e h =
+      let p = T_both (below_all cmp x.0 (es ++ e ∷ fs)) (is_sorted cmp (es ++ e ∷ fs)) h in
+      rw (above x.0 e.0 (below_at x.0 es fs e (T_of _ p.0)), find_sorted es fs e p.1) refl
+
   -- ---- maps
 
   -- a key above last is above all keys of the map

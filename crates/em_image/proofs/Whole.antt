@@ -14,7 +14,7 @@ use Rattle.std.proofs.lemmas.List.{nil_from_length}
 use Rattle.em_path.specs.Paths.{IsPath, IsComponent, components, path_text, root_text, parent_text, parent_of}
 use Rattle.em_tree.specs.declared.node.Kind.TheVariants as kind
 use Rattle.em_tree.specs.declared.node.Node.{Node}
-use Rattle.em_tree.specs.declared.node.Node.TheVariants.{File, Dir}
+use Rattle.em_tree.specs.declared.node.Node.TheVariants.{File, Dir, Link}
 use Rattle.em_tree.specs.Trees.{Table, IsTree, kind_of}
 use Rattle.em_image.specs.Image.{Limits}
 use Rattle.em_image.specs.Reading.{has_dir, is_dir}
@@ -27,11 +27,13 @@ dir_is : (o : Option Node) → is_dir o ≡ true → kind_of o ≡ kind.Dir
 dir_is None e = absurd cc
 dir_is (Some (File body stamp)) e = absurd cc
 dir_is (Some (Dir stamp)) e = refl
+dir_is (Some (Link text stamp)) e = absurd cc
 
 pub is_a_dir : (o : Option Node) → kind_of o ≡ kind.Dir → is_dir o ≡ true
 is_a_dir None e = absurd cc
 is_a_dir (Some (File body stamp)) e = absurd cc
 is_a_dir (Some (Dir stamp)) e = refl
+is_a_dir (Some (Link text stamp)) e = absurd cc
 
 dir_some : (o : Option Node) → kind_of o ≡ kind.Dir → IsSome o
 dir_some None e = absurd cc
@@ -224,6 +226,7 @@ root_entry t tree = by (entries t) refl
     at_root : (n : Node) (es : List Entry) → entries t ≡ (root_text, n) ∷ es → kind_of (Some n) ≡ kind.Dir → (stamp : ℕ) × (es : List Entry) × (entries t ≡ (root_text, Dir stamp) ∷ es)
     at_root (File body stamp) es e d = absurd cc
     at_root (Dir stamp) es e d = (stamp, es, e)
+    at_root (Link text stamp) es e d = absurd cc
 
     by : (es : List Entry) → entries t ≡ es → (stamp : ℕ) × (es : List Entry) × (entries t ≡ (root_text, Dir stamp) ∷ es)
     by [] e = let bad : kind_of None ≡ kind.Dir = found [] e in absurd cc

@@ -20,6 +20,7 @@ FaultFits end (no.Limit which.Image at) = ⊥
 FaultFits end (no.Limit which.Nodes at) = at < end
 FaultFits end (no.Limit which.File at) = at < end
 FaultFits end (no.Limit which.Stamp at) = at < end
+FaultFits end (no.Limit which.Link at) = at < end
 FaultFits end no.NoMemory = ⊥
 
 -- A fault at a byte of the input stays. Short need not. The other two aren't found by reading.

@@ -3,10 +3,13 @@
 -- other fault of that part.
 --     Here                     where reading stands; IsAt says that it stands so in the input
 --     fixed_at b, text_at bs   one byte, several bytes that have to stand there
+--     head_at                  the first line, and whether it is that of an image with links
+--     mark_at links            what a line begins with
 --     until_at p               the bytes up to the first that passes p
 --     number_at which limit    a decimal number up to a limit
+--     sort_at l mark           of a file or a link the number of its bytes
 --     path_at                  the text of a path, and the newline behind it
-use Rattle.std.specs.Prelude.{◌≡◌, ℕ, ◌+◌, ◌-◌, ◌*◌, ◌≤◌, Bool, true, false, not, List, [], ◌∷◌, length, take, drop, Option, Some, None, Result, Ok, Err, nat_lt, ◌==◌, if◌then◌else◌}
+use Rattle.std.specs.Prelude.{◌≡◌, ℕ, ◌+◌, ◌-◌, ◌*◌, ◌≤◌, Bool, true, false, not, ◌&&◌, List, [], ◌∷◌, length, take, drop, codes, Result, Ok, Err, nat_lt, ◌==◌, if◌then◌else◌}
 use Rattle.std.specs.Char.{is_ascii_digit}
 use Rattle.std.specs.List.{position_or_len}
 use Rattle.em_base.specs.Numbers.{has_no_leading_zero}
@@ -18,6 +21,8 @@ use Rattle.em_image.specs.declared.no.ImageNo.TheVariants as no
 use Rattle.em_image.specs.declared.cursor.Mark.{Mark}
 use Rattle.em_image.specs.declared.cursor.Mark.TheVariants as mark
 use Rattle.em_image.specs.declared.cursor.Cursor.{Cursor}
+use Rattle.em_image.specs.declared.header.Sort.{Sort}
+use Rattle.em_image.specs.declared.header.Sort.TheVariants as sort
 use Rattle.em_image.specs.Image.{Limits}
 
 infixl 10 ◌>>=◌
@@ -69,15 +74,32 @@ text_at (b ∷ bs) here = do
   after ← fixed_at b here
   text_at bs after
 
--- what a line begins with: `d` or `f` of a node, `.` of the end
-abbrev pub mark_in : ℕ → List ℕ → Result (Mark × Here) ImageNo
-mark_in at [] = Err (no.Short at)
-mark_in at (c ∷ cs) =
+-- `1`, or `2` where there are links
+abbrev pub version_in : ℕ → List ℕ → Result (Bool × Here) ImageNo
+version_in at [] = Err (no.Short at)
+version_in at (c ∷ cs) =
     let after : Here = record { at = at + 1; rest = cs } in
-    if c == 100 then Ok (mark.Dir, after) else if c == 102 then Ok (mark.File, after) else if c == 46 then Ok (mark.End, after) else Err (no.Form at)
+    if c == 49 then Ok (false, after) else if c == 50 then Ok (true, after) else Err (no.Form at)
 
-abbrev pub mark_at : Here → Result (Mark × Here) ImageNo
-mark_at here = mark_in here.at here.rest
+abbrev pub version_at : Here → Result (Bool × Here) ImageNo
+version_at here = version_in here.at here.rest
+
+unfoldable pub head_at : Here → Result (Bool × Here) ImageNo
+head_at here = do
+  word ← text_at (codes "EMTREE ") here
+  links ← version_at word
+  after ← fixed_at 10 links.1
+  Ok (links.0, after)
+
+-- what a line begins with: `d` or `f` of a node, also `l` where there are links, `.` of the end
+abbrev pub mark_in : Bool → ℕ → List ℕ → Result (Mark × Here) ImageNo
+mark_in links at [] = Err (no.Short at)
+mark_in links at (c ∷ cs) =
+    let after : Here = record { at = at + 1; rest = cs } in
+    if c == 100 then Ok (mark.Dir, after) else if c == 102 then Ok (mark.File, after) else if links && c == 108 then Ok (mark.Link, after) else if c == 46 then Ok (mark.End, after) else Err (no.Form at)
+
+abbrev pub mark_at : Bool → Here → Result (Mark × Here) ImageNo
+mark_at links here = mark_in links here.at here.rest
 
 -- the bytes up to the first that passes p, which isn't taken
 abbrev pub until_at : (ℕ → Bool) → Here → Result (List ℕ × Here) ImageNo
@@ -100,6 +122,10 @@ number_at w limit here = do
   ds ← until_at (λ b. not (is_ascii_digit b)) here
   if not (has_no_leading_zero ds.0) then Err (no.Number here.at) else if nat_lt limit (value ds.0) then Err (no.Limit w here.at) else Ok (value ds.0, ds.1)
 
+-- the most bytes that the text of a link has
+abbrev pub longest_link : ℕ
+longest_link = 1024
+
 -- a stamp between blanks
 unfoldable pub stamp_at : Limits → Here → Result (ℕ × Here) ImageNo
 stamp_at l here = do
@@ -108,13 +134,23 @@ stamp_at l here = do
   b ← fixed_at 32 n.1
   Ok (n.0, b)
 
--- of a file the number of its bytes and a blank, of a directory nothing
-unfoldable pub size_at : Limits → Bool → Here → Result (Option ℕ × Here) ImageNo
-size_at l false here = Ok (None, here)
-size_at l true here = do
+-- of a file or a link the number of its bytes and a blank, of a directory nothing
+unfoldable pub sort_at : Limits → Mark → Here → Result (Sort × Here) ImageNo
+sort_at l mark.Dir here = Ok (sort.Dir, here)
+sort_at l mark.End here = Ok (sort.Dir, here)
+sort_at l mark.File here = do
   n ← number_at which.File l.file here
   b ← fixed_at 32 n.1
-  Ok (Some n.0, b)
+  Ok (sort.File n.0, b)
+sort_at l mark.Link here = do
+  n ← number_at which.Link longest_link here
+  if n.0 == 0 then Err (no.Limit which.Link here.at) else fixed_at 32 n.1 >>= λ b. Ok (sort.Link n.0, b)
+
+-- how many bytes a file or a link may have
+abbrev pub IsSized : Limits → Sort → Type 0
+IsSized l sort.Dir = Unit {0}
+IsSized l (sort.File n) = n ≤ l.file
+IsSized l (sort.Link n) = (1 ≤ n) × (n ≤ longest_link)
 
 -- ---- paths
 

@@ -8,6 +8,8 @@ pub enum Mark {
     Dir,
     /// `f`, of a file.
     File,
+    /// `l`, of a symbolic link.
+    Link,
     /// `.`, of the end.
     End,
 }

@@ -2,7 +2,7 @@
 ghost use Rattle.std.specs.Prelude.{◌≡◌, ◌+◌, ◌≤◌, not, ◌==◌, length, true, IfOk};
 ghost use Rattle.std.specs.List.{list_all, position};
 ghost use Rattle.std.specs.Char.{is_ascii_digit};
-ghost use Rattle.em_image.specs.Parts.{Gives, Here, skip, end_of, seen, fixed_at, text_at, mark_at, until_at};
+ghost use Rattle.em_image.specs.Parts.{Gives, Here, skip, end_of, seen, fixed_at, text_at, version_at, head_at, mark_at, until_at};
 
 use crate::cursor::{Cursor, Mark};
 use crate::no::ImageNo;
@@ -39,14 +39,15 @@ pub fn fixed(cursor: Cursor, byte: u8) -> Result<Cursor, ImageNo>
     }
 }
 
-/// Takes the letter of a node, or the `.` of the end.
-pub fn mark(cursor: Cursor) -> Result<(Mark, Cursor), ImageNo>
-    ensures { Gives (λ x. (x.0, seen x.1)) result (mark_at (seen cursor.entry)) }
+/// Takes the letter of a node, or the `.` of the end. `l` is one only where there are links.
+pub fn mark(cursor: Cursor, links: bool) -> Result<(Mark, Cursor), ImageNo>
+    ensures { Gives (λ x. (x.0, seen x.1)) result (mark_at links (seen cursor.entry)) }
 {
     let (mark, rest) = match cursor.rest {
         [] => return Err(ImageNo::Short { at: cursor.at }),
         [b'd', rest @ ..] => (Mark::Dir, rest),
         [b'f', rest @ ..] => (Mark::File, rest),
+        [b'l', rest @ ..] if links => (Mark::Link, rest),
         [b'.', rest @ ..] => (Mark::End, rest),
         [_, ..] => return Err(ImageNo::Form { at: cursor.at }),
     };
@@ -60,7 +61,7 @@ pub fn mark(cursor: Cursor) -> Result<(Mark, Cursor), ImageNo>
 }
 
 /// Takes these bytes, each of which has to stand there.
-pub fn text<'a>(cursor: Cursor<'a>, bytes: &[u8]) -> Result<Cursor<'a>, ImageNo>
+fn text<'a>(cursor: Cursor<'a>, bytes: &[u8]) -> Result<Cursor<'a>, ImageNo>
     ensures { Gives seen result (text_at bytes.now (seen cursor.entry)) }
 {
     let mut after = cursor;
@@ -68,6 +69,36 @@ pub fn text<'a>(cursor: Cursor<'a>, bytes: &[u8]) -> Result<Cursor<'a>, ImageNo>
         after = fixed(after, *byte)?;
     }
     Ok(after)
+}
+
+/// Takes the `1` or `2` of the first line, and tells whether it is `2`.
+fn version(cursor: Cursor) -> Result<(bool, Cursor), ImageNo>
+    ensures { Gives (λ x. (x.0, seen x.1)) result (version_at (seen cursor.entry)) }
+{
+    let (links, rest) = match cursor.rest {
+        [] => return Err(ImageNo::Short { at: cursor.at }),
+        [b'1', rest @ ..] => (false, rest),
+        [b'2', rest @ ..] => (true, rest),
+        [_, ..] => return Err(ImageNo::Form { at: cursor.at }),
+    };
+    Ok((
+        links,
+        Cursor {
+            at: cursor.at + 1,
+            rest,
+        },
+    ))
+}
+
+/// Takes the first line, and tells whether it is that of an image with links.
+#[tactic(auto, unfolding(crate::specs::Parts::head_at))]
+pub fn head(cursor: Cursor) -> Result<(bool, Cursor), ImageNo>
+    ensures { Gives (λ x. (x.0, seen x.1)) result (head_at (seen cursor.entry)) }
+{
+    let cursor = text(cursor, b"EMTREE ")?;
+    let (links, cursor) = version(cursor)?;
+    let cursor = fixed(cursor, b'\n')?;
+    Ok((links, cursor))
 }
 
 /// The place of the first newline.

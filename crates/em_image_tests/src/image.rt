@@ -74,7 +74,7 @@ const FAULTS: [(&[u8], ImageNo); 18] = [
     (b"EMTREE 1\nf 0 0 /\n\n.\n", ImageNo::Parent { at: 15 }),
     (b"EMTREE 1\nd 0 /a\n.\n", ImageNo::Parent { at: 13 }),
     (b"EMTREE 1\nd 0 /\nd 0 /a/\n.\n", ImageNo::Path { at: 19 }),
-    (b"EMTREE 2\nd 0 /\n.\n", ImageNo::Form { at: 7 }),
+    (b"EMTREE 3\nd 0 /\n.\n", ImageNo::Form { at: 7 }),
     (b"EMTREE 1\n.\n", ImageNo::Form { at: 9 }),
     (
         b"EMTREE 1\nd 0 /\nl 0 1 /a\nb\n.\n",
@@ -195,7 +195,47 @@ fn check(rt: &impl Abort, alloc: Global, rows: &[(&[u8], &str)]) -> Result<(), F
     Ok(())
 }
 
-/// One of the twelve parts of the corpus.
+/// Images with symbolic links, whole and broken.
+static LINKS: [(&[u8], &str); 22] = [
+    (b"EMTREE 2\nd 0 /\nl 0 1 /l\na\n.\n", "ok"),
+    (b"EMTREE 2\nd 0 /\nl 9 11 /l\n/etc/passwd\n.\n", "ok"),
+    (
+        b"EMTREE 2\nd 0 /\nd 0 /d\nl 1 5 /d/l\n../\xff\x01\nf 1 0 /f\n\nl 2 1 /m\nl\n.\n",
+        "ok",
+    ),
+    (b"EMTREE 2\nd 0 /\n.\n", "Form at byte 15"),
+    (b"EMTREE 2\nd 0 /\nf 0 1 /l\nl\n.\n", "Form at byte 26"),
+    (b"EMTREE 2\nd 0 /\n.", "Form at byte 15"),
+    (b"EMTREE 2\n.\n", "Form at byte 9"),
+    (b"EMTREE 2 \nd 0 /\n.\n", "Form at byte 8"),
+    (b"EMTREE 2", "Short at byte 8"),
+    (b"EMTREE 12\nd 0 /\n.\n", "Form at byte 8"),
+    (b"EMTREE 1\nd 0 /\nl 0 0 /l\n\n.\n", "Form at byte 15"),
+    (b"EMTREE 2\nl 0 1 /\na\n.\n", "Parent at byte 15"),
+    (
+        b"EMTREE 2\nd 0 /\nl 0 1 /l\na\nd 0 /l/d\n.\n",
+        "Parent at byte 30",
+    ),
+    (
+        b"EMTREE 2\nd 0 /\nl 0 0 /l\n\n.\n",
+        "Limit(Link) at byte 19",
+    ),
+    (b"EMTREE 2\nd 0 /\nl 0 1025 l", "Limit(Link) at byte 19"),
+    (b"EMTREE 2\nd 0 /\nl 0 00 /l\n\n.\n", "Number at byte 19"),
+    (b"EMTREE 2\nd 0 /\nl 0 1024 /l\na\n", "Short at byte 29"),
+    (b"EMTREE 2\nd 0 /\nl 0 4 /l\na\n\0", "Short at byte 27"),
+    (b"EMTREE 2\nd 0 /\nl 0 3 /l\na\n\0\n.\n", "Form at byte 25"),
+    (b"EMTREE 2\nd 0 /\nl 0 3 /l\n\0\n\0\n.\n", "Form at byte 24"),
+    (b"EMTREE 2\nd 0 /\nl 0 1 /l\nab\n.\n", "Form at byte 25"),
+    (b"EMTREE 2\nd 0 /\nl 0 1 /l\na\n.\n\n", "Rest at byte 28"),
+];
+
+#[test]
+fn links_are_read_and_written_again(rt: HostRuntime) -> Result<(), Fail> {
+    check(&rt, rt.alloc(), &LINKS)
+}
+
+/// One of the nineteen parts of the corpus.
 fn part(number: u8) -> &'static [(&'static [u8], &'static str)] {
     match number {
         0 => &corpus::PART_0,
@@ -209,13 +249,20 @@ fn part(number: u8) -> &'static [(&'static [u8], &'static str)] {
         8 => &corpus::PART_8,
         9 => &corpus::PART_9,
         10 => &corpus::PART_10,
-        _ => &corpus::PART_11,
+        11 => &corpus::PART_11,
+        12 => &corpus::PART_12,
+        13 => &corpus::PART_13,
+        14 => &corpus::PART_14,
+        15 => &corpus::PART_15,
+        16 => &corpus::PART_16,
+        17 => &corpus::PART_17,
+        _ => &corpus::PART_18,
     }
 }
 
 #[test]
 fn the_corpus(rt: HostRuntime) -> Result<(), Fail> {
-    for number in 0..12 {
+    for number in 0..19 {
         check(&rt, rt.alloc(), part(number))?;
     }
     Ok(())

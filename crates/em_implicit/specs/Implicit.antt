@@ -1,5 +1,5 @@
 -- The pattern rule that is chosen for a target.
---     exists tree cwd name                  something stands at the name
+--     exists tree cwd name                  something stands at the name, behind the links on its way
 --     applies rules tree cwd r m            each prerequisite that the rule makes for the match exists or is mentioned
 --     candidates rules patterns tree cwd target      the matches with which the pattern rules apply: rule by rule, target pattern by target pattern
 --     shortest fs                           the one with the shortest stem, the first of equal ones
@@ -7,10 +7,10 @@
 --     offered rules patterns tree cwd target j k     the stem with which the pattern rule of number j matches by its target pattern of number k and applies
 use Rattle.std.specs.Prelude.{ℕ, ◌+◌, ◌&&◌, ◌||◌, nat_lt, Bool, true, false, List, [], ◌∷◌, ◌++◌, length, fold, slice_get, Option, Some, None, is_some, option_map, if◌then◌else◌}
 use Rattle.std.specs.List.{list_all}
-use Rattle.std.specs.FinMap.{get}
 use Rattle.em_path.specs.declared.path.PathNo.{PathNo}
 use Rattle.em_path.specs.Reading.{read_fault, resolved_text}
 use Rattle.em_tree.specs.Trees.{Table}
+use Rattle.em_tree.specs.Resolving.{node_behind}
 use Rattle.em_rules.specs.declared.rule.Rule.{Rule}
 use Rattle.em_rules.specs.Rules.{is_mentioned}
 use Rattle.em_implicit.specs.declared.seek.Found.{Found}
@@ -18,7 +18,7 @@ use Rattle.em_implicit.specs.Matches.{match_of, match_at, normal_of, order_of}
 
 -- a name that is no path is absent
 abbrev pub exists_by : Option PathNo → Table → List ℕ → List ℕ → Bool
-exists_by None tree cwd name = is_some (get tree (resolved_text cwd name))
+exists_by None tree cwd name = is_some (node_behind tree (resolved_text cwd name))
 exists_by (Some fault) tree cwd name = false
 
 abbrev pub exists : Table → List ℕ → List ℕ → Bool

@@ -19,13 +19,13 @@ pub(crate) struct Known<'a> {
     pub cwd: &'a Path,
 }
 
-/// Whether something stands at the name in the tree: the one place where this is asked. A name that
-/// is no path is absent.
+/// Whether something stands at the name in the tree, behind the links on its way: the one place
+/// where this is asked. A name that is no path is absent.
 fn exists(alloc: Global, tree: &Tree, cwd: &Path, name: &[u8]) -> Result<bool, NoMemory>
     ensures { IfOk result (λ b. b ≡ exists tree.now cwd.now name.now) }
 {
     match Path::read(alloc, cwd, name) {
-        Ok(path) => Ok(tree.get(&path).is_some()),
+        Ok(path) => Ok(tree.behind(&path)?.is_some()),
         Err(PathNo::NoMemory) => Err(NoMemory),
         Err(_) => Ok(false),
     }

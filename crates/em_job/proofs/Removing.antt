@@ -1,8 +1,9 @@
--- What a removal makes of the paths: it leaves all as they are, or its path is absent, and the
+-- What a removal makes of the paths where no link is seen: it leaves all as they are, or its path is absent, and the
 -- directory above it is stamped.
 --     IsGone q c d          changes c have become d so
 --     only_remove           a removal does no more
 --     kept_further          a target that is kept is kept behind a removal
+--     bare_further          where no link is seen none is seen behind a removal
 --     other_node            what stands elsewhere stays
 use Rattle.std.proofs.Common.{◌≡◌, ◌≢◌, ◌⊎◌, inl, inr, ◌∙◌, ◌+◌, ℕ, Bool, true, false, not, ◌||◌, cond, List, Option, Some, None, Result, Ok, Err, refl, sym, ap, subst}
 use Rattle.std.specs.FinMap.{get, insert}
@@ -14,12 +15,18 @@ use Rattle.em_tree.specs.declared.node.Kind.TheVariants as kind
 use Rattle.em_tree.specs.declared.node.Node.{Node}
 use Rattle.em_tree.specs.declared.node.Node.TheVariants.{Dir}
 use Rattle.em_tree.specs.declared.state.State.{State}
-use Rattle.em_tree.specs.Trees.{Table, Changes, kind_of, stamp_of, laid_over}
+use Rattle.em_tree.specs.Trees.{Table, Changes, kind_of, stamp_of, link_of, laid_over}
+use Rattle.em_tree.specs.declared.way.Led.{Led}
+use Rattle.em_tree.specs.declared.way.Way.TheVariants.{To}
+use Rattle.em_tree.specs.Resolving.{links_in, node_behind, node_at as table_at}
+use Rattle.em_tree.proofs.Resolving.{no_links, no_way_in}
 use Rattle.em_tree.proofs.Laying.{changed-here, changed-other}
 use Rattle.em_view.specs.declared.no.FileNo.{FileNo}
 use Rattle.em_view.specs.declared.no.DeskNo.{DeskNo}
-use Rattle.em_view.specs.Actions.{Workspace, Oracle, Action, ◌>>=◌, go_on, done, fail, ask, mine, ready}
-use Rattle.em_view.specs.Rows.{is_dir, kind_by, kind_below, told_names, amend, made_names, other_names, names_by, names_below, change_number, becomes, change, pay, refuse, names_refusal, take_away, remove_dir, remove_by, remove_under, remove}
+use Rattle.em_view.specs.Actions.{Workspace, Oracle, Action, ◌>>=◌, go_on, done, fail, ask, mine, ready, snapshot}
+use Rattle.em_view.specs.Rows.{is_dir, kind_by, kind_below, told_names, amend, made_names, other_names, names_by, names_below, change_number, becomes, change, pay, refuse, names_refusal, take_away, remove_dir, remove_by, remove_under, remove_from, remove}
+use Rattle.em_view.specs.Walking.{resolve, target_by, target}
+use Rattle.em_view.proofs.Leading.{leads_laid}
 use Rattle.em_view.specs.Steps.{Steps, and_then}
 use Rattle.em_view.proofs.Fitting.{laid_insert}
 use Rattle.em_expand.proofs.Sparing.{Spares, SparesAll, spares_then, spares_done, spares_spend}
@@ -78,66 +85,100 @@ refuse_spares (Some f) = record { by = λ o w. refl }
 abbrev pub IsGone : List ℕ → Changes → Changes → Type 0
 IsGone q c d = (d ≡ c) ⊎ ((above : List ℕ) × (parent_text q ≡ Some above) × ((n : ℕ) × (d ≡ becomes q None (Some above) n c)))
 
-pub record Only {E A : Type 0} (q : List ℕ) (m : Action E A) : Type 0 where
-  pub by : (o : Oracle) (w : Workspace) → IsGone q w.changes (m o w).1.changes
+-- no link is seen under the changes
+abbrev pub IsBare : State → Changes → Type 0
+IsBare s c = (r : List ℕ) → link_of (get (laid_over c s.tree) r) ≡ None
 
-pub record OnlyAll {S E A : Type 0} (q : List ℕ) (m : Steps S E A) : Type 0 where
-  pub at : (s : S) → Only q (m s)
+module _ (s : State) where
+  pub record Only {E A : Type 0} (q : List ℕ) (m : Action E A) : Type 0 where
+    pub by : (w : Workspace) → IsBare s w.changes → IsGone q w.changes (m (snapshot s) w).1.changes
 
-pub only_spares : {E A : Type 0} (q : List ℕ) {m : Action E A} → Spares m → Only q m
-only_spares q h = record { by = λ o w. inl (h.by o w) }
+  pub record OnlyAll {S E A : Type 0} (q : List ℕ) (m : Steps S E A) : Type 0 where
+    pub at : (x : S) → Only q (m x)
 
-module _ {E A B : Type 0} (q : List ℕ) where
-  went : (k : A → Action E B) → ((a : A) → Only q (k a)) → (r : Result A E) (v w : Workspace) (o : Oracle) → v.changes ≡ w.changes → IsGone q w.changes (go_on r v k o).1.changes
-  went k h (Ok a) v w o e = subst (λ (c : Changes). IsGone q c (k a o v).1.changes) e ((h a).by o v)
-  went k h (Err x) v w o e = inl e
+  pub only_spares : {E A : Type 0} (q : List ℕ) {m : Action E A} → Spares m → Only q m
+  only_spares q h = record { by = λ w bare. inl (h.by (snapshot s) w) }
 
-  pub only_then : {m : Action E A} {k : A → Action E B} → Spares m → ((a : A) → Only q (k a)) → Only q (m >>= k)
-  unfolding ◌>>=◌
-  only_then {m} {k} first h = record { by = λ o w. went k h (m o w).0 (m o w).1 w o (first.by o w) }
+  module _ {E A B : Type 0} (q : List ℕ) where
+    went : (k : A → Action E B) → ((a : A) → Only q (k a)) → (r : Result A E) (v w : Workspace) → v.changes ≡ w.changes → IsBare s w.changes → IsGone q w.changes (go_on r v k (snapshot s)).1.changes
+    went k h (Ok a) v w e bare = subst (λ (c : Changes). IsGone q c (k a (snapshot s) v).1.changes) e ((h a).by v (subst (IsBare s) (sym e) bare))
+    went k h (Err x) v w e bare = inl e
 
-  came : (k : A → Action E B) → ((a : A) → Spares (k a)) → (r : Result A E) (v w : Workspace) (o : Oracle) → IsGone q w.changes v.changes → IsGone q w.changes (go_on r v k o).1.changes
-  came k h (Ok a) v w o e = subst (λ (c : Changes). IsGone q w.changes c) (sym ((h a).by o v)) e
-  came k h (Err x) v w o e = e
+    pub only_then : {m : Action E A} {k : A → Action E B} → Spares m → ((a : A) → Only q (k a)) → Only q (m >>= k)
+    unfolding ◌>>=◌
+    only_then {m} {k} first h = record { by = λ w bare. went k h (m (snapshot s) w).0 (m (snapshot s) w).1 w (first.by (snapshot s) w) bare }
 
-  pub then_only : {m : Action E A} {k : A → Action E B} → Only q m → ((a : A) → Spares (k a)) → Only q (m >>= k)
-  unfolding ◌>>=◌
-  then_only {m} {k} first h = record { by = λ o w. came k h (m o w).0 (m o w).1 w o (first.by o w) }
+    -- where the first one gives this value
+    went_at : (k : A → Action E B) (a : A) → Only q (k a) → (r : Result A E) (v w : Workspace) → r ≡ Ok a → v.changes ≡ w.changes → IsBare s w.changes → IsGone q w.changes (go_on r v k (snapshot s)).1.changes
+    went_at k a h r v w is e bare = subst (λ (x : Result A E). IsGone q w.changes (go_on x v k (snapshot s)).1.changes) (sym is)
+        (subst (λ (c : Changes). IsGone q c (k a (snapshot s) v).1.changes) e (h.by v (subst (IsBare s) (sym e) bare)))
 
-module _ {S E A B : Type 0} (q : List ℕ) {m : Steps S E A} {k : A → Steps S E B} where
-  pub all_only : SparesAll m → ((a : A) → OnlyAll q (k a)) → OnlyAll q (and_then m k)
-  unfolding and_then
-  all_only first h = record { at = λ s. only_then q (first.at s) (λ a. (h a.0).at a.1) }
+    pub only_at_value : (m : Action E A) (k : A → Action E B) (a : A) → ((w : Workspace) → IsBare s w.changes → ((m (snapshot s) w).0 ≡ Ok a) × ((m (snapshot s) w).1.changes ≡ w.changes)) → Only q (k a) → Only q (m >>= k)
+    unfolding ◌>>=◌
+    only_at_value m k a first h = record { by = λ w bare. let f = first w bare in went_at k a h (m (snapshot s) w).0 (m (snapshot s) w).1 w f.0 f.1 bare }
 
-  pub only_all : OnlyAll q m → ((a : A) → SparesAll (k a)) → OnlyAll q (and_then m k)
-  unfolding and_then
-  only_all first h = record { at = λ s. then_only q (first.at s) (λ a. (h a.0).at a.1) }
+    came : (k : A → Action E B) → ((a : A) → Spares (k a)) → (r : Result A E) (v w : Workspace) → IsGone q w.changes v.changes → IsGone q w.changes (go_on r v k (snapshot s)).1.changes
+    came k h (Ok a) v w e = subst (λ (c : Changes). IsGone q w.changes c) (sym ((h a).by (snapshot s) v)) e
+    came k h (Err x) v w e = e
 
-only_fail : {A : Type 0} (q : List ℕ) (e : DeskNo) → let m : Action DeskNo A = fail e in Only q m
-unfolding fail
-only_fail q e = record { by = λ o w. inl refl }
+    pub then_only : {m : Action E A} {k : A → Action E B} → Only q m → ((a : A) → Spares (k a)) → Only q (m >>= k)
+    unfolding ◌>>=◌
+    then_only {m} {k} first h = record { by = λ w bare. came k h (m (snapshot s) w).0 (m (snapshot s) w).1 w (first.by w bare) }
 
-only_change : (q above : List ℕ) → parent_text q ≡ Some above → Only q (change q None (Some above))
-unfolding change
-only_change q above up = record { by = λ o w. inr (above, up, (change_number w.base w.job (w.count + 1), refl)) }
+  module _ {S E A B : Type 0} (q : List ℕ) {m : Steps S E A} {k : A → Steps S E B} where
+    pub all_only : SparesAll m → ((a : A) → OnlyAll q (k a)) → OnlyAll q (and_then m k)
+    unfolding and_then
+    all_only first h = record { at = λ x. only_then q (first.at x) (λ a. (h a.0).at a.1) }
 
-only_take : (q above : List ℕ) → parent_text q ≡ Some above → Only q (take_away q above)
-unfolding take_away pay
-only_take q above up = only_then q (spares_then (spares_spend 1) (λ u. spares_spend 0)) (λ u. only_change q above up)
+    pub only_all : OnlyAll q m → ((a : A) → SparesAll (k a)) → OnlyAll q (and_then m k)
+    unfolding and_then
+    only_all first h = record { at = λ x. then_only q (first.at x) (λ a. (h a.0).at a.1) }
 
-only_by : (k : Kind) (q above : List ℕ) → parent_text q ≡ Some above → Only q (remove_by k q above)
-unfolding remove_dir
-only_by kind.Absent q above up = only_fail q _
-only_by kind.File q above up = only_take q above up
-only_by kind.Dir q above up = only_then q (names_spares q) (λ ns. only_then q (refuse_spares (names_refusal ns)) (λ f. only_take q above up))
+  only_fail : {A : Type 0} (q : List ℕ) (e : DeskNo) → let m : Action DeskNo A = fail e in Only q m
+  unfolding fail
+  only_fail q e = record { by = λ w bare. inl refl }
 
-only_under : (o : Option (List ℕ)) (q : List ℕ) → parent_text q ≡ o → Only q (remove_under o q)
-only_under None q up = only_fail q _
-only_under (Some above) q up = only_then q (kind_spares q) (λ k. only_by k q above up)
+  only_change : (q above : List ℕ) → parent_text q ≡ Some above → Only q (change q None (Some above))
+  unfolding change
+  only_change q above up = record { by = λ w bare. inr (above, up, (change_number w.base w.job (w.count + 1), refl)) }
 
-pub only_remove : (q : List ℕ) → Only q (remove q)
-unfolding remove
-only_remove q = only_then q ready_spares (λ r. only_under (parent_text q) q refl)
+  only_take : (q above : List ℕ) (n : ℕ) → parent_text q ≡ Some above → Only q (take_away q above n)
+  unfolding take_away pay
+  only_take q above n up = only_then q (spares_then (spares_spend 1) (λ u. spares_spend n)) (λ u. only_change q above up)
+
+  only_by : (k : Kind) (q above : List ℕ) (n : ℕ) → parent_text q ≡ Some above → Only q (remove_by k q above n)
+  unfolding remove_dir
+  only_by kind.Absent q above n up = only_fail q _
+  only_by kind.File q above n up = only_take q above n up
+  only_by kind.Dir q above n up = only_then q (names_spares q) (λ ns. only_then q (refuse_spares (names_refusal ns)) (λ f. only_take q above n up))
+  only_by kind.Link q above n up = only_take q above n up
+
+  only_under : (o : Option (List ℕ)) (q : List ℕ) (n : ℕ) → parent_text q ≡ o → Only q (remove_under o q n)
+  only_under None q n up = only_fail q _
+  only_under (Some above) q n up = only_then q (kind_spares q) (λ k. only_by k q above n up)
+
+  -- without links a path is its own target
+  target_here : (q : List ℕ) (w : Workspace) → IsBare s w.changes → ((target false q (snapshot s) w).0 ≡ Ok (q, 0)) × ((target false q (snapshot s) w).1.changes ≡ w.changes)
+  unfolding target ◌>>=◌ done
+  target_here q w bare =
+      let led_it = leads_laid s w false q in
+      let at : (resolve false q (snapshot s) w).0 ≡ Ok (record { way = To q; followed = 0 }) = led_it.0 ∙ ap (λ (f : Led). (let r : Result Led DeskNo = Ok f in r)) (no_links (links_in (laid_over w.changes s.tree)) bare false q) in
+      by_result (resolve false q (snapshot s) w).0 (resolve false q (snapshot s) w).1 at (ap (λ (v : Workspace). v.changes) led_it.1)
+    where
+      follow : Led → Action DeskNo (List ℕ × ℕ)
+      follow f = target_by f.way >>= λ r. done (r, f.followed)
+
+      by_result : (r : Result Led DeskNo) (v : Workspace) → r ≡ Ok (record { way = To q; followed = 0 }) → v.changes ≡ w.changes
+          → ((go_on r v follow (snapshot s)).0 ≡ Ok (q, 0)) × ((go_on r v follow (snapshot s)).1.changes ≡ w.changes)
+      by_result r v is e = subst (λ (x : Result Led DeskNo). ((go_on x v follow (snapshot s)).0 ≡ Ok (q, 0)) × ((go_on x v follow (snapshot s)).1.changes ≡ w.changes)) (sym is) (refl, e)
+
+  only_from : (o : Option (List ℕ)) (q : List ℕ) → Only q (remove_from o q)
+  only_from None q = only_fail q _
+  only_from (Some above) q = only_at_value q (target false q) (λ t. remove_under (parent_text t.0) t.0 t.1) (q, 0) (target_here q) (only_under (parent_text q) q 0 refl)
+
+  pub only_remove : (q : List ℕ) → Only q (remove q)
+  unfolding remove
+  only_remove q = only_then q ready_spares (λ r. only_from (parent_text q) q)
 
 -- ---- what stands at the paths behind it
 
@@ -163,9 +204,9 @@ module _ (s : State) where
   abbrev is_left : Option ℕ → Option Node → Bool
   is_left before n = not (is_file (kind_of n)) || same_stamp (stamp_of n) before
 
-  left_further : (q : List ℕ) (c d : Changes) → IsGone q c d → (before : Option ℕ) (r : List ℕ) → is_left before (at_in c r) ≡ true → is_left before (at_in d r) ≡ true
-  left_further q c d (inl e) before r h = ap (λ (x : Changes). is_left before (at_in x r)) e ∙ h
-  left_further q c d (inr (above, up, (n, is))) before r h = ap (λ (x : Changes). is_left before (at_in x r)) is ∙ same_or r above (is_left before (at_in after r) ≡ true) stamped beside
+  further : (P : Option Node → Type 0) → P None → ((n : ℕ) → P (Some (Dir n))) → (q : List ℕ) (c d : Changes) → IsGone q c d → (r : List ℕ) → P (at_in c r) → P (at_in d r)
+  further P none dir q c d (inl e) r h = subst (λ (x : Changes). P (at_in x r)) (sym e) h
+  further P none dir q c d (inr (above, up, (n, is))) r h = subst (λ (x : Changes). P (at_in x r)) (sym is) (same_or r above (P (at_in after r)) stamped beside)
     where
       gone : Changes
       gone = insert c q None
@@ -173,20 +214,36 @@ module _ (s : State) where
       after : Changes
       after = insert gone above (Some (Dir n))
 
-      stamped : r ≡ above → is_left before (at_in after r) ≡ true
-      stamped e = ap (λ (x : List ℕ). is_left before (at_in after x)) e ∙ ap (is_left before) (here gone s.tree above (Some (Dir n)))
+      stamped : r ≡ above → P (at_in after r)
+      stamped e = subst P (sym (ap (at_in after) e ∙ here gone s.tree above (Some (Dir n)))) (dir n)
 
-      absent : r ≡ q → is_left before (at_in gone r) ≡ true
-      absent e = ap (λ (x : List ℕ). is_left before (at_in gone x)) e ∙ ap (is_left before) (here c s.tree q None)
+      absent : r ≡ q → P (at_in gone r)
+      absent e = subst P (sym (ap (at_in gone) e ∙ here c s.tree q None)) none
 
-      beside : r ≢ above → is_left before (at_in after r) ≡ true
-      beside other = ap (is_left before) (elsewhere gone s.tree above (Some (Dir n)) r other)
-          ∙ same_or r q (is_left before (at_in gone r) ≡ true) absent (λ isnt. ap (is_left before) (elsewhere c s.tree q None r isnt) ∙ h)
+      beside : r ≢ above → P (at_in after r)
+      beside other = subst P (sym (elsewhere gone s.tree above (Some (Dir n)) r other))
+          (same_or r q (P (at_in gone r)) absent (λ isnt. subst P (sym (elsewhere c s.tree q None r isnt)) h))
 
-  pub kept_further : (v w : Workspace) (x : Option (List ℕ)) → IsGoneFor x w.changes v.changes → (before : Option ℕ) (y : Option (List ℕ)) → is_kept_at s w before y ≡ true → is_kept_at s v before y ≡ true
-  kept_further v w x gone before None h = refl
-  kept_further v w None gone before (Some r) h = ap (λ (c : Changes). is_left before (at_in c r)) gone ∙ h
-  kept_further v w (Some q) gone before (Some r) h = left_further q w.changes v.changes gone before r h
+  bare_gone : (q : List ℕ) (c d : Changes) → IsGone q c d → IsBare s c → IsBare s d
+  bare_gone q c d gone bare r = further (λ n. link_of n ≡ None) refl (λ n. refl) q c d gone r (bare r)
+
+  pub bare_further : (x : Option (List ℕ)) (c d : Changes) → IsGoneFor x c d → IsBare s c → IsBare s d
+  bare_further None c d gone bare = subst (IsBare s) (sym gone) bare
+  bare_further (Some q) c d gone bare = bare_gone q c d gone bare
+
+  -- without links what is seen at a path stands there
+  seen_here : (c : Changes) (r : List ℕ) → IsBare s c → node_behind (laid_over c s.tree) r ≡ at_in c r
+  seen_here c r bare = ap (table_at (laid_over c s.tree)) (no_way_in (laid_over c s.tree) bare r)
+
+  left_further : (q : List ℕ) (c d : Changes) → IsGone q c d → (before : Option ℕ) (r : List ℕ) → is_left before (at_in c r) ≡ true → is_left before (at_in d r) ≡ true
+  left_further q c d gone before r h = further (λ n. is_left before n ≡ true) refl (λ n. refl) q c d gone r h
+
+  pub kept_further : (v w : Workspace) (x : Option (List ℕ)) → IsGoneFor x w.changes v.changes → IsBare s w.changes → (before : Option ℕ) (y : Option (List ℕ)) → is_kept_at s w before y ≡ true → is_kept_at s v before y ≡ true
+  kept_further v w x gone bare before None h = refl
+  kept_further v w None gone bare before (Some r) h = ap (λ (c : Changes). is_left before (node_behind (laid_over c s.tree) r)) gone ∙ h
+  kept_further v w (Some q) gone bare before (Some r) h =
+      ap (is_left before) (seen_here v.changes r (bare_gone q w.changes v.changes gone bare))
+      ∙ left_further q w.changes v.changes gone before r (ap (is_left before) (sym (seen_here w.changes r bare)) ∙ h)
 
   pub other_node : (v w : Workspace) (q : List ℕ) (x : Option (List ℕ)) → IsElsewhere q x → IsGoneFor x w.changes v.changes → node_at s v q ≡ node_at s w q
   other_node v w q None far gone = ap (λ (c : Changes). at_in c q) gone

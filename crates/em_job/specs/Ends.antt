@@ -3,7 +3,8 @@
 --     is_silent o         the same but for the last, of which a line is said
 --     AreUnforced ps      no line is marked `+`
 --     node_at s w p       what stands at a path for a job with these changes
---     is_kept ..          what a target says isn't deleted: the target is phony or no path, or no file stands there, or one with the stamp from before
+--     HasNoLinks s w      it sees no symbolic link
+--     is_kept ..          what a target says isn't deleted: the target is phony or no path, or no file stands there behind the links, or one with the stamp from before
 --     IsKeptAt q ..       what stands at q isn't touched for this target: it is kept, or stands neither at q nor in the directory q
 use Rattle.std.specs.Prelude.{◌≡◌, ◌≢◌, ◌⊎◌, ℕ, Bool, true, false, not, ◌||◌, List, All, Option, Some, None}
 use Rattle.std.specs.FinMap.{get}
@@ -14,7 +15,8 @@ use Rattle.em_tree.specs.declared.node.Node.{Node}
 use Rattle.em_tree.specs.declared.outcome.Outcome.{Outcome}
 use Rattle.em_tree.specs.declared.outcome.Outcome.TheVariants as outcome
 use Rattle.em_tree.specs.declared.state.State.{State}
-use Rattle.em_tree.specs.Trees.{laid_over, kind_of, stamp_of}
+use Rattle.em_tree.specs.Trees.{laid_over, kind_of, stamp_of, link_of}
+use Rattle.em_tree.specs.Resolving.{node_behind}
 use Rattle.em_view.specs.Actions.{Workspace}
 use Rattle.em_task.specs.declared.job.Job.{Job}
 use Rattle.em_job.specs.declared.prepare.Placed.{Placed}
@@ -36,13 +38,19 @@ AreUnforced ps = All (λ p. p.command.marks.forced ≡ false) ps
 abbrev pub node_at : State → Workspace → List ℕ → Option Node
 node_at s w p = get (laid_over w.changes s.tree) p
 
+abbrev pub node_seen : State → Workspace → List ℕ → Option Node
+node_seen s w p = node_behind (laid_over w.changes s.tree) p
+
+abbrev pub HasNoLinks : State → Workspace → Type 0
+HasNoLinks s w = (p : List ℕ) → link_of (node_at s w p) ≡ None
+
 abbrev pub is_file : Kind → Bool
 is_file kind.File = true
 is_file _ = false
 
 abbrev pub is_kept_at : State → Workspace → Option ℕ → Option (List ℕ) → Bool
 is_kept_at s w before None = true
-is_kept_at s w before (Some path) = not (is_file (kind_of (node_at s w path))) || same_stamp (stamp_of (node_at s w path)) before
+is_kept_at s w before (Some path) = not (is_file (kind_of (node_seen s w path))) || same_stamp (stamp_of (node_seen s w path)) before
 
 abbrev pub is_kept : State → Workspace → Job → List ℕ → Option ℕ → Bool
 is_kept s w j target before = is_phony j target || is_kept_at s w before (path_of j.cwd target)

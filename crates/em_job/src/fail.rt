@@ -94,6 +94,7 @@ fn delete_at<V: View>(
         Ok(Kind::File) => remove_changed(alloc, desk, spoken, target, before, place, path),
         Ok(Kind::Absent) => Ok(()),
         Ok(Kind::Dir) => Ok(()),
+        Ok(Kind::Link) => Ok(()),
         Err(e) => Err(of_desk(alloc, place, e)),
     }
 }

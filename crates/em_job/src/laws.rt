@@ -23,7 +23,7 @@ ghost use Rattle.em_job.specs.Carrying.{delete};
 ghost use Rattle.em_job.specs.Deciding.{is_phony};
 ghost use Rattle.em_job.specs.Effects.{Makes, begin, lines_on};
 ghost use Rattle.em_cmdline.specs.declared.order.Order.{Order};
-ghost use Rattle.em_job.specs.Ends.{is_idle, is_kept, is_silent, AreUnforced, IsKeptAt, node_at};
+ghost use Rattle.em_job.specs.Ends.{is_idle, is_kept, is_silent, AreUnforced, HasNoLinks, IsKeptAt, node_at};
 ghost use Rattle.em_job.specs.Making.{jobs_of};
 ghost use Rattle.em_plan.specs.declared.planned.PlanJob.{PlanJob};
 ghost use Rattle.em_rules.specs.declared.book.Book.{Book};
@@ -75,8 +75,9 @@ pub fn law_recipe()
 
 /// Where a line of its recipe failed, a job's targets are deleted under `.DELETE_ON_ERROR` alone,
 /// and never a phony one, nor a directory, nor a file whose stamp is the one from before the
-/// recipe. Nothing else is deleted: a path that is neither that of a target that goes nor the
-/// directory above one keeps what stands there.
+/// recipe, each as it stands behind the links. Nothing else is deleted where there are no links: a
+/// path that is neither that of a target that goes nor the directory above one keeps what stands
+/// there.
 pub fn law_deleted()
     ensures by_order { (j : Job) (befores : List (Option ℕ)) (p : Place) (said : Spoken)
         (o : Oracle) (w : Workspace) → j.delete_on_error ≡ false
@@ -88,7 +89,7 @@ pub fn law_deleted()
         (w : Workspace) → All (λ t. is_kept s w j t.0 t.1 ≡ true) (zip j.plan.targets befores)
         → (delete j befores p said (snapshot s) w).1.changes ≡ w.changes }
     ensures others { (j : Job) (befores : List (Option ℕ)) (p : Place) (said : Spoken) (s : State)
-        (w : Workspace) (q : List ℕ)
+        (w : Workspace) (q : List ℕ) → HasNoLinks s w
         → All (λ t. IsKeptAt q s w j t.0 t.1) (zip j.plan.targets befores)
         → node_at s (delete j befores p said (snapshot s) w).1 q ≡ node_at s w q }
 {}

@@ -28,8 +28,10 @@ fn keep(states: &mut Vec<State>, state: State) -> Result<(), Fail> {
 /// `/d` is listed, is then empty, and is a file at last.
 fn script(alloc: Global) -> Result<Vec<State>, Fail> {
     let mut states = Vec::new(alloc);
-    for image in [LISTED, LISTED, LISTED, EMPTY, EMPTY, FILE] {
-        keep(&mut states, state_of(alloc, image)?)?;
+    for (image, count) in [(LISTED, 6), (EMPTY, 7), (FILE, 1)] {
+        for _ in 0..count {
+            keep(&mut states, state_of(alloc, image)?)?;
+        }
     }
     Ok(states)
 }
@@ -74,6 +76,7 @@ fn listed(names: &[Text]) -> &'static str {
 /// The path that is asked for, and what is told of it.
 fn told(entry: &Entry) -> (&[u8], &'static str) {
     match (&entry.question, &entry.answer) {
+        (Question::Link(p), Answer::Link(None)) => (p.text(), "no link"),
         (Question::Stamp(p), Answer::Stamp(None)) => (p.text(), "no stamp"),
         (Question::Content(p), Answer::Content(None)) => (p.text(), "no bytes"),
         (Question::Names(p), Answer::Names(Some(names))) => (p.text(), listed(names.names())),
@@ -84,12 +87,20 @@ fn told(entry: &Entry) -> (&[u8], &'static str) {
     }
 }
 
-const TOLD: [(&str, &str); 6] = [
+const TOLD: [(&str, &str); 14] = [
+    ("/all", "no link"),
     ("/all", "no stamp"),
+    ("/d", "no link"),
     ("/d", "a directory"),
+    ("/d", "no link"),
     ("/d", "x"),
+    ("/d", "no link"),
+    ("/d/x", "no link"),
     ("/d/x", "no bytes"),
+    ("/d", "no link"),
+    ("/d/x", "no link"),
     ("/d/x", "nothing"),
+    ("/d", "no link"),
     ("/d", "a file"),
 ];
 
@@ -138,8 +149,8 @@ fn found(
 fn a_front_finds_where_a_run_was_told_otherwise(rt: HostRuntime) -> Result<(), Fail> {
     let run = run_of(rt.alloc())?;
     for (image, count, verdict) in [
-        (LISTED, 6, Verdict::Differ { place: 3 }),
-        (BARE, 6, Verdict::Differ { place: 1 }),
+        (LISTED, 14, Verdict::Differ { place: 8 }),
+        (BARE, 14, Verdict::Differ { place: 3 }),
         (LISTED, 2, Verdict::Strange { place: 2 }),
     ] {
         let found = found(rt.alloc(), image, &run, count)?;

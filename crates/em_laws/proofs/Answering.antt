@@ -16,7 +16,7 @@ use Rattle.em_path.specs.Paths.{IsPath, parent_text, last_of}
 use Rattle.em_tree.specs.declared.node.Kind.{Kind}
 use Rattle.em_tree.specs.declared.node.Kind.TheVariants as kind
 use Rattle.em_tree.specs.declared.node.Node.{Node}
-use Rattle.em_tree.specs.declared.node.Node.TheVariants.{File, Dir}
+use Rattle.em_tree.specs.declared.node.Node.TheVariants.{File, Dir, Link}
 use Rattle.em_tree.specs.declared.state.State.{State}
 use Rattle.em_tree.specs.Trees.{Table, Changes, IsTree, kind_of, laid_over}
 use Rattle.em_tree.specs.Names.{children_of, in_dir, names_of}
@@ -103,6 +103,7 @@ module _ (d : Changes) (p : List ℕ) (paths : (k : List ℕ) → IsSome (get d 
       by_kind : (k : Kind) → kind_of (get t p) ≡ k → IsListing p t (unwrap_or (in_dir k found) [])
       by_kind kind.Absent e = listing_of_none t p low (ap (λ (k : Kind). in_dir k found) e)
       by_kind kind.File e = listing_of_none t p low (ap (λ (k : Kind). in_dir k found) e)
+      by_kind kind.Link e = listing_of_none t p low (ap (λ (k : Kind). in_dir k found) e)
       by_kind kind.Dir e = listing_of_tree t p found low (ap (λ (k : Kind). in_dir k found) e) (IsNameList-names t p low)
 
   own_listing : (t : Table) → IsTree t → IsListing p (laid_over d t) (with_own d p (unwrap_or (names_of t p) []))
@@ -116,6 +117,7 @@ no_names : (k : Kind) (ns : List (List ℕ)) → k ≢ kind.Dir → in_dir k ns 
 no_names kind.Absent ns h = refl
 no_names kind.File ns h = refl
 no_names kind.Dir ns h = absurd (h refl)
+no_names kind.Link ns h = refl
 
 there_some : (o : Option Node) → kind_of o ≡ kind.Dir → IsSome o
 there_some None e = absurd cc
@@ -127,6 +129,7 @@ module _ (s : State) (d : Changes) (p : List ℕ) where
   none_by (Some None) h = refl
   none_by (Some (Some (File body stamp))) h = refl
   none_by (Some (Some (Dir stamp))) h = absurd (h refl)
+  none_by (Some (Some (Link text stamp))) h = refl
 
   pub names_true : IsTree s.tree → IsTree (laid_over d s.tree) → ((k : List ℕ) → IsSome (get d k) → IsPath k) → names_seen s d p ≡ names_of (laid_over d s.tree) p
   names_true low high paths = by_kind (kind_of (get (laid_over d s.tree) p)) refl
@@ -140,4 +143,5 @@ module _ (s : State) (d : Changes) (p : List ℕ) where
       by_kind : (k : Kind) → kind_of (get (laid_over d s.tree) p) ≡ k → names_seen s d p ≡ names_of (laid_over d s.tree) p
       by_kind kind.Absent e = other (λ dir. (let z : kind.Absent ≡ kind.Dir = sym e ∙ dir in cc))
       by_kind kind.File e = other (λ dir. (let z : kind.File ≡ kind.Dir = sym e ∙ dir in cc))
+      by_kind kind.Link e = other (λ dir. (let z : kind.Link ≡ kind.Dir = sym e ∙ dir in cc))
       by_kind kind.Dir e = own_names s d p e ∙ names_listed (laid_over d s.tree) p (with_own d p (unwrap_or (names_of s.tree p) [])) (high.paths p (there_some (get (laid_over d s.tree) p) e)) e (own_listing d p paths s.tree low)

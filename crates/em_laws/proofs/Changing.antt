@@ -1,5 +1,5 @@
 -- What the changes of a desk leave, on a state.
-use Rattle.std.proofs.Common.{◌≡◌, ◌≢◌, ◌⊎◌, inl, inr, ℕ, ◌+◌, true, false, List, length, Option, Some, None, Result, Ok, Err, refl, sym, ap, subst, ◌∙◌}
+use Rattle.std.proofs.Common.{◌≡◌, ◌≢◌, ◌⊎◌, inl, inr, ℕ, ◌+◌, Bool, true, false, List, length, Option, Some, None, Result, Ok, Err, refl, sym, ap, subst, ◌∙◌}
 use Rattle.std.specs.Prelude.{option_map, IsSome}
 use Rattle.std.specs.FinMap.{get, insert}
 use Rattle.std.specs.Ordering.{eq_by_cmp}
@@ -8,18 +8,22 @@ use Rattle.em_path.specs.Paths.{parent_text}
 use Rattle.em_tree.specs.declared.node.Kind.{Kind}
 use Rattle.em_tree.specs.declared.node.Kind.TheVariants as kind
 use Rattle.em_tree.specs.declared.node.Node.{Node}
-use Rattle.em_tree.specs.declared.node.Node.TheVariants.{File, Dir}
+use Rattle.em_tree.specs.declared.node.Node.TheVariants.{File, Dir, Link}
+use Rattle.em_tree.specs.declared.way.Way.{Way}
+use Rattle.em_tree.specs.declared.way.Way.TheVariants.{To, TooMany, Bad}
+use Rattle.em_tree.specs.declared.way.Led.{Led}
 use Rattle.em_tree.specs.declared.state.State.{State}
 use Rattle.em_tree.specs.Trees.{Table, Changes, IsTree, kind_of, stamp_of, content_of, laid_over}
 use Rattle.em_tree.proofs.Laying.{changed-here, changed-other}
 use Rattle.em_view.specs.declared.no.FileNo.{FileNo}
 use Rattle.em_view.specs.declared.no.DeskNo.{DeskNo}
 use Rattle.em_view.specs.Actions.{Workspace, snapshot, Action, go_on, ◌>>=◌, done, fail, spend, ready}
-use Rattle.em_view.specs.Rows.{blocks, kind_below, names_below, number, change_number, becomes, change, pay, refuse, look_by, look, put_refusal, dir_refusal, stamped, put, place, make_dir, names_refusal, take_away, remove_dir, remove_by, remove_under, remove}
+use Rattle.em_view.specs.Walking.{resolve, target_by, target}
+use Rattle.em_view.specs.Rows.{blocks, kind_below, names_below, number, change_number, becomes, change, pay, refuse, look_by, look, put_refusal, dir_refusal, stamped, put_at, put, place_at, place, make_dir_at, make_dir, names_refusal, take_away, remove_dir, remove_by, remove_under, remove_from, remove}
 use Rattle.em_view.proofs.Fitting.{laid_insert, not_above}
 use Rattle.em_laws.specs.Expanded.{names_seen}
-use Rattle.em_laws.specs.Nodes.{tree_seen, AreAlike, OthersStay}
-use Rattle.em_laws.proofs.Expanding.{Gives, gives_then, gives_done, gives_spend, gives_kind_below, gives_names_below, kind_there}
+use Rattle.em_laws.specs.Nodes.{AreAlike, OthersStay}
+use Rattle.em_laws.proofs.Expanding.{Gives, gives_then, gives_done, gives_spend, gives_kind_below, gives_names_below, kind_there, led_there, plainly, NoLinks, led_plain, gives_resolve}
 
 -- ---- one change, and the stamp of the directory above
 
@@ -27,10 +31,10 @@ module _ (d : Changes) (t : Table) where
   abbrev before : Table
   before = laid_over d t
 
-  here : (p : List ℕ) (c : Option Node) → get (laid_over (insert d p c) t) p ≡ c
+  pub here : (p : List ℕ) (c : Option Node) → get (laid_over (insert d p c) t) p ≡ c
   here p c = ap (λ (u : Table). get u p) (laid_insert d t p c) ∙ changed-here before p c
 
-  elsewhere : (p : List ℕ) (c : Option Node) (q : List ℕ) → q ≢ p → get (laid_over (insert d p c) t) q ≡ get before q
+  pub elsewhere : (p : List ℕ) (c : Option Node) (q : List ℕ) → q ≢ p → get (laid_over (insert d p c) t) q ≡ get before q
   elsewhere p c q h = ap (λ (u : Table). get u q) (laid_insert d t p c) ∙ changed-other before p c q (by_cases (eq_by_cmp order q p) (λ b. b ≡ false) (λ is. absurd (h (same_key q p is))) (λ _. refl))
 
 pub same_key_or : (q p : List ℕ) (P : Type 0) → (q ≡ p → P) → ((q ≡ p → ⊥) → P) → P
@@ -40,6 +44,7 @@ pub dir_alike : (a : Option Node) (n : ℕ) → kind_of a ≡ kind.Dir → AreAl
 dir_alike None n e = absurd cc
 dir_alike (Some (File body stamp)) n e = absurd cc
 dir_alike (Some (Dir stamp)) n e = (refl, refl)
+dir_alike (Some (Link text stamp)) n e = absurd cc
 
 pub alike_by : (a b : Option Node) → b ≡ a → AreAlike a b
 alike_by a b e = (ap kind_of (sym e), ap content_of (sym e))
@@ -117,6 +122,34 @@ module _ (s : State) (d : Changes) where
   unfolding change
   leaves_change p c above w same a e = (change_number w.base w.job (w.count + 1), ap (becomes p c above (change_number w.base w.job (w.count + 1))) same)
 
+  -- ---- where a change goes
+
+  gives_target_by : (last : Bool) (p : List ℕ) (y : Way) (n : ℕ) → led_there s d last p ≡ record { way = y; followed = n } → Gives s d {A = List ℕ × ℕ} (target_by y >>= (λ q. done (q, n))) (λ t. led_there s d last p ≡ record { way = To t.0; followed = t.1 })
+  unfolding ◌>>=◌ done fail
+  gives_target_by last p (To q) n e w same t f = (e ∙ ap (λ (z : List ℕ × ℕ). (let l : Led = record { way = To z.0; followed = z.1 } in l)) (let is : (q, n) ≡ t = cc in is), same)
+  gives_target_by last p TooMany n e w same t f = absurd cc
+  gives_target_by last p Bad n e w same t f = absurd cc
+
+  pub gives_target : (last : Bool) (p : List ℕ) → Gives s d (target last p) (λ t. led_there s d last p ≡ record { way = To t.0; followed = t.1 })
+  unfolding target
+  gives_target last p = gives_then s d (resolve last p) (λ f. f ≡ led_there s d last p) (λ f. target_by f.way >>= (λ q. done (q, f.followed))) (λ t. led_there s d last p ≡ record { way = To t.0; followed = t.1 })
+      (gives_resolve s d last p) (λ f is. gives_target_by last p f.way f.followed (sym is))
+
+  -- without links it goes where it was asked for
+  pub plain_target : (last : Bool) (p q : List ℕ) (n : ℕ) → led_there s d last p ≡ record { way = To q; followed = n } → led_there s d last p ≡ plainly s d p → (p ≡ q) × (0 ≡ n)
+  plain_target last p q n e f =
+      let is : plainly s d p ≡ record { way = To q; followed = n } = sym f ∙ e in
+      let way : To p ≡ To q = ap (λ (l : Led). l.way) is in
+      (cc, ap (λ (l : Led). l.followed) is)
+
+  leaves_target : {A : Type 0} (last : Bool) (p : List ℕ) (k : List ℕ → ℕ → Action DeskNo A) (R : Changes → Type 0) → led_there s d last p ≡ plainly s d p → Leaves (k p 0) R → Leaves (target last p >>= (λ t. k t.0 t.1)) R
+  leaves_target last p k R plain h = leaves_then (target last p) (λ t. led_there s d last p ≡ record { way = To t.0; followed = t.1 }) (λ t. k t.0 t.1) R (gives_target last p) (λ t e.
+      let at = plain_target last p t.0 t.1 e plain in
+      subst (λ (q : List ℕ). Leaves (k q t.1) R) at.0 (subst (λ (n : ℕ). Leaves (k p n) R) at.1 h))
+
+  pub leaves_at : {A : Type 0} (last : Bool) (p : List ℕ) (k : List ℕ → ℕ → Action DeskNo A) (R : Changes → Type 0) → led_there s d last p ≡ plainly s d p → Leaves (k p 0) R → Leaves (ready >>= (λ r. target last p >>= (λ t. k t.0 t.1))) R
+  leaves_at last p k R plain h = leaves_then ready (λ _. Unit {0}) (λ r. target last p >>= (λ t. k t.0 t.1)) R gives_ready (λ _ _. leaves_target last p k R plain h)
+
   -- ---- put and place
 
   pub no_dir : (k : Kind) (o : Option Kind) (n : ℕ) → put_refusal k o n ≡ None → (k ≢ kind.Dir) × ((a : Kind) → o ≡ Some a → a ≡ kind.Dir)
@@ -125,6 +158,12 @@ module _ (s : State) (d : Changes) where
   no_dir kind.Absent (Some kind.Absent) n e = absurd cc
   no_dir kind.Absent (Some kind.File) n e = absurd cc
   no_dir kind.Absent (Some kind.Dir) n e = (λ x. cc, λ a h. (let same : kind.Dir ≡ a = cc in sym same))
+  no_dir kind.Absent (Some kind.Link) n e = absurd cc
+  no_dir kind.Link (Some kind.Absent) n e = absurd cc
+  no_dir kind.Link (Some kind.File) n e = absurd cc
+  no_dir kind.Link (Some kind.Link) n e = absurd cc
+  no_dir kind.Link (Some kind.Dir) n e = (λ x. cc, λ a h. (let same : kind.Dir ≡ a = cc in sym same))
+  no_dir kind.File (Some kind.Link) n e = absurd cc
   no_dir kind.File (Some kind.Absent) n e = absurd cc
   no_dir kind.File (Some kind.File) n e = absurd cc
   no_dir kind.File (Some kind.Dir) n e = (λ x. cc, λ a h. (let same : kind.Dir ≡ a = cc in sym same))
@@ -137,29 +176,38 @@ module _ (s : State) (d : Changes) where
   stamped_by kind.Absent p = inr refl
   stamped_by kind.File p = inl refl
   stamped_by kind.Dir p = inl refl
+  stamped_by kind.Link p = inl refl
 
-  pub leaves_put : (p bytes : List ℕ) → Leaves (put p bytes) (Fresh p (λ node. content_of (Some node) ≡ Some bytes))
-  unfolding put
-  leaves_put p bytes =
+  put_left : (p : List ℕ) (m : ℕ) (bytes : List ℕ) → Leaves (put_at p m bytes) (Fresh p (λ node. content_of (Some node) ≡ Some bytes))
+  unfolding put_at
+  put_left p m bytes =
       let R = Fresh p (λ node. content_of (Some node) ≡ Some bytes) in
-      leaves_then ready (λ _. Unit {0}) (λ r. look p >>= (λ z. refuse (put_refusal z.0 z.1 (length bytes)) >>= (λ f. pay (blocks (length bytes)) >>= (λ u. number >>= (λ n. change p (Some (File bytes n)) (stamped z.0 (parent_text p))))))) R gives_ready (λ _ _.
-      leaves_then (look p) (λ z. z ≡ spot p) (λ z. refuse (put_refusal z.0 z.1 (length bytes)) >>= (λ f. pay (blocks (length bytes)) >>= (λ u. number >>= (λ n. change p (Some (File bytes n)) (stamped z.0 (parent_text p)))))) R (gives_look p) (λ z at.
-      leaves_then (refuse (put_refusal z.0 z.1 (length bytes))) (λ _. put_refusal z.0 z.1 (length bytes) ≡ None) (λ f. pay (blocks (length bytes)) >>= (λ u. number >>= (λ n. change p (Some (File bytes n)) (stamped z.0 (parent_text p))))) R (gives_refuse (put_refusal z.0 z.1 (length bytes))) (λ _ free.
-      leaves_then (pay (blocks (length bytes))) (λ _. Unit {0}) (λ u. number >>= (λ n. change p (Some (File bytes n)) (stamped z.0 (parent_text p)))) R (gives_pay (blocks (length bytes))) (λ _ _.
+      let units = blocks (length bytes) + m in
+      leaves_then (look p) (λ z. z ≡ spot p) (λ z. refuse (put_refusal z.0 z.1 (length bytes)) >>= (λ f. pay units >>= (λ u. number >>= (λ n. change p (Some (File bytes n)) (stamped z.0 (parent_text p)))))) R (gives_look p) (λ z at.
+      leaves_then (refuse (put_refusal z.0 z.1 (length bytes))) (λ _. put_refusal z.0 z.1 (length bytes) ≡ None) (λ f. pay units >>= (λ u. number >>= (λ n. change p (Some (File bytes n)) (stamped z.0 (parent_text p))))) R (gives_refuse (put_refusal z.0 z.1 (length bytes))) (λ _ free.
+      leaves_then (pay units) (λ _. Unit {0}) (λ u. number >>= (λ n. change p (Some (File bytes n)) (stamped z.0 (parent_text p)))) R (gives_pay units) (λ _ _.
       leaves_then number (λ _. Unit {0}) (λ n. change p (Some (File bytes n)) (stamped z.0 (parent_text p))) R gives_number (λ n _ w same a e.
       let c = leaves_change p (Some (File bytes n)) (stamped z.0 (parent_text p)) w same a e in
-      (File bytes n, refl, (stamped z.0 (parent_text p), c.0, c.1, stamped_by z.0 p), (length bytes, subst (λ (y : Spot). put_refusal y.0 y.1 (length bytes) ≡ None) at free)))))))
+      (File bytes n, refl, (stamped z.0 (parent_text p), c.0, c.1, stamped_by z.0 p), (length bytes, subst (λ (y : Spot). put_refusal y.0 y.1 (length bytes) ≡ None) at free))))))
 
-  pub leaves_place : (p bytes : List ℕ) (stamp : ℕ) → Leaves (place p bytes stamp) (Fresh p (λ node. (content_of (Some node) ≡ Some bytes) × (stamp_of (Some node) ≡ Some stamp)))
-  unfolding place
-  leaves_place p bytes stamp =
+  pub leaves_put : NoLinks s d → (p bytes : List ℕ) → Leaves (put p bytes) (Fresh p (λ node. content_of (Some node) ≡ Some bytes))
+  unfolding put
+  leaves_put none p bytes = leaves_at true p (λ q n. put_at q n bytes) (Fresh p (λ node. content_of (Some node) ≡ Some bytes)) (led_plain s d none true p) (put_left p 0 bytes)
+
+  place_left : (p : List ℕ) (m : ℕ) (bytes : List ℕ) (stamp : ℕ) → Leaves (place_at p m bytes stamp) (Fresh p (λ node. (content_of (Some node) ≡ Some bytes) × (stamp_of (Some node) ≡ Some stamp)))
+  unfolding place_at
+  place_left p m bytes stamp =
       let R = Fresh p (λ node. (content_of (Some node) ≡ Some bytes) × (stamp_of (Some node) ≡ Some stamp)) in
-      leaves_then ready (λ _. Unit {0}) (λ r. look p >>= (λ z. refuse (put_refusal z.0 z.1 (length bytes)) >>= (λ f. pay (blocks (length bytes)) >>= (λ u. change p (Some (File bytes stamp)) (parent_text p))))) R gives_ready (λ _ _.
-      leaves_then (look p) (λ z. z ≡ spot p) (λ z. refuse (put_refusal z.0 z.1 (length bytes)) >>= (λ f. pay (blocks (length bytes)) >>= (λ u. change p (Some (File bytes stamp)) (parent_text p)))) R (gives_look p) (λ z at.
-      leaves_then (refuse (put_refusal z.0 z.1 (length bytes))) (λ _. put_refusal z.0 z.1 (length bytes) ≡ None) (λ f. pay (blocks (length bytes)) >>= (λ u. change p (Some (File bytes stamp)) (parent_text p))) R (gives_refuse (put_refusal z.0 z.1 (length bytes))) (λ _ free.
-      leaves_then (pay (blocks (length bytes))) (λ _. Unit {0}) (λ u. change p (Some (File bytes stamp)) (parent_text p)) R (gives_pay (blocks (length bytes))) (λ _ _ w same a e.
+      let units = blocks (length bytes) + m in
+      leaves_then (look p) (λ z. z ≡ spot p) (λ z. refuse (put_refusal z.0 z.1 (length bytes)) >>= (λ f. pay units >>= (λ u. change p (Some (File bytes stamp)) (parent_text p)))) R (gives_look p) (λ z at.
+      leaves_then (refuse (put_refusal z.0 z.1 (length bytes))) (λ _. put_refusal z.0 z.1 (length bytes) ≡ None) (λ f. pay units >>= (λ u. change p (Some (File bytes stamp)) (parent_text p))) R (gives_refuse (put_refusal z.0 z.1 (length bytes))) (λ _ free.
+      leaves_then (pay units) (λ _. Unit {0}) (λ u. change p (Some (File bytes stamp)) (parent_text p)) R (gives_pay units) (λ _ _ w same a e.
       let c = leaves_change p (Some (File bytes stamp)) (parent_text p) w same a e in
-      (File bytes stamp, (refl, refl), (parent_text p, c.0, c.1, inr refl), (length bytes, subst (λ (y : Spot). put_refusal y.0 y.1 (length bytes) ≡ None) at free))))))
+      (File bytes stamp, (refl, refl), (parent_text p, c.0, c.1, inr refl), (length bytes, subst (λ (y : Spot). put_refusal y.0 y.1 (length bytes) ≡ None) at free)))))
+
+  pub leaves_place : NoLinks s d → (p bytes : List ℕ) (stamp : ℕ) → Leaves (place p bytes stamp) (Fresh p (λ node. (content_of (Some node) ≡ Some bytes) × (stamp_of (Some node) ≡ Some stamp)))
+  unfolding place
+  leaves_place none p bytes stamp = leaves_at false p (λ q n. place_at q n bytes stamp) (Fresh p (λ node. (content_of (Some node) ≡ Some bytes) × (stamp_of (Some node) ≡ Some stamp))) (led_plain s d none false p) (place_left p 0 bytes stamp)
 
   -- a directory above, of which nothing stands there but a directory
   is_above : (p : List ℕ) (o above : Option (List ℕ)) → o ≡ parent_text p → ((a : Kind) → option_map (kind_there s d) o ≡ Some a → a ≡ kind.Dir) → (above ≡ None) ⊎ (above ≡ o) → IsAbove tree p above
@@ -190,20 +238,25 @@ module _ (s : State) (d : Changes) where
   abbrev pub Made : List ℕ → Changes → Type 0
   Made p x = (n : ℕ) × (m : ℕ) × (x ≡ becomes p (Some (Dir m)) (parent_text p) n d) × (dir_refusal (kind_there s d p) (option_map (kind_there s d) (parent_text p)) ≡ None)
 
-  pub leaves_make : (p : List ℕ) → Leaves (make_dir p) (Made p)
-  unfolding make_dir
-  leaves_make p =
-      leaves_then ready (λ _. Unit {0}) (λ r. look p >>= (λ z. refuse (dir_refusal z.0 z.1) >>= (λ f. pay 0 >>= (λ u. number >>= (λ n. change p (Some (Dir n)) (parent_text p)))))) (Made p) gives_ready (λ _ _.
-      leaves_then (look p) (λ z. z ≡ spot p) (λ z. refuse (dir_refusal z.0 z.1) >>= (λ f. pay 0 >>= (λ u. number >>= (λ n. change p (Some (Dir n)) (parent_text p))))) (Made p) (gives_look p) (λ z at.
-      leaves_then (refuse (dir_refusal z.0 z.1)) (λ _. dir_refusal z.0 z.1 ≡ None) (λ f. pay 0 >>= (λ u. number >>= (λ n. change p (Some (Dir n)) (parent_text p)))) (Made p) (gives_refuse (dir_refusal z.0 z.1)) (λ _ free.
-      leaves_then (pay 0) (λ _. Unit {0}) (λ u. number >>= (λ n. change p (Some (Dir n)) (parent_text p))) (Made p) (gives_pay 0) (λ _ _.
+  make_left : (p : List ℕ) (m : ℕ) → Leaves (make_dir_at p m) (Made p)
+  unfolding make_dir_at
+  make_left p m =
+      leaves_then (look p) (λ z. z ≡ spot p) (λ z. refuse (dir_refusal z.0 z.1) >>= (λ f. pay m >>= (λ u. number >>= (λ n. change p (Some (Dir n)) (parent_text p))))) (Made p) (gives_look p) (λ z at.
+      leaves_then (refuse (dir_refusal z.0 z.1)) (λ _. dir_refusal z.0 z.1 ≡ None) (λ f. pay m >>= (λ u. number >>= (λ n. change p (Some (Dir n)) (parent_text p)))) (Made p) (gives_refuse (dir_refusal z.0 z.1)) (λ _ free.
+      leaves_then (pay m) (λ _. Unit {0}) (λ u. number >>= (λ n. change p (Some (Dir n)) (parent_text p))) (Made p) (gives_pay m) (λ _ _.
       leaves_then number (λ _. Unit {0}) (λ n. change p (Some (Dir n)) (parent_text p)) (Made p) gives_number (λ n _ w same a e.
       let c = leaves_change p (Some (Dir n)) (parent_text p) w same a e in
-      (c.0, n, c.1, subst (λ (y : Spot). dir_refusal y.0 y.1 ≡ None) at free))))))
+      (c.0, n, c.1, subst (λ (y : Spot). dir_refusal y.0 y.1 ≡ None) at free)))))
+
+  pub leaves_make : NoLinks s d → (p : List ℕ) → Leaves (make_dir p) (Made p)
+  unfolding make_dir
+  leaves_make none p = leaves_at false p make_dir_at (Made p) (led_plain s d none false p) (make_left p 0)
 
   pub was_absent : (k : Kind) (o : Option Kind) → dir_refusal k o ≡ None → (k ≡ kind.Absent) × ((a : Kind) → o ≡ Some a → a ≡ kind.Dir)
   was_absent kind.File o e = absurd cc
   was_absent kind.Dir o e = absurd cc
+  was_absent kind.Link o e = absurd cc
+  was_absent kind.Absent (Some kind.Link) e = absurd cc
   was_absent kind.Absent None e = absurd cc
   was_absent kind.Absent (Some kind.Absent) e = absurd cc
   was_absent kind.Absent (Some kind.File) e = absurd cc
@@ -219,30 +272,42 @@ module _ (s : State) (d : Changes) where
   abbrev pub Taken : List ℕ → List ℕ → Changes → Type 0
   Taken p above x = (n : ℕ) × (x ≡ becomes p None (Some above) n d)
 
-  pub leaves_take : (p above : List ℕ) → Leaves (take_away p above) (Taken p above)
+  pub leaves_take : (p above : List ℕ) (m : ℕ) → Leaves (take_away p above m) (Taken p above)
   unfolding take_away
-  leaves_take p above = leaves_then (pay 0) (λ _. Unit {0}) (λ u. change p None (Some above)) (Taken p above) (gives_pay 0) (λ _ _. leaves_change p None (Some above))
+  leaves_take p above m = leaves_then (pay m) (λ _. Unit {0}) (λ u. change p None (Some above)) (Taken p above) (gives_pay m) (λ _ _. leaves_change p None (Some above))
 
-  leaves_remove_by : (k : Kind) (p above : List ℕ) → Leaves (remove_by k p above) (λ x. Taken p above x × (k ≢ kind.Absent))
+  leaves_remove_by : (k : Kind) (p above : List ℕ) (m : ℕ) → Leaves (remove_by k p above m) (λ x. Taken p above x × (k ≢ kind.Absent))
   unfolding fail remove_dir
-  leaves_remove_by kind.Absent p above = λ w same a e. absurd cc
-  leaves_remove_by kind.File p above = λ w same a e. (leaves_take p above w same a e, λ x. cc)
-  leaves_remove_by kind.Dir p above =
-      leaves_then (names_below p) (λ ns. ns ≡ names_seen s d p) (λ ns. refuse (names_refusal ns) >>= (λ f. take_away p above)) (λ x. Taken p above x × (kind.Dir ≢ kind.Absent)) (gives_names_below s d p) (λ ns _.
-      leaves_then (refuse (names_refusal ns)) (λ _. names_refusal ns ≡ None) (λ f. take_away p above) (λ x. Taken p above x × (kind.Dir ≢ kind.Absent)) (gives_refuse (names_refusal ns)) (λ _ _ w same a e. (leaves_take p above w same a e, λ x. cc)))
+  leaves_remove_by kind.Absent p above m = λ w same a e. absurd cc
+  leaves_remove_by kind.File p above m = λ w same a e. (leaves_take p above m w same a e, λ x. cc)
+  leaves_remove_by kind.Link p above m = λ w same a e. (leaves_take p above m w same a e, λ x. cc)
+  leaves_remove_by kind.Dir p above m =
+      leaves_then (names_below p) (λ ns. ns ≡ names_seen s d p) (λ ns. refuse (names_refusal ns) >>= (λ f. take_away p above m)) (λ x. Taken p above x × (kind.Dir ≢ kind.Absent)) (gives_names_below s d p) (λ ns _.
+      leaves_then (refuse (names_refusal ns)) (λ _. names_refusal ns ≡ None) (λ f. take_away p above m) (λ x. Taken p above x × (kind.Dir ≢ kind.Absent)) (gives_refuse (names_refusal ns)) (λ _ _ w same a e. (leaves_take p above m w same a e, λ x. cc)))
 
   abbrev pub Removed : List ℕ → Changes → Type 0
   Removed p x = (above : List ℕ) × (parent_text p ≡ Some above) × Taken p above x × (kind_there s d p ≢ kind.Absent)
 
-  leaves_under : (p : List ℕ) (o : Option (List ℕ)) → parent_text p ≡ o → Leaves (remove_under o p) (Removed p)
+  leaves_under : (p : List ℕ) (m : ℕ) (o : Option (List ℕ)) → parent_text p ≡ o → Leaves (remove_under o p m) (Removed p)
   unfolding fail
-  leaves_under p None e = λ w same a f. absurd cc
-  leaves_under p (Some above) e = leaves_then (kind_below p) (λ k. k ≡ kind_there s d p) (λ k. remove_by k p above) (Removed p) (gives_kind_below s d p) (λ k is w same a f.
-      let r = leaves_remove_by k p above w same a f in (above, e, r.0, λ none. r.1 (is ∙ none)))
+  leaves_under p m None e = λ w same a f. absurd cc
+  leaves_under p m (Some above) e = leaves_then (kind_below p) (λ k. k ≡ kind_there s d p) (λ k. remove_by k p above m) (Removed p) (gives_kind_below s d p) (λ k is w same a f.
+      let r = leaves_remove_by k p above m w same a f in (above, e, r.0, λ none. r.1 (is ∙ none)))
 
-  pub leaves_remove : (p : List ℕ) → Leaves (remove p) (Removed p)
-  unfolding remove
-  leaves_remove p = leaves_then ready (λ _. Unit {0}) (λ r. remove_under (parent_text p) p) (Removed p) gives_ready (λ _ _. leaves_under p (parent_text p) refl)
+  -- where no directory above a path is a link
+  pub leaves_from : (R : Changes → Type 0) (p : List ℕ) → led_there s d false p ≡ plainly s d p → ((m : ℕ) → Leaves (remove_under (parent_text p) p m) R) → Leaves (remove p) R
+  unfolding remove fail
+  leaves_from R p plain h = leaves_then ready (λ _. Unit {0}) (λ r. remove_from (parent_text p) p) R gives_ready (λ _ _. by_parent (parent_text p))
+    where
+      by_parent : (o : Option (List ℕ)) → Leaves (remove_from o p) R
+      by_parent None = λ w same a f. absurd cc
+      by_parent (Some above) = leaves_target false p (λ q n. remove_under (parent_text q) q n) R plain (h 0)
+
+  pub leaves_remove_plain : (p : List ℕ) → led_there s d false p ≡ plainly s d p → Leaves (remove p) (Removed p)
+  leaves_remove_plain p plain = leaves_from (Removed p) p plain (λ m. leaves_under p m (parent_text p) refl)
+
+  pub leaves_remove : NoLinks s d → (p : List ℕ) → Leaves (remove p) (Removed p)
+  leaves_remove none p = leaves_remove_plain p (led_plain s d none false p)
 
   pub some_there : (a : Option Node) → kind_of a ≢ kind.Absent → IsSome a
   some_there None h = absurd (h refl)
@@ -255,39 +320,3 @@ module _ (s : State) (d : Changes) where
   pub removed_others : (p : List ℕ) (x : Changes) → IsTree tree → Removed p x → OthersStay p tree (laid_over x s.tree)
   removed_others p x whole (above, up, (n, is), there) =
       subst (λ (y : Changes). OthersStay p tree (laid_over y s.tree)) (sym is) (becomes_others s.tree d p None (Some above) n (up, whole.parents p above (some_there (get tree p) there) up))
-
--- ---- the laws
-
-module _ (s : State) (w : Workspace) where
-  put_told : (p bytes : List ℕ) → (put p bytes (snapshot s) w).0 ≡ Ok tt → (node : Node) × (content_of (Some node) ≡ Some bytes) × Effect s w.changes p (Some node) (put p bytes (snapshot s) w).1.changes × (kind_there s w.changes p ≢ kind.Dir)
-  put_told p bytes e = fresh_effect s w.changes p (λ node. content_of (Some node) ≡ Some bytes) (put p bytes (snapshot s) w).1.changes (leaves_put s w.changes p bytes w refl tt e)
-
-  pub put_bytes : (p bytes : List ℕ) → (put p bytes (snapshot s) w).0 ≡ Ok tt → (content_of (get (tree_seen s (put p bytes (snapshot s) w).1) p) ≡ Some bytes) × (kind_of (get (tree_seen s w) p) ≢ kind.Dir)
-  put_bytes p bytes e = let t = put_told p bytes e in (ap content_of t.2.now ∙ t.1, t.3)
-
-  pub put_others : (p bytes : List ℕ) → (put p bytes (snapshot s) w).0 ≡ Ok tt → OthersStay p (tree_seen s w) (tree_seen s (put p bytes (snapshot s) w).1)
-  put_others p bytes e = (put_told p bytes e).2.others
-
-  place_told : (p bytes : List ℕ) (stamp : ℕ) → (place p bytes stamp (snapshot s) w).0 ≡ Ok tt → (node : Node) × ((content_of (Some node) ≡ Some bytes) × (stamp_of (Some node) ≡ Some stamp)) × Effect s w.changes p (Some node) (place p bytes stamp (snapshot s) w).1.changes × (kind_there s w.changes p ≢ kind.Dir)
-  place_told p bytes stamp e = fresh_effect s w.changes p (λ node. (content_of (Some node) ≡ Some bytes) × (stamp_of (Some node) ≡ Some stamp)) (place p bytes stamp (snapshot s) w).1.changes (leaves_place s w.changes p bytes stamp w refl tt e)
-
-  pub placed : (p bytes : List ℕ) (stamp : ℕ) → (place p bytes stamp (snapshot s) w).0 ≡ Ok tt → (content_of (get (tree_seen s (place p bytes stamp (snapshot s) w).1) p) ≡ Some bytes) × (stamp_of (get (tree_seen s (place p bytes stamp (snapshot s) w).1) p) ≡ Some stamp)
-  placed p bytes stamp e = let t = place_told p bytes stamp e in (ap content_of t.2.now ∙ t.1.0, ap stamp_of t.2.now ∙ t.1.1)
-
-  pub placed_others : (p bytes : List ℕ) (stamp : ℕ) → (place p bytes stamp (snapshot s) w).0 ≡ Ok tt → OthersStay p (tree_seen s w) (tree_seen s (place p bytes stamp (snapshot s) w).1)
-  placed_others p bytes stamp e = (place_told p bytes stamp e).2.others
-
-  make_told : (p : List ℕ) → (make_dir p (snapshot s) w).0 ≡ Ok tt → (m : ℕ) × Effect s w.changes p (Some (Dir m)) (make_dir p (snapshot s) w).1.changes × (kind_there s w.changes p ≡ kind.Absent)
-  make_told p e = made_effect s w.changes p (make_dir p (snapshot s) w).1.changes (leaves_make s w.changes p w refl tt e)
-
-  pub made : (p : List ℕ) → (make_dir p (snapshot s) w).0 ≡ Ok tt → (kind_of (get (tree_seen s (make_dir p (snapshot s) w).1) p) ≡ kind.Dir) × (kind_of (get (tree_seen s w) p) ≡ kind.Absent)
-  made p e = let t = make_told p e in (ap kind_of t.1.now, t.2)
-
-  pub made_others : (p : List ℕ) → (make_dir p (snapshot s) w).0 ≡ Ok tt → OthersStay p (tree_seen s w) (tree_seen s (make_dir p (snapshot s) w).1)
-  made_others p e = (make_told p e).1.others
-
-  pub gone : (p : List ℕ) → (remove p (snapshot s) w).0 ≡ Ok tt → (get (tree_seen s (remove p (snapshot s) w).1) p ≡ None) × (kind_of (get (tree_seen s w) p) ≢ kind.Absent)
-  gone p e = removed_gone s w.changes p (remove p (snapshot s) w).1.changes (leaves_remove s w.changes p w refl tt e)
-
-  pub gone_others : (p : List ℕ) → IsTree (tree_seen s w) → (remove p (snapshot s) w).0 ≡ Ok tt → OthersStay p (tree_seen s w) (tree_seen s (remove p (snapshot s) w).1)
-  gone_others p whole e = removed_others s w.changes p (remove p (snapshot s) w).1.changes whole (leaves_remove s w.changes p w refl tt e)

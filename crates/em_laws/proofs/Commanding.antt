@@ -31,14 +31,15 @@ use Rattle.em_utility.specs.Options.{read_options}
 use Rattle.em_utility.specs.Writing.{nothing}
 use Rattle.em_utility.specs.Operands.{located, located_by, at, caught, each, left_by, command, Tries}
 use Rattle.em_fileutil.specs.Spots.{operand_by, operand_at, fault, child, is_within, begins_component, gives, ending, levels}
-use Rattle.em_fileutil.specs.Copying.{copy_node, copy_beneath, target_by, target_at, in_target, ends_with_dot, place_of, apart_by, destination}
+use Rattle.em_fileutil.specs.Copying.{copy_beneath, copy_top, target_by, target_at, in_target, ends_with_dot, place_of, apart_by, destination}
 use Rattle.em_fileutil.specs.Acts.{copy_operand, act_on, act_for}
 use Rattle.em_fileutil.specs.Table.{utility_of}
 use Rattle.em_fileutil.specs.Utilities.{copy_all, utility_by, utility}
 use Rattle.em_laws.specs.Files.{AreWhole, IsUnder, IsCopied, name_kept, target_of, target}
 use Rattle.em_laws.specs.Nodes.{tree_seen}
-use Rattle.em_laws.proofs.Expanding.{gives_kind, kind_there}
-use Rattle.em_laws.proofs.Filing.{DomainOf, at_gives, Operand}
+use Rattle.em_laws.proofs.Expanding.{gives_kind, kind_there, NoLinks}
+use Rattle.em_laws.proofs.Going.{DomainOf, Operand}
+use Rattle.em_laws.proofs.Filing.{at_gives}
 use Rattle.em_laws.proofs.Copying.{Manner, IsTreeCopy, Names, Rises, rises_then, rises_at, rises_gives, rises_each, rises_ending, rises_node, rises_beneath, GivesZ, LeavesZ, then_gz, then_z, given_z, gives_z, caught_z, ending_z, limits, within_limits, Good, CopiedTree, node_z, beneath_z, apart_paths, as_copied}
 
 abbrev Target : Type 0
@@ -51,6 +52,7 @@ abbrev is_dir : Kind → Bool
 is_dir kind.Dir = true
 is_dir kind.File = false
 is_dir kind.Absent = false
+is_dir kind.Link = false
 
 -- ---- the path of an operand
 
@@ -98,6 +100,7 @@ copies_as how cwd from to = (_, (λ t o. refl), refl)
 aimed_by : (o : Operand) (k : Kind) (t : Target) → target_by false o k ≡ Ok t → (t.operand ≡ o) × (t.is_dir ≡ is_dir k)
 aimed_by o kind.Dir t e = (let is : (record { operand = o; is_dir = true }) ≡ t = cc in (ap (λ (z : Target). z.operand) (sym is), ap (λ (z : Target). z.is_dir) (sym is)))
 aimed_by o kind.File t e = (let is : (record { operand = o; is_dir = false }) ≡ t = cc in (ap (λ (z : Target). z.operand) (sym is), ap (λ (z : Target). z.is_dir) (sym is)))
+aimed_by o kind.Link t e = (let is : (record { operand = o; is_dir = false }) ≡ t = cc in (ap (λ (z : Target). z.operand) (sym is), ap (λ (z : Target). z.is_dir) (sym is)))
 aimed_by o kind.Absent t e = (let is : (record { operand = o; is_dir = false }) ≡ t = cc in (ap (λ (z : Target). z.operand) (sym is), ap (λ (z : Target). z.is_dir) (sym is)))
 
 abbrev placed_in : Target → Operand → Bool → Bool → Option (List ℕ) → Result Operand OperandNo
@@ -127,13 +130,13 @@ module _ (s : State) (cwd : List ℕ) (home : IsPath cwd) where
     is_path : IsPath (resolved_text cwd to)
     dir : t.is_dir ≡ is_dir (kind_there s d (resolved_text cwd to))
 
-  target_z : (d : Changes) (to : List ℕ) → GivesZ s d (target_at cwd false to) (λ t z. Aimed d to t × (z ≡ d))
+  target_z : (d : Changes) → NoLinks s d → (to : List ℕ) → GivesZ s d (target_at cwd false to) (λ t z. Aimed d to t × (z ≡ d))
   unfolding target_at
-  target_z d to =
+  target_z d none to =
       let Q = λ (t : Target) (z : Changes). Aimed d to t × (z ≡ d) in
       then_gz s d (gives (operand_at cwd to)) (λ o z. (operand_at cwd to ≡ Ok o) × (z ≡ d)) (λ o. and_then (at o.name (kind_at o.path)) (λ k. gives (target_by false o k))) Q (gives_z s d (operand_at cwd to)) (λ o z first.
       then_gz s z (at o.name (kind_at o.path)) (λ k y. (k ≡ kind_there s z o.path) × (y ≡ z)) (λ k. gives (target_by false o k)) Q
-      (given_z s z (at o.name (kind_at o.path)) (λ k. k ≡ kind_there s z o.path) (at_gives s z o.name (kind_at o.path) (λ k. k ≡ kind_there s z o.path) (gives_kind s z o.path))) (λ k y second x w same r e clean.
+      (given_z s z (at o.name (kind_at o.path)) (λ k. k ≡ kind_there s z o.path) (at_gives s z o.name (kind_at o.path) (λ k. k ≡ kind_there s z o.path) (gives_kind s z (subst (NoLinks s) (sym first.1) none) o.path))) (λ k y second x w same r e clean.
       let l = located_path cwd to o home first.0 in
       let got = gives_z s y (target_by false o k) x w same r e clean in
       let a = aimed_by o k r.0 got.0 in (
@@ -170,6 +173,7 @@ module _ (s : State) (cwd : List ℕ) (home : IsPath cwd) where
       by_kind kind.Dir is false None last e = absurd (let f : placed_in t a true false None ≡ Ok b = ap (λ x. placed_in t a x false None) (sym is) ∙ e in cc)
       by_kind kind.Dir is false (Some name) last e = inside name last (ap (λ x. placed_in t a x false (Some name)) (sym is) ∙ e)
       by_kind kind.File is dot o last e = stays (ap (λ x. placed_in t a x dot o) (sym is) ∙ e)
+      by_kind kind.Link is dot o last e = stays (ap (λ x. placed_in t a x dot o) (sym is) ∙ e)
       by_kind kind.Absent is dot o last e = stays (ap (λ x. placed_in t a x dot o) (sym is) ∙ e)
 
   -- ---- the command
@@ -188,10 +192,10 @@ module _ (s : State) (cwd : List ℕ) (home : IsPath cwd) where
     deeper = copy_beneath (codes "cp") how levels
 
     abbrev copies : Operand → Operand → Tries
-    copies a b = copy_node (codes "cp") deeper how a b
+    copies a b = copy_top (codes "cp") deeper how a b
 
     rises_copies : (a b : Operand) → Rises (copies a b)
-    rises_copies a b = rises_node (codes "cp") how tree deeper a b (rises_beneath (codes "cp") how tree levels)
+    rises_copies a b = subst (λ (m : Tries). Rises m) (sym (tree.top (codes "cp") deeper a b)) (rises_node (codes "cp") how tree deeper a b (rises_beneath (codes "cp") how tree levels))
 
     node_copied : (t : Target) (a b : Operand) → Aimed d to t → (IsUnder goal p → ⊥) → operand_at cwd from ≡ Ok a → destination t a ≡ Ok b → LeavesZ s d (copies a b) R
     node_copied t a b aim not_over is_a is_b =
@@ -202,9 +206,10 @@ module _ (s : State) (cwd : List ℕ) (home : IsPath cwd) where
         ∙ ap (λ (z : List ℕ). target_of (kind_there s d (resolved_text cwd to)) (name_kept z (last_of p)) (resolved_text cwd to)) (named_so cwd from a is_a) in
         let is_goal : IsPath goal = subst IsPath there placed.1 in
         let isnt : is_within p goal ≡ false = ap (λ (z : List ℕ). is_within z goal) (sym l.0) ∙ ap (is_within a.path) (sym there) ∙ settled.0 in
-        node_z s low (codes "cp") how tree deeper (rises_beneath (codes "cp") how tree levels) (beneath_z s low (codes "cp") how tree levels) a b (components p) (components goal) (l.0 ∙ l.1.spelled) (there ∙ is_goal.spelled)
+        subst (λ (m : Tries). LeavesZ s d m R) (sym (tree.top (codes "cp") deeper a b))
+        (node_z s low (codes "cp") how tree deeper (rises_beneath (codes "cp") how tree levels) (beneath_z s low (codes "cp") how tree levels) a b (components p) (components goal) (l.0 ∙ l.1.spelled) (there ∙ is_goal.spelled)
         (recursion_from_All IsComponent (components p) l.1.names) (recursion_from_All IsComponent (components goal) is_goal.names) (subst IsPath is_goal.spelled is_goal)
-        (apart_paths p goal l.1 is_goal (λ under. (let is = within_under p goal l.1 under in cc)) not_over) d good
+        (apart_paths p goal l.1 is_goal (λ under. (let is = within_under p goal l.1 under in cc)) not_over) d good)
 
     act_z : (what : Act) (t : Target) → ((o : Operand) → act_on (codes "cp") what o ≡ copy_operand (codes "cp") how t o) → Aimed d to t → (IsUnder goal p → ⊥) → LeavesZ s d (act_for (codes "cp") what cwd from) R
     unfolding act_for copy_operand
@@ -229,7 +234,7 @@ module _ (s : State) (cwd : List ℕ) (home : IsPath cwd) where
     all_z not_over =
         let c = copies_as how cwd from to in
         let one = λ (t : Target). ending (each (codes "cp") (act_for (codes "cp") (c.0 t) cwd) (from ∷ [])) in
-        subst (λ (m : Tries). LeavesZ s d m R) (sym c.2) (then_z s d (target_at cwd false to) (λ t z. Aimed d to t × (z ≡ d)) one R (target_z d to)
+        subst (λ (m : Tries). LeavesZ s d m R) (sym c.2) (then_z s d (target_at cwd false to) (λ t z. Aimed d to t × (z ≡ d)) one R (target_z d good.2 to)
         (λ t z aim. subst (λ (v : Changes). LeavesZ s v (one t) R) (sym aim.1) (one_z (act_for (codes "cp") (c.0 t) cwd) d (act_z (c.0 t) t (c.1 t) aim.0 not_over)))
         (λ t. rises_ending (each (codes "cp") (act_for (codes "cp") (c.0 t) cwd) (from ∷ [])) (rises_each (codes "cp") (act_for (codes "cp") (c.0 t) cwd) (from ∷ []) (rises_act (c.0 t) t (c.1 t)))))
 
@@ -248,9 +253,9 @@ runs how cwd from to = command (caught (codes "cp") (copy_all (codes "cp") how c
 
 runs_as : (cwd from to : List ℕ) → (how : Manner) × IsTreeCopy how × (utility (words from to) cwd ≡ runs how cwd from to)
 unfolding utility_of utility_by read_options done ◌>>=◌
-runs_as cwd from to = (_, record { deep = refl; files = λ a b. refl; stays = λ a. refl }, refl)
+runs_as cwd from to = (_, record { deep = refl; files = λ a b. refl; stays = λ a. refl; top = λ u deeper a b. refl }, refl)
 
-module _ (s : State) (w : Workspace) (cwd from to : List ℕ) where
+module _ (s : State) (w : Workspace) (none : NoLinks s w.changes) (cwd from to : List ℕ) where
   abbrev running : Result (Option Done) ExecNo × Workspace
   running = utility (words from to) cwd (snapshot s) w
 
@@ -269,5 +274,5 @@ module _ (s : State) (w : Workspace) (cwd from to : List ℕ) where
       let how = run.0 in
       let R = λ (x : Changes). CopiedTree s low w.changes x (components (resolved_text cwd from)) (components (target s w cwd from to)) in
       let done_by = subst (λ (m : Action ExecNo (Option Done)). (m (snapshot s) w).0 ≡ Ok (Some d)) run.2 e in
-      let z = ended how d done_by clean R (all_z s cwd home low how run.1 w.changes (whole, paths) from to not_over) in
+      let z = ended how d done_by clean R (all_z s cwd home low how run.1 w.changes (whole, paths, none) from to not_over) in
       as_copied s low w.changes running.1.changes (resolved_text cwd from) (target s w cwd from to) (subst (λ (m : Action ExecNo (Option Done)). R (m (snapshot s) w).1.changes) (sym run.2) z)

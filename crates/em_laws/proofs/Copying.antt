@@ -16,7 +16,7 @@ use Rattle.em_path.proofs.Spelling.{IsPath-spelled}
 use Rattle.em_tree.specs.declared.node.Kind.{Kind}
 use Rattle.em_tree.specs.declared.node.Kind.TheVariants as kind
 use Rattle.em_tree.specs.declared.node.Node.{Node}
-use Rattle.em_tree.specs.declared.node.Node.TheVariants.{File, Dir}
+use Rattle.em_tree.specs.declared.node.Node.TheVariants.{File, Dir, Link}
 use Rattle.em_tree.specs.declared.state.State.{State}
 use Rattle.em_tree.specs.Trees.{Table, Changes, IsTree, kind_of, content_of, laid_over}
 use Rattle.em_view.specs.declared.no.DeskNo.{DeskNo}
@@ -25,7 +25,7 @@ use Rattle.em_view.specs.declared.done.Done.{Done}
 use Rattle.em_view.specs.declared.done.ExecNo.{ExecNo}
 use Rattle.em_view.specs.Actions.{Workspace, Oracle, snapshot, Action, go_on, ◌>>=◌, renamed}
 use Rattle.em_view.specs.Held.{NamesPaths}
-use Rattle.em_view.specs.Rows.{becomes, put_refusal, dir_refusal, kind_at, names, make_dir, content, put}
+use Rattle.em_view.specs.Rows.{becomes, put_refusal, dir_refusal, kind_at, link_at, names, make_dir, make_link, remove, content, put}
 use Rattle.em_view.specs.Steps.{Steps, with_state, and_then, own, below, within, with_part}
 use Rattle.em_view.specs.Steps as steps
 use Rattle.em_view.proofs.Fitting.{tree_put, paths_becomes}
@@ -37,13 +37,15 @@ use Rattle.em_utility.specs.Reasons.{status_for}
 use Rattle.em_utility.specs.Operands.{refused, at, settled, caught, each, Tries}
 use Rattle.em_fileutil.specs.Spots.{told, child_by, child, gives, there_by, there, new_done, ending, levels}
 use Rattle.em_fileutil.specs.Making.{make_by, make_missing, make_under, make_all, make_directory}
-use Rattle.em_fileutil.specs.Copying.{copy_file, copy_child, leave_source, copy_tree, copy_as_file, recurs, copy_by, copy_node, copy_beneath}
+use Rattle.em_fileutil.specs.Linking.{clear_by, clear_other, clear_past, clear}
+use Rattle.em_fileutil.specs.Copying.{copy_file, copy_child, leave_source, copy_tree, copy_as_file, recurs, copy_by, copy_node, copy_link, copy_past, copy_linked, copy_beneath, copy_top}
 use Rattle.em_laws.specs.Expanded.{names_seen}
 use Rattle.em_laws.specs.Files.{under, IsUnder, IsOver, IsCopied}
 use Rattle.em_laws.specs.Nodes.{tree_seen, AreAlike, OthersStay}
-use Rattle.em_laws.proofs.Expanding.{gives_kind, gives_names, kind_there}
+use Rattle.em_laws.proofs.Expanding.{gives_kind, gives_link, gives_names, kind_there, node_there, NoLinks}
 use Rattle.em_laws.proofs.Changing.{same_key_or, Fresh, fresh_effect, no_dir, Made, leaves_make, made_effect, was_absent}
-use Rattle.em_laws.proofs.Filing.{DomainOf, GivesS, LeavesS, then_s, seq_s, at_gives, at_leaves, there_gives, node_there, Operand, operand, HasBytes, Copied, copies}
+use Rattle.em_laws.proofs.Going.{DomainOf, Operand, becomes_plain, no_link}
+use Rattle.em_laws.proofs.Filing.{GivesS, LeavesS, then_s, seq_s, at_gives, at_leaves, there_gives, operand, HasBytes, Copied, copies}
 use Rattle.em_laws.proofs.Listing.{In, own_list, own_components, own_has}
 use Rattle.em_laws.proofs.Making.{own_names}
 
@@ -132,6 +134,7 @@ pub some_kind : (a : Option Node) → IsSome a → kind_of a ≢ kind.Absent
 some_kind None h e = cc
 some_kind (Some (File body stamp)) h e = cc
 some_kind (Some (Dir stamp)) h e = cc
+some_kind (Some (Link text stamp)) h e = cc
 
 module _ (t : Table) (h : IsTree t) where
   abbrev Stands : Names → Type 0
@@ -167,6 +170,8 @@ alike_some a b h i = kind_some b (λ e. some_kind a i (h.0 ∙ e))
 dirs_alike : (a b : Option Node) → kind_of a ≡ kind.Dir → kind_of b ≡ kind.Dir → AreAlike a b
 dirs_alike None b e f = absurd cc
 dirs_alike (Some (File body stamp)) b e f = absurd cc
+dirs_alike (Some (Link text stamp)) b e f = absurd cc
+dirs_alike (Some (Dir stamp)) (Some (Link text number)) e f = absurd cc
 dirs_alike (Some (Dir stamp)) None e f = absurd cc
 dirs_alike (Some (Dir stamp)) (Some (File body number)) e f = absurd cc
 dirs_alike (Some (Dir stamp)) (Some (Dir number)) e f = (refl, refl)
@@ -175,6 +180,7 @@ file_of : (a : Option Node) (bytes : List ℕ) → content_of a ≡ Some bytes �
 file_of None bytes e = absurd cc
 file_of (Some (File body stamp)) bytes e = refl
 file_of (Some (Dir stamp)) bytes e = absurd cc
+file_of (Some (Link text stamp)) bytes e = absurd cc
 
 -- ---- statuses never fall
 
@@ -247,6 +253,8 @@ pub record IsTreeCopy (how : Manner) : Type 0 where
   pub deep : recurs how ≡ true
   pub files : (a b : Operand) → copy_as_file how a b ≡ copy_file a b
   pub stays : (a : Operand) → leave_source how a ≡ steps.done tt
+  -- a link that the command names is followed
+  pub top : (utility : List ℕ) (deeper : Operand → Operand → Tries) (a b : Operand) → copy_top utility deeper how a b ≡ copy_node utility deeper how a b
 
 module _ (utility : List ℕ) (how : Manner) (tree : IsTreeCopy how) where
   rises_child : (deeper : Operand → Operand → Tries) (a b : Operand) (c : List ℕ) → ((a b : Operand) → Rises (deeper a b)) → Rises (copy_child deeper a b c)
@@ -258,6 +266,7 @@ module _ (utility : List ℕ) (how : Manner) (tree : IsTreeCopy how) where
   rises_make kind.Absent name p = rises_at name (make_dir p)
   rises_make kind.File name p = rises_refuse (Fault name (reason.File file.NotDir))
   rises_make kind.Dir name p = rises_done tt
+  rises_make kind.Link name p = rises_done tt
 
   rises_missing : (name p : List ℕ) → Rises (make_missing name p)
   unfolding make_missing
@@ -279,6 +288,7 @@ module _ (utility : List ℕ) (how : Manner) (tree : IsTreeCopy how) where
 
   rises_by : (deeper : Operand → Operand → Tries) (a b : Operand) (k : Kind) → ((a b : Operand) → Rises (deeper a b)) → Rises (copy_by utility deeper how a b k)
   rises_by deeper a b kind.Absent h = rises_refuse (told a file.Absent)
+  rises_by deeper a b kind.Link h = rises_refuse (told a file.Absent)
   rises_by deeper a b kind.File h = subst (λ (m : Tries). Rises m) (sym (tree.files a b)) (rises_file a b)
   rises_by deeper a b kind.Dir h = subst (λ (t : Bool). Rises (cond t (copy_tree utility deeper how a b) (steps.refuse (told a file.IsDir)))) (sym tree.deep) (rises_tree deeper a b h)
 
@@ -286,10 +296,36 @@ module _ (utility : List ℕ) (how : Manner) (tree : IsTreeCopy how) where
   unfolding copy_node
   rises_node deeper a b h = rises_then (at a.name (kind_at a.path)) (λ k. copy_by utility deeper how a b k) (rises_at a.name (kind_at a.path)) (λ k. rises_by deeper a b k h)
 
+  rises_clear_by : (b : Operand) (k : Kind) → Rises (clear_by b k)
+  rises_clear_by b kind.File = rises_at b.name (remove b.path)
+  rises_clear_by b kind.Absent = rises_done tt
+  rises_clear_by b kind.Dir = rises_done tt
+  rises_clear_by b kind.Link = rises_done tt
+
+  rises_clear_past : (b : Operand) (l : Option (List ℕ)) → Rises (clear_past b l)
+  unfolding clear_other
+  rises_clear_past b (Some text) = rises_at b.name (remove b.path)
+  rises_clear_past b None = rises_then (at b.name (kind_at b.path)) (λ k. clear_by b k) (rises_at b.name (kind_at b.path)) (λ k. rises_clear_by b k)
+
+  rises_clear : (b : Operand) → Rises (clear b)
+  unfolding clear
+  rises_clear b = rises_then (at b.name (link_at b.path)) (λ l. clear_past b l) (rises_at b.name (link_at b.path)) (λ l. rises_clear_past b l)
+
+  rises_past : (deeper : Operand → Operand → Tries) (a b : Operand) (l : Option (List ℕ)) → ((a b : Operand) → Rises (deeper a b)) → Rises (copy_past utility deeper how a b l)
+  unfolding copy_link
+  rises_past deeper a b None h = rises_node deeper a b h
+  rises_past deeper a b (Some text) h =
+      rises_then (clear b) (λ u. and_then (at b.name (make_link b.path text)) (λ v. leave_source how a)) (rises_clear b) (λ u.
+      rises_then (at b.name (make_link b.path text)) (λ v. leave_source how a) (rises_at b.name (make_link b.path text)) (λ v. rises_leave a))
+
+  pub rises_linked : (deeper : Operand → Operand → Tries) (a b : Operand) → ((a b : Operand) → Rises (deeper a b)) → Rises (copy_linked utility deeper how a b)
+  unfolding copy_linked
+  rises_linked deeper a b h = rises_then (at a.name (link_at a.path)) (λ l. copy_past utility deeper how a b l) (rises_at a.name (link_at a.path)) (λ l. rises_past deeper a b l h)
+
   pub rises_beneath : (n : ℕ) (a b : Operand) → Rises (copy_beneath utility how n a b)
   unfolding steps.refuse
   rises_beneath zero a b = λ x o w. omega arith
-  rises_beneath (suc n) a b = rises_node (copy_beneath utility how n) a b (rises_beneath n)
+  rises_beneath (suc n) a b = rises_linked (copy_beneath utility how n) a b (rises_beneath n)
 
 -- ---- what is done without a fault
 
@@ -374,31 +410,32 @@ none_free : (k : Kind) → dir_refusal k None ≡ None → ⊥
 none_free kind.Absent e = cc
 none_free kind.File e = cc
 none_free kind.Dir e = cc
+none_free kind.Link e = cc
 
 module _ (s : State) (low : IsTree s.tree) where
   abbrev pub node : Changes → Names → Option Node
   node d cs = node_there s d (path_text cs)
 
   abbrev pub Good : Changes → Type 0
-  Good d = IsTree (laid_over d s.tree) × NamesPaths d
+  Good d = IsTree (laid_over d s.tree) × NamesPaths d × NoLinks s d
 
-  good_further : (d : Changes) (q a : List ℕ) (n : Node) (above : Option (List ℕ)) (m : ℕ) (x : Changes) → Good d → IsPath q → parent_text q ≡ Some a → kind_there s d a ≡ kind.Dir → (kind_there s d q ≡ kind.Dir → kind_of (Some n) ≡ kind.Dir) →
+  good_further : (d : Changes) (q a : List ℕ) (n : Node) (above : Option (List ℕ)) (m : ℕ) (x : Changes) → Good d → IsPath q → parent_text q ≡ Some a → kind_there s d a ≡ kind.Dir → (kind_there s d q ≡ kind.Dir → kind_of (Some n) ≡ kind.Dir) → kind_of (Some n) ≢ kind.Link →
       (above ≡ None) ⊎ (above ≡ Some a) → x ≡ becomes q (Some n) above m d → Good x
-  good_further d q a n above m x (whole, paths) path up dir same which is =
-      subst Good (sym is) (tree_put s.tree d q a n m above whole path up dir same which, paths_becomes q (Some n) above m d paths path (above_path which))
+  good_further d q a n above m x (whole, paths, none) path up dir same unlinked which is =
+      subst Good (sym is) (tree_put s.tree d q a n m above whole path up dir same which, paths_becomes q (Some n) above m d paths path (above_path which), becomes_plain s d q (Some n) above m unlinked none)
     where
       above_path : (above ≡ None) ⊎ (above ≡ Some a) → IfSome above IsPath
       above_path (inl e) = subst (λ (o : Option (List ℕ)). IfSome o IsPath) (sym e) tt
       above_path (inr e) = subst (λ (o : Option (List ℕ)). IfSome o IsPath) (sym e) (whole.paths a (dir_some (node_there s d a) dir))
 
-  good_put : (d : Changes) (q : List ℕ) (P : Node → Type 0) (x : Changes) → Good d → IsPath q → Fresh s d q P x → Good x
-  good_put d q P x good path (n, so, (above, m, is, which), (size, free)) = by_parent (parent_text q) refl which free
+  good_put : (d : Changes) (q : List ℕ) (P : Node → Type 0) (x : Changes) → ((n : Node) → P n → kind_of (Some n) ≢ kind.Link) → Good d → IsPath q → Fresh s d q P x → Good x
+  good_put d q P x unlinked good path (n, so, (above, m, is, which), (size, free)) = by_parent (parent_text q) refl which free
     where
       by_parent : (o : Option (List ℕ)) → parent_text q ≡ o → (above ≡ None) ⊎ (above ≡ o) → put_refusal (kind_there s d q) (option_map (kind_there s d) o) size ≡ None → Good x
       by_parent None up which free = absurd cc
       by_parent (Some a) up which free =
           let k = no_dir s d (kind_there s d q) (Some (kind_there s d a)) size free in
-          good_further d q a n above m x good path up (k.1 (kind_there s d a) refl) (λ dir. absurd (k.0 dir)) which is
+          good_further d q a n above m x good path up (k.1 (kind_there s d a) refl) (λ dir. absurd (k.0 dir)) (unlinked n so) which is
 
   good_made : (d : Changes) (q : List ℕ) (x : Changes) → Good d → IsPath q → Made s d q x → Good x
   good_made d q x good path (n, m, is, free) = by_parent (parent_text q) refl is free
@@ -407,7 +444,7 @@ module _ (s : State) (low : IsTree s.tree) where
       by_parent None up is free = absurd (none_free (kind_there s d q) free)
       by_parent (Some a) up is free =
           let k = was_absent s d (kind_there s d q) (Some (kind_there s d a)) free in
-          good_further d q a (Dir m) (Some a) n x good path up (k.1 (kind_there s d a) refl) (λ dir. refl) (inr refl) is
+          good_further d q a (Dir m) (Some a) n x good path up (k.1 (kind_there s d a) refl) (λ dir. refl) (λ e. cc) (inr refl) is
 
   -- what stood at ps and below it stands at qs and below it; nothing else has changed
   pub record CopiedTree (d x : Changes) (ps qs : Names) : Type 0 where
@@ -430,7 +467,7 @@ module _ (s : State) (low : IsTree s.tree) where
       let f = fresh_effect s d (path_text qs) (HasBytes s bytes) x fresh in
       let now : content_of (node x qs) ≡ Some bytes = ap content_of f.2.now ∙ f.1 in
       record {
-        good = good_put d (path_text qs) (HasBytes s bytes) x good path fresh;
+        good = good_put d (path_text qs) (HasBytes s bytes) x (λ n so. no_link s n bytes so) good path fresh;
         stood = kind_some (node d ps) (λ e. (let no : kind.File ≡ kind.Absent = sym is_file ∙ e in cc));
         here = (is_file ∙ sym (file_of (node x qs) bytes now), had ∙ sym now);
         deep = λ c rel all i. (let no : kind.File ≡ kind.Dir = sym is_file ∙ dir_below (laid_over d s.tree) good.0 ps c rel (allc_both ps (c ∷ rel) all_ps all) i in absurd cc);
@@ -447,15 +484,16 @@ module _ (s : State) (low : IsTree s.tree) where
   made_by : (d : Changes) (name q : List ℕ) (k : Kind) → Good d → IsPath q → k ≡ kind_there s d q → LeavesS s d (make_by name q k) (λ x. Prepared d x q)
   unfolding steps.refuse steps.done
   made_by d name q kind.Absent good path is = λ x w same r e.
-      let made = at_leaves s d name (make_dir q) (Made s d q) (leaves_make s d q) x w same r e in
+      let made = at_leaves s d name (make_dir q) (Made s d q) (leaves_make s d good.2 q) x w same r e in
       let m = made_effect s d q (at name (make_dir q) x (snapshot s) w).1.changes made in
       record { good = good_made d q (at name (make_dir q) x (snapshot s) w).1.changes good path made; dir = ap kind_of m.1.now; others = m.1.others }
   made_by d name q kind.File good path is = λ x w same r e. absurd cc
+  made_by d name q kind.Link good path is = absurd (good.2 q (sym is))
   made_by d name q kind.Dir good path is = λ x w same r e. subst (λ (c : Changes). Prepared d c q) (sym same) (record { good = good; dir = sym is; others = λ k _. alike_self (node_there s d k) })
 
   missing_made : (d : Changes) (name q : List ℕ) → Good d → IsPath q → LeavesS s d (make_missing name q) (λ x. Prepared d x q)
   unfolding make_missing
-  missing_made d name q good path = then_s s d (at name (kind_at q)) (λ k. k ≡ kind_there s d q) (λ k. make_by name q k) (λ x. Prepared d x q) (at_gives s d name (kind_at q) (λ k. k ≡ kind_there s d q) (gives_kind s d q)) (λ k is. made_by d name q k good path is)
+  missing_made d name q good path = then_s s d (at name (kind_at q)) (λ k. k ≡ kind_there s d q) (λ k. make_by name q k) (λ x. Prepared d x q) (at_gives s d name (kind_at q) (λ k. k ≡ kind_there s d q) (gives_kind s d good.2 q)) (λ k is. made_by d name q k good path is)
 
   -- ---- one child after another
 
@@ -589,7 +627,7 @@ module _ (s : State) (low : IsTree s.tree) where
           then_z s d (make_missing b.name b.path) (λ _ z. Prepared d z (path_text qs)) (λ u. and_then (there a (names a.path)) (λ inside. and_then (last inside) (λ v. leave_source how a))) R
           (λ x w same r e clean. subst (λ (q : List ℕ). Prepared d (make_missing b.name b.path x (snapshot s) w).1.changes q) to (missing_made d b.name b.path good (subst IsPath (sym to) path) x w same r e)) (λ u z ready.
           then_z s z (there a (names a.path)) (λ inside y. (Some inside ≡ names_seen s z a.path) × (y ≡ z)) (λ inside. and_then (last inside) (λ v. leave_source how a)) R
-          (given_z s z (there a (names a.path)) (λ inside. Some inside ≡ names_seen s z a.path) (there_gives s z a (names a.path) (λ o. o ≡ names_seen s z a.path) (gives_names s z a.path))) (λ inside y told.
+          (given_z s z (there a (names a.path)) (λ inside. Some inside ≡ names_seen s z a.path) (there_gives s z a (names a.path) (λ o. o ≡ names_seen s z a.path) (gives_names s z ready.good.2 a.path))) (λ inside y told.
           let all = inside_names z inside ready (told.0 ∙ ap (names_seen s z) from) in
           subst (λ (v : Changes). LeavesZ s v (and_then (last inside) (λ u. leave_source how a)) R) (sym told.1)
           (then_z s z (last inside) (λ _ v. Spread z v ps qs inside) (λ v. leave_source how a) R (ending_z s z (each utility (copy_child deeper a b) inside) (λ v. Spread z v ps qs inside) (each_z inside z all.0 ready.good)) (λ u v spread.
@@ -616,23 +654,33 @@ module _ (s : State) (low : IsTree s.tree) where
       by_z : (d : Changes) (k : Kind) → Good d → k ≡ kind_of (node d ps) → LeavesZ s d (copy_by utility deeper how a b k) (λ x. CopiedTree d x ps qs)
       unfolding steps.refuse
       by_z d kind.Absent good is = λ x w same r e clean. absurd cc
+      by_z d kind.Link good is = λ x w same r e clean. absurd cc
       by_z d kind.File good is = subst (λ (m : Tries). LeavesZ s d m (λ x. CopiedTree d x ps qs)) (sym (tree.files a b)) (λ x w same r e clean.
           file_copied d (copy_file a b x (snapshot s) w).1.changes ps qs good all_ps all_qs path (sym is)
-          (subst (λ (q : List ℕ). Copied s d (path_text ps) q (copy_file a b x (snapshot s) w).1.changes) to (subst (λ (p : List ℕ). Copied s d p b.path (copy_file a b x (snapshot s) w).1.changes) from (copies s d a b x w same r e))))
+          (subst (λ (q : List ℕ). Copied s d (path_text ps) q (copy_file a b x (snapshot s) w).1.changes) to (subst (λ (p : List ℕ). Copied s d p b.path (copy_file a b x (snapshot s) w).1.changes) from (copies s d a b good.2 x w same r e))))
       by_z d kind.Dir good is = subst (λ (t : Bool). LeavesZ s d (cond t (copy_tree utility deeper how a b) (steps.refuse (told a file.IsDir))) (λ x. CopiedTree d x ps qs)) (sym tree.deep) (tree_z d good (sym is))
 
       pub node_z : (d : Changes) → Good d → LeavesZ s d (copy_node utility deeper how a b) (λ x. CopiedTree d x ps qs)
       unfolding copy_node
       node_z d good =
           then_z s d (at a.name (kind_at a.path)) (λ k z. (k ≡ kind_there s d a.path) × (z ≡ d)) (λ k. copy_by utility deeper how a b k) (λ x. CopiedTree d x ps qs)
-          (given_z s d (at a.name (kind_at a.path)) (λ k. k ≡ kind_there s d a.path) (at_gives s d a.name (kind_at a.path) (λ k. k ≡ kind_there s d a.path) (gives_kind s d a.path)))
+          (given_z s d (at a.name (kind_at a.path)) (λ k. k ≡ kind_there s d a.path) (at_gives s d a.name (kind_at a.path) (λ k. k ≡ kind_there s d a.path) (gives_kind s d good.2 a.path)))
           (λ k z seen. subst (λ (v : Changes). LeavesZ s v (copy_by utility deeper how a b k) (λ x. CopiedTree d x ps qs)) (sym seen.1) (by_z d k good (seen.0 ∙ ap (kind_there s d) from)))
           (λ k. rises_by utility how tree deeper a b k rises)
+
+      linked_z : (d : Changes) → Good d → LeavesZ s d (copy_linked utility deeper how a b) (λ x. CopiedTree d x ps qs)
+      unfolding copy_linked
+      linked_z d good =
+          let R = λ (x : Changes). CopiedTree d x ps qs in
+          then_z s d (at a.name (link_at a.path)) (λ l z. (l ≡ None) × (z ≡ d)) (λ l. copy_past utility deeper how a b l) R
+          (given_z s d (at a.name (link_at a.path)) (λ l. l ≡ None) (at_gives s d a.name (link_at a.path) (λ l. l ≡ None) (gives_link s d good.2 a.path)))
+          (λ l z seen. subst (λ (v : Changes). LeavesZ s v (copy_past utility deeper how a b l) R) (sym seen.1) (subst (λ (o : Option (List ℕ)). LeavesZ s d (copy_past utility deeper how a b o) R) (sym seen.0) (node_z d good)))
+          (λ l. rises_past utility how tree deeper a b l rises)
 
     pub beneath_z : (n : ℕ) → CopiesBelow (copy_beneath utility how n)
     unfolding steps.refuse
     beneath_z zero d a b ps qs good from to all_ps all_qs path apart = λ x w same r e clean. absurd cc
-    beneath_z (suc n) d a b ps qs good from to all_ps all_qs path apart = node_z (copy_beneath utility how n) (rises_beneath utility how tree n) (beneath_z n) a b ps qs from to all_ps all_qs path apart d good
+    beneath_z (suc n) d a b ps qs good from to all_ps all_qs path apart = linked_z (copy_beneath utility how n) (rises_beneath utility how tree n) (beneath_z n) a b ps qs from to all_ps all_qs path apart d good
 
 -- ---- the law
 
@@ -685,25 +733,30 @@ module _ (s : State) (name : List ℕ) where
     was : (kind_there s d q ≡ kind.Absent) ⊎ (kind_there s d q ≡ kind.Dir)
     others : OthersStay q (laid_over d s.tree) (laid_over x s.tree)
 
-  ensured_by : (d : Changes) (q : List ℕ) (k : Kind) → k ≡ kind_there s d q → LeavesS s d (make_by name q k) (λ x. Ensured d x q)
+  ensured_by : (d : Changes) → NoLinks s d → (q : List ℕ) (k : Kind) → k ≡ kind_there s d q → LeavesS s d (make_by name q k) (λ x. Ensured d x q)
   unfolding steps.refuse steps.done
-  ensured_by d q kind.Absent is = λ x w same r e.
-      let m = made_effect s d q (at name (make_dir q) x (snapshot s) w).1.changes (at_leaves s d name (make_dir q) (Made s d q) (leaves_make s d q) x w same r e) in
+  ensured_by d none q kind.Absent is = λ x w same r e.
+      let m = made_effect s d q (at name (make_dir q) x (snapshot s) w).1.changes (at_leaves s d name (make_dir q) (Made s d q) (leaves_make s d none q) x w same r e) in
       record { dir = ap kind_of m.1.now; was = inl (sym is); others = m.1.others }
-  ensured_by d q kind.File is = λ x w same r e. absurd cc
-  ensured_by d q kind.Dir is = λ x w same r e. subst (λ (c : Changes). Ensured d c q) (sym same) (record { dir = sym is; was = inr (sym is); others = λ k _. alike_self (node_there s d k) })
+  ensured_by d none q kind.File is = λ x w same r e. absurd cc
+  ensured_by d none q kind.Link is = absurd (none q (sym is))
+  ensured_by d none q kind.Dir is = λ x w same r e. subst (λ (c : Changes). Ensured d c q) (sym same) (record { dir = sym is; was = inr (sym is); others = λ k _. alike_self (node_there s d k) })
 
-  ensured : (d : Changes) (q : List ℕ) → LeavesS s d (make_missing name q) (λ x. Ensured d x q)
+  ensured : (d : Changes) → NoLinks s d → (q : List ℕ) → LeavesS s d (make_missing name q) (λ x. Ensured d x q)
   unfolding make_missing
-  ensured d q = then_s s d (at name (kind_at q)) (λ k. k ≡ kind_there s d q) (λ k. make_by name q k) (λ x. Ensured d x q) (at_gives s d name (kind_at q) (λ k. k ≡ kind_there s d q) (gives_kind s d q)) (λ k is. ensured_by d q k is)
+  ensured d none q = then_s s d (at name (kind_at q)) (λ k. k ≡ kind_there s d q) (λ k. make_by name q k) (λ x. Ensured d x q) (at_gives s d name (kind_at q) (λ k. k ≡ kind_there s d q) (gives_kind s d none q)) (λ k is. ensured_by d none q k is)
+
+  ensured_plain : (d x : Changes) (q : List ℕ) → NoLinks s d → Ensured d x q → NoLinks s x
+  ensured_plain d x q none one k e = same_key_or k q ⊥ (λ is. (let z : kind.Dir ≡ kind.Link = sym (ap (kind_there s x) is ∙ one.dir) ∙ e in cc)) (λ isnt. none k ((one.others k isnt).0 ∙ e))
 
   record Grown (d x : Changes) (cs : Names) : Type 0 where
+    plain : NoLinks s x
     dirs : (front rest : Names) → cs ≡ front ++ rest → kind_there s x (path_text front) ≡ kind.Dir
     kept : (k : List ℕ) → IsSome (node_there s d k) → AreAlike (node_there s d k) (node_there s x k)
     others : (k : List ℕ) → ((front rest : Names) → cs ≡ front ++ rest → k ≢ path_text front) → AreAlike (node_there s d k) (node_there s x k)
 
-  root_grown : (d : Changes) → IsTree (laid_over d s.tree) → Grown d d []
-  root_grown d whole = record { dirs = λ front rest e. at_root front rest e; kept = λ k h. alike_self (node_there s d k); others = λ k h. alike_self (node_there s d k) }
+  root_grown : (d : Changes) → NoLinks s d → IsTree (laid_over d s.tree) → Grown d d []
+  root_grown d none whole = record { plain = none; dirs = λ front rest e. at_root front rest e; kept = λ k h. alike_self (node_there s d k); others = λ k h. alike_self (node_there s d k) }
     where
       at_root : (front rest : Names) → [] ≡ front ++ rest → kind_there s d (path_text front) ≡ kind.Dir
       at_root [] rest e = whole.root
@@ -711,6 +764,7 @@ module _ (s : State) (name : List ℕ) where
 
   grown_further : (d y x : Changes) (xs : Names) (c : List ℕ) → AllC (xs ++ c ∷ []) → Grown d y xs → Ensured y x (path_text (xs ++ c ∷ [])) → Grown d x (xs ++ c ∷ [])
   grown_further d y x xs c all grown one = record {
+    plain = ensured_plain y x p grown.plain one;
     dirs = λ front rest e. elim (front_of xs c front rest e) as (λ _. kind_there s x (path_text front) ≡ kind.Dir) [
       | inl whole ↦ ap (λ (cs : Names). kind_there s x (path_text cs)) whole ∙ one.dir
       | inr part ↦ sym (one.others (path_text front) (λ same. shorter front part.0 part.1 same)).0 ∙ grown.dirs front part.0 part.1
@@ -735,12 +789,12 @@ module _ (s : State) (name : List ℕ) where
           let is : front ≡ xs ++ c ∷ [] = sym (spells front all_front) ∙ ap components same ∙ spells (xs ++ c ∷ []) all in
           absurd (omega (arith, ap length is, ap length e, length-append front more, length_push xs c))
 
-  all_grown : (left : ℕ) (cs : Names) (d : Changes) → IsTree (laid_over d s.tree) → AllC cs → length cs ≤ left → LeavesS s d (make_all left name (path_text cs)) (λ x. Grown d x cs)
+  all_grown : (left : ℕ) (cs : Names) (d : Changes) → NoLinks s d → IsTree (laid_over d s.tree) → AllC cs → length cs ≤ left → LeavesS s d (make_all left name (path_text cs)) (λ x. Grown d x cs)
   unfolding steps.done
-  all_grown zero [] d whole all le = λ x w same r e. subst (λ (c : Changes). Grown d c []) (sym same) (root_grown d whole)
-  all_grown zero (c ∷ cs) d whole all le = absurd (omega arith)
-  all_grown (suc left) [] d whole all le = λ x w same r e. subst (λ (c : Changes). Grown d c []) (sym same) (root_grown d whole)
-  all_grown (suc left) (c ∷ cs) d whole all le =
+  all_grown zero [] d none whole all le = λ x w same r e. subst (λ (c : Changes). Grown d c []) (sym same) (root_grown d none whole)
+  all_grown zero (c ∷ cs) d none whole all le = absurd (omega arith)
+  all_grown (suc left) [] d none whole all le = λ x w same r e. subst (λ (c : Changes). Grown d c []) (sym same) (root_grown d none whole)
+  all_grown (suc left) (c ∷ cs) d none whole all le =
       let l = split_last c cs in
       let front = take (length cs) (c ∷ cs) in
       let all_then = subst AllC l.1 all in
@@ -748,17 +802,17 @@ module _ (s : State) (name : List ℕ) where
       subst (λ (us : Names). LeavesS s d (make_all (suc left) name (path_text us)) (λ x. Grown d x us)) (sym l.1)
       (subst (λ (o : Option (List ℕ)). LeavesS s d (make_under o (make_all left name) name (path_text (front ++ l.0 ∷ []))) (λ x. Grown d x (front ++ l.0 ∷ []))) (sym (parent_path front l.0 all_then))
       (seq_s s d (make_all left name (path_text front)) (λ y. Grown d y front) (λ u. make_missing name (path_text (front ++ l.0 ∷ []))) (λ x. Grown d x (front ++ l.0 ∷ []))
-      (all_grown left front d whole (allc_front front (l.0 ∷ []) all_then) size)
-      (λ u y grown x w same r e. grown_further d y (make_missing name (path_text (front ++ l.0 ∷ [])) x (snapshot s) w).1.changes front l.0 all_then grown (ensured y (path_text (front ++ l.0 ∷ [])) x w same r e))))
+      (all_grown left front d none whole (allc_front front (l.0 ∷ []) all_then) size)
+      (λ u y grown x w same r e. grown_further d y (make_missing name (path_text (front ++ l.0 ∷ [])) x (snapshot s) w).1.changes front l.0 all_then grown (ensured y grown.plain (path_text (front ++ l.0 ∷ [])) x w same r e))))
 
-module _ (s : State) (w : Workspace) (d : Done) (name p : List ℕ) where
+module _ (s : State) (w : Workspace) (none : NoLinks s w.changes) (d : Done) (name p : List ℕ) where
   abbrev making_all : Result (Unit {0} × Done) (OperandNo × Done) × Workspace
   making_all = make_directory true (operand name p) d (snapshot s) w
 
   grown_here : (r : Unit {0} × Done) → IsTree (tree_seen s w) → IsPath p → making_all.0 ≡ Ok r → Grown s name w.changes making_all.1.changes (components p)
   grown_here r whole path e =
       let all = recursion_from_All IsComponent (components p) path.names in
-      (subst (λ (q : List ℕ). LeavesS s w.changes (make_all levels name q) (λ x. Grown s name w.changes x (components p))) (sym path.spelled) (all_grown s name levels (components p) w.changes whole all path.deep)) d w refl r e
+      (subst (λ (q : List ℕ). LeavesS s w.changes (make_all levels name q) (λ x. Grown s name w.changes x (components p))) (sym path.spelled) (all_grown s name levels (components p) w.changes none whole all path.deep)) d w refl r e
 
   pub mkdir_dirs : (r : Unit {0} × Done) → IsTree (tree_seen s w) → IsPath p → making_all.0 ≡ Ok r → (k : List ℕ) → IsOver p k → kind_of (get (tree_seen s making_all.1) k) ≡ kind.Dir
   mkdir_dirs r whole path e k (front, rest, parts, is) = ap (kind_there s making_all.1.changes) is ∙ (grown_here r whole path e).dirs front rest parts

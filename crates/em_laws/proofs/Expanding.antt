@@ -1,5 +1,5 @@
 -- What pathname expansion gives on a state.
-use Rattle.std.proofs.Common.{◌≡◌, ◌≢◌, ◌⊎◌, inl, inr, ℕ, zero, suc, ◌-◌, ◌<◌, ◌||◌, Bool, true, false, not, cond, eqb, List, [], ◌∷◌, ◌++◌, map, length, get_or, Option, Some, None, Result, Ok, Err, arith, refl, sym, ap, subst, ◌∙◌, append_assoc, append-nil}
+use Rattle.std.proofs.Common.{◌≡◌, ◌≢◌, ◌⊎◌, inl, inr, ℕ, zero, suc, ◌+◌, ◌-◌, ◌<◌, ◌||◌, Bool, true, false, not, cond, eqb, List, [], ◌∷◌, ◌++◌, map, length, get_or, Option, Some, None, Result, Ok, Err, arith, refl, sym, ap, subst, ◌∙◌, append_assoc, append-nil}
 use Rattle.std.specs.Prelude.{◌==◌, ◌↔◌, All, Contains, nat_lt, option_map, unwrap_or}
 use Rattle.std.specs.FinMap.{get}
 use Rattle.std.specs.List.{AllByRecursion, filter, filter_map, flat_map, slice_split}
@@ -18,16 +18,26 @@ use Rattle.em_path.specs.Reading.{read_fault, resolved_text}
 use Rattle.em_tree.specs.declared.node.Kind.{Kind}
 use Rattle.em_tree.specs.declared.node.Kind.TheVariants as kind
 use Rattle.em_tree.specs.declared.node.Node.{Node}
+use Rattle.em_tree.specs.declared.node.Node.TheVariants.{File, Dir, Link}
+use Rattle.em_tree.specs.declared.way.Way.{Way}
+use Rattle.em_tree.specs.declared.way.Way.TheVariants.{To}
+use Rattle.em_tree.specs.declared.way.Led.{Led}
 use Rattle.em_tree.specs.declared.state.State.{State}
-use Rattle.em_tree.specs.Trees.{Changes, kind_of, laid_over}
+use Rattle.em_tree.specs.Trees.{Changes, kind_of, link_of, laid_over}
 use Rattle.em_tree.specs.Names.{names_of}
+use Rattle.em_tree.specs.Resolving.{led, links_in}
+use Rattle.em_tree.proofs.Laying.{over}
+use Rattle.em_tree.proofs.Lawful.{get-laid_over}
+use Rattle.em_tree.proofs.Resolving.{no_links}
 use Rattle.em_view.specs.declared.no.DeskNo.{DeskNo}
 use Rattle.em_view.specs.declared.no.DeskNo.TheVariants as no
 use Rattle.em_view.specs.Actions.{Workspace, snapshot, Action, go_on, ◌>>=◌, done, ask, mine, spend}
 use Rattle.em_view.specs.Names.{with_own, names_size}
-use Rattle.em_view.specs.Rows.{blocks, is_dir, kind_below, kind_at, told_names, amend, made_names, other_names, names_below, names}
+use Rattle.em_view.specs.Walking.{link_by, link_below, resolve}
+use Rattle.em_view.specs.Rows.{blocks, size_of, is_dir, kind_below, kind_to, kind_at, told_names, amend, made_names, other_names, names_below, names_to, names, link_to, link_at}
 use Rattle.em_view.specs.Rows as rows
 use Rattle.em_view.proofs.Looking.{seen_kind}
+use Rattle.em_view.proofs.Leading.{leads_laid}
 use Rattle.em_glob.specs.declared.glyph.Glyph.{Glyph}
 use Rattle.em_glob.specs.Patterns.{Piece, Matches, fits, pieces, is_pattern, bytes_of}
 use Rattle.em_pathname.specs.Walking.{is_slash, components, begins_with, start, name_below, found_by, found, is_hidden, shows, listed, search, present, look_up_by, look_up, in_dir, in_each, walk, sorted, matching_names}
@@ -73,9 +83,73 @@ module _ (s : State) (d : Changes) where
       let is : k ≡ kind_of (get (laid_over w.changes s.tree) p) = (let f : ◌≡◌ {A = Result Kind DeskNo} (Ok k) (Ok (kind_of (get (laid_over w.changes s.tree) p))) = sym e ∙ seen.0 in cc) in
       (is ∙ ap (λ (c : Changes). kind_of (get (laid_over c s.tree) p)) same, seen.1 ∙ same)
 
-  pub gives_kind : (p : List ℕ) → Gives (kind_at p) (λ k. k ≡ kind_there p)
+  -- ---- where a path leads
+
+  abbrev pub node_there : List ℕ → Option Node
+  node_there p = get (laid_over d s.tree) p
+
+  -- where it leads in the tree that is seen
+  abbrev pub led_there : Bool → List ℕ → Led
+  led_there last p = led (links_in (laid_over d s.tree)) last p
+
+  -- it leads to itself
+  abbrev pub plainly : List ℕ → Led
+  plainly p = record { way = To p; followed = 0 }
+
+  abbrev pub NoLinks : Type 0
+  NoLinks = (q : List ℕ) → kind_there q ≢ kind.Link
+
+  pub no_text : (o : Option Node) → kind_of o ≢ kind.Link → link_of o ≡ None
+  no_text None h = refl
+  no_text (Some (File body stamp)) h = refl
+  no_text (Some (Dir stamp)) h = refl
+  no_text (Some (Link text stamp)) h = absurd (h refl)
+
+  pub led_plain : NoLinks → (last : Bool) (p : List ℕ) → led_there last p ≡ plainly p
+  led_plain none last p = no_links (links_in (laid_over d s.tree)) (λ q. no_text (node_there q) (none q)) last p
+
+  pub gives_resolve : (last : Bool) (p : List ℕ) → Gives (resolve last p) (λ f. f ≡ led_there last p)
+  gives_resolve last p w same f e =
+      let l = leads_laid s w last p in
+      let is : f ≡ led (links_in (laid_over w.changes s.tree)) last p = (let g : ◌≡◌ {A = Result Led DeskNo} (Ok f) (Ok (led (links_in (laid_over w.changes s.tree)) last p)) = sym e ∙ l.0 in cc) in
+      (is ∙ ap (λ (c : Changes). led (links_in (laid_over c s.tree)) last p) same, ap (λ (v : Workspace). v.changes) l.1 ∙ same)
+
+  -- a reading tells what is told of the path behind the links
+  pub gives_reading : {A : Type 0} (last : Bool) (p : List ℕ) (to : Way → Action DeskNo A) (cost : A → ℕ → ℕ) (P : A → Type 0) → Gives (to (led_there last p).way) P
+      → Gives (spend 1 >>= (λ u. resolve last p >>= (λ f. to f.way >>= (λ a. spend (cost a f.followed) >>= (λ v. done a))))) P
+  gives_reading last p to cost P h =
+      gives_then (spend 1) (λ _. Unit {0}) (λ u. resolve last p >>= (λ f. to f.way >>= (λ a. spend (cost a f.followed) >>= (λ v. done a)))) P (gives_spend 1) (λ _ _.
+      gives_then (resolve last p) (λ f. f ≡ led_there last p) (λ f. to f.way >>= (λ a. spend (cost a f.followed) >>= (λ v. done a))) P (gives_resolve last p) (λ f is.
+      gives_then (to f.way) P (λ a. spend (cost a f.followed) >>= (λ v. done a)) P (subst (λ (l : Led). Gives (to l.way) P) (sym is) h) (λ a so.
+      gives_then (spend (cost a f.followed)) (λ _. Unit {0}) (λ v. done a) P (gives_spend (cost a f.followed)) (λ _ _. gives_done P a so))))
+
+  pub gives_plainly : {A : Type 0} → NoLinks → (last : Bool) (p : List ℕ) (to : Way → Action DeskNo A) (cost : A → ℕ → ℕ) (P : A → Type 0) → Gives (to (To p)) P
+      → Gives (spend 1 >>= (λ u. resolve last p >>= (λ f. to f.way >>= (λ a. spend (cost a f.followed) >>= (λ v. done a))))) P
+  gives_plainly none last p to cost P h = gives_reading last p to cost P (subst (λ (l : Led). Gives (to l.way) P) (sym (led_plain none last p)) h)
+
+  pub gives_kind : NoLinks → (p : List ℕ) → Gives (kind_at p) (λ k. k ≡ kind_there p)
   unfolding kind_at
-  gives_kind p = gives_then (spend 1) (λ _. Unit {0}) (λ u. kind_below p) (λ k. k ≡ kind_there p) (gives_spend 1) (λ _ _. gives_kind_below p)
+  gives_kind none p = gives_plainly none true p kind_to (λ k n. n) (λ k. k ≡ kind_there p) (gives_kind_below p)
+
+  link_seen : (w : Workspace) (p : List ℕ) (m : Option (Option Node)) (n : Option Node) → over m (get s.tree p) ≡ n → ((link_by m p (snapshot s) w).0 ≡ Ok (link_of n)) × ((link_by m p (snapshot s) w).1.changes ≡ w.changes)
+  unfolding done ask ◌>>=◌
+  link_seen w p None n e = (ap (λ (x : Option Node). let r : Result (Option (List ℕ)) DeskNo = Ok (link_of x) in r) e, refl)
+  link_seen w p (Some c) n e = (ap (λ (x : Option Node). let r : Result (Option (List ℕ)) DeskNo = Ok (link_of x) in r) e, refl)
+
+  pub gives_link_below : (p : List ℕ) → Gives (link_below p) (λ b. b ≡ link_of (node_there p))
+  unfolding link_below mine ◌>>=◌
+  gives_link_below p w same b e =
+      let seen = link_seen w p (get w.changes p) (get (laid_over w.changes s.tree) p) (sym (get-laid_over w.changes s.tree p)) in
+      let is : b ≡ link_of (get (laid_over w.changes s.tree) p) = (let f : ◌≡◌ {A = Result (Option (List ℕ)) DeskNo} (Ok b) (Ok (link_of (get (laid_over w.changes s.tree) p))) = sym e ∙ seen.0 in cc) in
+      (is ∙ ap (λ (c : Changes). link_of (get (laid_over c s.tree) p)) same, seen.1 ∙ same)
+
+  pub gives_link_at : (p : List ℕ) → led_there false p ≡ plainly p → Gives (link_at p) (λ t. t ≡ link_of (node_there p))
+  unfolding link_at
+  gives_link_at p plain = gives_reading false p link_to (λ t n. blocks (size_of t) + n) (λ t. t ≡ link_of (node_there p)) (subst (λ (l : Led). Gives (link_to l.way) (λ t. t ≡ link_of (node_there p))) (sym plain) (gives_link_below p))
+
+  -- there is no link at a path
+  pub gives_link : NoLinks → (p : List ℕ) → Gives (link_at p) (λ t. t ≡ None)
+  gives_link none p w same t e = let r = gives_link_at p (led_plain none false p) w same t e in (r.0 ∙ no_text (node_there p) (none p), r.1)
 
   own_names : (m : Option (Option Node)) (p : List ℕ) → Gives (rows.names_by m p) (λ ns. ns ≡ names_by m s d p)
   unfolding made_names other_names told_names amend ask done ◌>>=◌
@@ -91,12 +165,9 @@ module _ (s : State) (d : Changes) where
       let own = own_names (get w.changes p) p w same ns e in
       (own.0 ∙ ap (λ (c : Changes). names_by (get c p) s d p) same, own.1)
 
-  pub gives_names : (p : List ℕ) → Gives (names p) (λ ns. ns ≡ names_seen s d p)
+  pub gives_names : NoLinks → (p : List ℕ) → Gives (names p) (λ ns. ns ≡ names_seen s d p)
   unfolding names
-  gives_names p =
-      gives_then (spend 1) (λ _. Unit {0}) (λ u. names_below p >>= (λ ns. spend (blocks (names_size ns)) >>= (λ v. done ns))) (λ ns. ns ≡ names_seen s d p) (gives_spend 1) (λ _ _.
-      gives_then (names_below p) (λ ns. ns ≡ names_seen s d p) (λ ns. spend (blocks (names_size ns)) >>= (λ v. done ns)) (λ ns. ns ≡ names_seen s d p) (gives_names_below p) (λ ns is.
-      gives_then (spend (blocks (names_size ns))) (λ _. Unit {0}) (λ v. done ns) (λ ns. ns ≡ names_seen s d p) (gives_spend (blocks (names_size ns))) (λ _ _. gives_done (λ ns. ns ≡ names_seen s d p) ns is)))
+  gives_names none p = gives_plainly none true p names_to (λ ns n. blocks (names_size ns) + n) (λ ns. ns ≡ names_seen s d p) (gives_names_below p)
 
   -- ---- the steps of an expansion
 
@@ -108,34 +179,34 @@ module _ (s : State) (d : Changes) where
     abbrev below : List Glyph → Found → List Found
     below c dir = cond (is_pattern c) (listed cwd dir c (names_seen s d dir.path)) (looked (found cwd (name_below dir.name (bytes_of c))))
 
-    gives_look : (o : Option Found) → Gives (look_up_by o) (λ fs. fs ≡ looked o)
-    gives_look None = gives_done (λ fs. fs ≡ []) [] refl
-    gives_look (Some f) = gives_then (kind_at f.path) (λ k. k ≡ kind_there f.path) (λ k. done (present k f)) (λ fs. fs ≡ present (kind_there f.path) f) (gives_kind f.path) (λ k is. gives_done (λ fs. fs ≡ present (kind_there f.path) f) (present k f) (ap (λ k. present k f) is))
+    gives_look : NoLinks → (o : Option Found) → Gives (look_up_by o) (λ fs. fs ≡ looked o)
+    gives_look none None = gives_done (λ fs. fs ≡ []) [] refl
+    gives_look none (Some f) = gives_then (kind_at f.path) (λ k. k ≡ kind_there f.path) (λ k. done (present k f)) (λ fs. fs ≡ present (kind_there f.path) f) (gives_kind none f.path) (λ k is. gives_done (λ fs. fs ≡ present (kind_there f.path) f) (present k f) (ap (λ k. present k f) is))
 
-    gives_search : (c : List Glyph) (dir : Found) → Gives (search cwd c dir) (λ fs. fs ≡ listed cwd dir c (names_seen s d dir.path))
+    gives_search : NoLinks → (c : List Glyph) (dir : Found) → Gives (search cwd c dir) (λ fs. fs ≡ listed cwd dir c (names_seen s d dir.path))
     unfolding search
-    gives_search c dir = gives_then (names dir.path) (λ ns. ns ≡ names_seen s d dir.path) (λ ns. done (listed cwd dir c ns)) (λ fs. fs ≡ listed cwd dir c (names_seen s d dir.path)) (gives_names dir.path) (λ ns is. gives_done (λ fs. fs ≡ listed cwd dir c (names_seen s d dir.path)) (listed cwd dir c ns) (ap (listed cwd dir c) is))
+    gives_search none c dir = gives_then (names dir.path) (λ ns. ns ≡ names_seen s d dir.path) (λ ns. done (listed cwd dir c ns)) (λ fs. fs ≡ listed cwd dir c (names_seen s d dir.path)) (gives_names none dir.path) (λ ns is. gives_done (λ fs. fs ≡ listed cwd dir c (names_seen s d dir.path)) (listed cwd dir c ns) (ap (listed cwd dir c) is))
 
-    gives_in : (c : List Glyph) (dir : Found) → Gives (in_dir cwd c dir) (λ fs. fs ≡ below c dir)
+    gives_in : NoLinks → (c : List Glyph) (dir : Found) → Gives (in_dir cwd c dir) (λ fs. fs ≡ below c dir)
     unfolding look_up
-    gives_in c dir = by_cases (is_pattern c) (λ t. Gives (cond t (search cwd c dir) (look_up cwd c dir)) (λ fs. fs ≡ cond t (listed cwd dir c (names_seen s d dir.path)) (looked (found cwd (name_below dir.name (bytes_of c))))))
-        (λ _. gives_search c dir)
-        (λ _. gives_look (found cwd (name_below dir.name (bytes_of c))))
+    gives_in none c dir = by_cases (is_pattern c) (λ t. Gives (cond t (search cwd c dir) (look_up cwd c dir)) (λ fs. fs ≡ cond t (listed cwd dir c (names_seen s d dir.path)) (looked (found cwd (name_below dir.name (bytes_of c))))))
+        (λ _. gives_search none c dir)
+        (λ _. gives_look none (found cwd (name_below dir.name (bytes_of c))))
 
-    gives_each : (c : List Glyph) (so_far dirs : List Found) → Gives (in_each cwd c so_far dirs) (λ fs. fs ≡ so_far ++ flat_map (below c) dirs)
-    gives_each c so_far [] = gives_done (λ fs. fs ≡ so_far ++ []) so_far (sym (append-nil so_far))
-    gives_each c so_far (dir ∷ dirs) = gives_then (in_dir cwd c dir) (λ fs. fs ≡ below c dir) (λ more. in_each cwd c (so_far ++ more) dirs) (λ fs. fs ≡ so_far ++ flat_map (below c) (dir ∷ dirs)) (gives_in c dir) (λ more is.
+    gives_each : NoLinks → (c : List Glyph) (so_far dirs : List Found) → Gives (in_each cwd c so_far dirs) (λ fs. fs ≡ so_far ++ flat_map (below c) dirs)
+    gives_each none c so_far [] = gives_done (λ fs. fs ≡ so_far ++ []) so_far (sym (append-nil so_far))
+    gives_each none c so_far (dir ∷ dirs) = gives_then (in_dir cwd c dir) (λ fs. fs ≡ below c dir) (λ more. in_each cwd c (so_far ++ more) dirs) (λ fs. fs ≡ so_far ++ flat_map (below c) (dir ∷ dirs)) (gives_in none c dir) (λ more is.
         let whole : (so_far ++ more) ++ flat_map (below c) dirs ≡ so_far ++ (below c dir ++ flat_map (below c) dirs) = append_assoc so_far more (flat_map (below c) dirs) ∙ ap (λ (m : List Found). so_far ++ (m ++ flat_map (below c) dirs)) is in
-        λ w same fs e. let r = gives_each c (so_far ++ more) dirs w same fs e in (r.0 ∙ whole, r.1))
+        λ w same fs e. let r = gives_each none c (so_far ++ more) dirs w same fs e in (r.0 ∙ whole, r.1))
 
     abbrev walked : List (List Glyph) → List Found → List Found
     walked [] dirs = dirs
     walked (c ∷ cs) dirs = walked cs (flat_map (below c) dirs)
 
-    gives_walk : (cs : List (List Glyph)) (dirs : List Found) → Gives (walk cwd cs dirs) (λ fs. fs ≡ walked cs dirs)
-    gives_walk [] dirs = gives_done (λ fs. fs ≡ dirs) dirs refl
-    gives_walk (c ∷ cs) dirs = gives_then (in_each cwd c [] dirs) (λ fs. fs ≡ flat_map (below c) dirs) (λ next. walk cwd cs next) (λ fs. fs ≡ walked cs (flat_map (below c) dirs)) (gives_each c [] dirs) (λ next is w same fs e.
-        let r = gives_walk cs next w same fs e in (r.0 ∙ ap (walked cs) is, r.1))
+    gives_walk : NoLinks → (cs : List (List Glyph)) (dirs : List Found) → Gives (walk cwd cs dirs) (λ fs. fs ≡ walked cs dirs)
+    gives_walk none [] dirs = gives_done (λ fs. fs ≡ dirs) dirs refl
+    gives_walk none (c ∷ cs) dirs = gives_then (in_each cwd c [] dirs) (λ fs. fs ≡ flat_map (below c) dirs) (λ next. walk cwd cs next) (λ fs. fs ≡ walked cs (flat_map (below c) dirs)) (gives_each none c [] dirs) (λ next is w same fs e.
+        let r = gives_walk none cs next w same fs e in (r.0 ∙ ap (walked cs) is, r.1))
 
     abbrev names_of_found : List Found → List (List ℕ)
     names_of_found fs = map (λ f. f.name) fs
@@ -143,9 +214,9 @@ module _ (s : State) (d : Changes) where
     abbrev ends : List Glyph → List (List ℕ)
     ends gs = names_of_found (walked (components gs) (start cwd gs))
 
-    gives_matching : (gs : List Glyph) → Gives (matching_names cwd gs) (λ out. out ≡ sorted (ends gs))
+    gives_matching : NoLinks → (gs : List Glyph) → Gives (matching_names cwd gs) (λ out. out ≡ sorted (ends gs))
     unfolding matching_names
-    gives_matching gs = gives_then (walk cwd (components gs) (start cwd gs)) (λ fs. fs ≡ walked (components gs) (start cwd gs)) (λ end. done (sorted (names_of_found end))) (λ out. out ≡ sorted (ends gs)) (gives_walk (components gs) (start cwd gs)) (λ end is. gives_done (λ out. out ≡ sorted (ends gs)) (sorted (names_of_found end)) (ap (λ (fs : List Found). sorted (names_of_found fs)) is))
+    gives_matching none gs = gives_then (walk cwd (components gs) (start cwd gs)) (λ fs. fs ≡ walked (components gs) (start cwd gs)) (λ end. done (sorted (names_of_found end))) (λ out. out ≡ sorted (ends gs)) (gives_walk none (components gs) (start cwd gs)) (λ end is. gives_done (λ out. out ≡ sorted (ends gs)) (sorted (names_of_found end)) (ap (λ (fs : List Found). sorted (names_of_found fs)) is))
 
 -- ---- what is in a list
 
@@ -314,11 +385,14 @@ module _ (told : Told) (s : State) (d : Changes) (cwd : List ℕ) where
   in_present kind.File f g (inr h) = absurd h
   in_present kind.Dir f g (inl e) = (λ x. cc, e)
   in_present kind.Dir f g (inr h) = absurd h
+  in_present kind.Link f g (inl e) = (λ x. cc, e)
+  in_present kind.Link f g (inr h) = absurd h
 
   present_in : (k : Kind) (f : Found) → k ≢ kind.Absent → In f (present k f)
   present_in kind.Absent f h = absurd (h refl)
   present_in kind.File f h = inl refl
   present_in kind.Dir f h = inl refl
+  present_in kind.Link f h = inl refl
 
   looked_one : (c : List Glyph) (dir g : Found) (o : Option Found) → found cwd (name_below dir.name (bytes_of c)) ≡ o → In g (looked s d cwd o) → OneBy false c dir g
   looked_one c dir g None e h = absurd h
@@ -392,11 +466,19 @@ module _ (told : Told) (s : State) (d : Changes) (cwd : List ℕ) where
     λ r. subst (λ (o : List (List ℕ)). Contains o end) (sym is) ((has_ends gs end).1 (in_contains end (ends s d cwd gs) (reached_ends gs end r))),
   )
 
-pub names_rise : (s : State) (w : Workspace) (cwd : List ℕ) (gs : List Glyph) (out : List (List ℕ)) → (matching_names cwd gs (snapshot s) w).0 ≡ Ok out → IsStrictlySortedBy (slice_cmp nat_cmp) out
-names_rise s w cwd gs out h = subst (IsStrictlySortedBy (slice_cmp nat_cmp)) (sym (gives_matching s w.changes cwd gs w refl out h).0) (in_order_rises (slice_cmp nat_cmp) (ends s w.changes cwd gs))
+sorted_by : (r : Result (List Found) DeskNo) (w : Workspace) (s : State) (out : List (List ℕ)) → (go_on r w (λ (end : List Found). done (sorted (map (λ f. f.name) end))) (snapshot s)).0 ≡ Ok out → IsStrictlySortedBy (slice_cmp nat_cmp) out
+unfolding done
+sorted_by (Ok end) w s out e =
+    let names = map (λ (f : Found). f.name) end in
+    subst (IsStrictlySortedBy (slice_cmp nat_cmp)) (let is : sorted names ≡ out = cc in is) (in_order_rises (slice_cmp nat_cmp) names)
+sorted_by (Err x) w s out e = absurd cc
 
-pub names_given : (told : Told) (s : State) (w : Workspace) (cwd : List ℕ) (gs : List Glyph) (out : List (List ℕ)) (end : List ℕ) → (matching_names cwd gs (snapshot s) w).0 ≡ Ok out → (Contains out end → Reached told s w.changes cwd gs end) × (Reached told s w.changes cwd gs end → Contains out end)
-names_given told s w cwd gs out end h = given_by told s w.changes cwd gs out end (gives_matching s w.changes cwd gs w refl out h).0
+pub names_rise : (s : State) (w : Workspace) (cwd : List ℕ) (gs : List Glyph) (out : List (List ℕ)) → (matching_names cwd gs (snapshot s) w).0 ≡ Ok out → IsStrictlySortedBy (slice_cmp nat_cmp) out
+unfolding matching_names ◌>>=◌
+names_rise s w cwd gs out h = sorted_by (walk cwd (components gs) (start cwd gs) (snapshot s) w).0 (walk cwd (components gs) (start cwd gs) (snapshot s) w).1 s out h
+
+pub names_given : (told : Told) (s : State) (w : Workspace) → NoLinks s w.changes → (cwd : List ℕ) (gs : List Glyph) (out : List (List ℕ)) (end : List ℕ) → (matching_names cwd gs (snapshot s) w).0 ≡ Ok out → (Contains out end → Reached told s w.changes cwd gs end) × (Reached told s w.changes cwd gs end → Contains out end)
+names_given told s w none cwd gs out end h = given_by told s w.changes cwd gs out end (gives_matching s w.changes cwd none gs w refl out h).0
 
 -- ---- components
 

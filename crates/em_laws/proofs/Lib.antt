@@ -7,6 +7,7 @@ mod Joining
 mod Naming
 mod Expanding
 mod Changing
+mod Going
 mod Filing
 mod Shortening
 mod Printing
@@ -21,4 +22,5 @@ mod Answering
 mod Allowing
 mod Numbering
 mod Leaving
+mod Linking
 mod Sparing

@@ -188,6 +188,7 @@ names_told t p h = by_kind (kind_of (get t p))
     by_kind : (k : Kind) → All IsComponent (unwrap_or (in_dir k (filter_map last_of (children_of t p))) [])
     by_kind kind.Absent = IsNameList-none.components
     by_kind kind.File = IsNameList-none.components
+    by_kind kind.Link = IsNameList-none.components
     by_kind kind.Dir = (IsNameList-names t p h).components
 
 module _ (t : Table) (d : Changes) (low : IsTree t) (paths : (k : List ℕ) → IsSome (get d k) → IsPath k) (p : List ℕ) where

@@ -7,7 +7,7 @@ use Rattle.std.specs.FinMap.{get, entries, find, get-entries, get-empty}
 use Rattle.std.specs.Ordering.{eq_by_cmp}
 use Rattle.em_base.proofs.Lemmas.{by_cases}
 use Rattle.em_tree.specs.declared.node.Node.{Node}
-use Rattle.em_tree.specs.declared.node.Node.TheVariants.{File, Dir}
+use Rattle.em_tree.specs.declared.node.Node.TheVariants.{File, Dir, Link}
 use Rattle.em_tree.specs.declared.state.State.{State}
 use Rattle.em_tree.specs.Trees.{Table, Changes, stamp_in, stamp_of, greatest, base_of, changed}
 use Rattle.em_tree.proofs.Maps.{order}
@@ -19,7 +19,7 @@ use Rattle.em_laws.specs.Nodes.{tree_seen}
 use Rattle.em_laws.specs.Files.{AreOld}
 use Rattle.em_laws.specs.Calls.{next_number, IsPaid, IsCounted, with_stamp}
 use Rattle.em_laws.proofs.Calling.{Changed, next}
-use Rattle.em_laws.proofs.Allowing.{tree_alone, tree_both, put_changed, place_changed, make_changed, remove_taken, touch_made}
+use Rattle.em_laws.proofs.Allowing.{tree_alone, tree_both, put_behind, place_behind, make_behind, remove_behind, touch_behind}
 
 -- ---- numbers
 
@@ -70,24 +70,25 @@ module _ (s : State) (w : Workspace) (old : AreOld s w) where
   none m e = absurd cc
 
   pub put_old : (p bytes : List ℕ) → (put p bytes (snapshot s) w).0 ≡ Ok tt → AreOld s (put p bytes (snapshot s) w).1
-  put_old p bytes e = old_still s w p (Some (File bytes (next s w))) (put p bytes (snapshot s) w).1 old (λ m f. own (next s w) m f (omega arith)) _ _ (put_changed s w p bytes e)
+  put_old p bytes e = let r = put_behind s w p bytes e in old_still s w r.0 (Some (File bytes (next s w))) (put p bytes (snapshot s) w).1 old (λ m f. own (next s w) m f (omega arith)) _ _ r.2
 
   pub place_old : (p bytes : List ℕ) (stamp : ℕ) → stamp ≤ next_number w → (place p bytes stamp (snapshot s) w).0 ≡ Ok tt → AreOld s (place p bytes stamp (snapshot s) w).1
-  place_old p bytes stamp le e = old_still s w p (Some (File bytes stamp)) (place p bytes stamp (snapshot s) w).1 old (λ m f. own stamp m f (omega arith)) _ _ (place_changed s w p bytes stamp e)
+  place_old p bytes stamp le e = let r = place_behind s w p bytes stamp e in old_still s w r.0 (Some (File bytes stamp)) (place p bytes stamp (snapshot s) w).1 old (λ m f. own stamp m f (omega arith)) _ _ r.2
 
   pub make_old : (p : List ℕ) → (make_dir p (snapshot s) w).0 ≡ Ok tt → AreOld s (make_dir p (snapshot s) w).1
-  make_old p e = old_still s w p (Some (Dir (next s w))) (make_dir p (snapshot s) w).1 old (λ m f. own (next s w) m f (omega arith)) _ _ (make_changed s w p e)
+  make_old p e = let r = make_behind s w p e in old_still s w r.0 (Some (Dir (next s w))) (make_dir p (snapshot s) w).1 old (λ m f. own (next s w) m f (omega arith)) _ _ r.2
 
   pub remove_old : (p : List ℕ) → (remove p (snapshot s) w).0 ≡ Ok tt → AreOld s (remove p (snapshot s) w).1
-  remove_old p e = let r = remove_taken s w p e in old_still s w p None (remove p (snapshot s) w).1 old (λ m f. none m f) (Some r.0) 0 r.2
+  remove_old p e = let r = remove_behind s w p e in old_still s w r.0 None (remove p (snapshot s) w).1 old (λ m f. none m f) (Some r.2.0) r.1 r.2.2
 
   stamped_at : (n m : ℕ) (node : Node) → stamp_of (Some (with_stamp n node)) ≡ Some m → n ≡ m
   stamped_at n m (File bytes stamp) e = cc
   stamped_at n m (Dir stamp) e = cc
+  stamped_at n m (Link text stamp) e = cc
 
   pub touch_old : (p : List ℕ) → (touch p (snapshot s) w).0 ≡ Ok tt → AreOld s (touch p (snapshot s) w).1
-  touch_old p e = let r = touch_made s w p e in
-      old_still s w p (Some (with_stamp (next s w) r.0)) (touch p (snapshot s) w).1 old (λ m f. own (next s w) m (ap Some (stamped_at (next s w) m r.0 f)) (omega arith)) None 0 r.2
+  touch_old p e = let r = touch_behind s w p e in
+      old_still s w r.0 (Some (with_stamp (next s w) r.2.0)) (touch p (snapshot s) w).1 old (λ m f. own (next s w) m (ap Some (stamped_at (next s w) m r.2.0 f)) (omega arith)) None r.1 r.2.2
 
   pub above_all : (q : List ℕ) (n : ℕ) → stamp_of (get (tree_seen s w) q) ≡ Some n → n < next_number w
   above_all q n e = let le : n ≤ change_number w.base w.job w.count = old q n e in omega arith

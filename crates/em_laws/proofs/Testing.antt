@@ -17,13 +17,13 @@ use Rattle.em_tree.specs.declared.node.Kind.{Kind}
 use Rattle.em_tree.specs.declared.node.Kind.TheVariants as kind
 use Rattle.em_tree.specs.declared.node.Node.{Node}
 use Rattle.em_tree.specs.declared.state.State.{State}
-use Rattle.em_tree.specs.Trees.{Changes, kind_of, stamp_of, content_of}
+use Rattle.em_tree.specs.Trees.{Changes, kind_of, stamp_of, content_of, link_of}
 use Rattle.em_view.specs.declared.no.DeskNo.{DeskNo}
 use Rattle.em_view.specs.declared.done.Done.{Done}
 use Rattle.em_view.specs.declared.done.ExecNo.{ExecNo}
 use Rattle.em_view.specs.Actions.{Workspace, Oracle, snapshot, Action, go_on, ◌>>=◌, done, lift, renamed}
 use Rattle.em_view.specs.Ends.{of_desk}
-use Rattle.em_view.specs.Rows.{kind_at, stamp_at, content}
+use Rattle.em_view.specs.Rows.{kind_at, stamp_at, content, link_at}
 use Rattle.em_lineutil.specs.declared.test.Unary.{Unary}
 use Rattle.em_lineutil.specs.declared.test.Unary.TheVariants as unary
 use Rattle.em_lineutil.specs.declared.test.Relation.{Relation}
@@ -32,11 +32,14 @@ use Rattle.em_lineutil.specs.Formats.{number_of}
 use Rattle.em_lineutil.specs.Tests.{binary_of, is_negated, stripped, form_of, by_order}
 use Rattle.em_textutil.specs.declared.expression.Verdict.{Verdict}
 use Rattle.em_textutil.specs.declared.expression.Verdict.TheVariants.{Is, Strange, Syntax}
-use Rattle.em_textutil.specs.Expressions.{path_by, path_of, kind_by, stamp_by, content_by, is_of, is_filled, has_bytes, is_above, is_newest, says_kind, says_bytes, says_stamps, numbers_say, says, truth, answer, test_words}
+use Rattle.em_textutil.specs.Expressions.{path_by, path_of, kind_by, stamp_by, content_by, link_by, is_of, is_filled, has_bytes, is_above, is_newest, says_kind, says_bytes, says_link, says_stamps, numbers_say, says, truth, answer, test_words}
 use Rattle.em_textutil.specs.Utilities.{lacks_end, bracketed}
 use Rattle.em_laws.specs.Tested.{yes, no, Leaves, Compare, Finds, opposite, opposite_by, IsNoComparison}
-use Rattle.em_laws.proofs.Expanding.{Gives, gives_kind}
-use Rattle.em_laws.proofs.Filing.{gives_content, gives_stamp, node_there}
+use Rattle.std.specs.FinMap.{get}
+use Rattle.em_laws.specs.Nodes.{tree_seen, HasNoLinksAbove}
+use Rattle.em_laws.proofs.Expanding.{Gives, gives_kind, gives_link_at, node_there, led_there, plainly, NoLinks}
+use Rattle.em_laws.proofs.Linking.{plain_at}
+use Rattle.em_laws.proofs.Filing.{gives_content, gives_stamp}
 
 -- ---- words alone
 
@@ -142,33 +145,33 @@ module _ (s : State) (d : Changes) where
     abbrev there : List ℕ → Option Node
     there name = node_there s d (resolved_text cwd name)
 
-    gives_says_kind : (u : Unary) (name : List ℕ) → read_fault cwd name ≡ None → GivesE (says_kind cwd u name) (λ v. v ≡ Is (is_of u (kind_of (there name))))
+    gives_says_kind : NoLinks s d → (u : Unary) (name : List ℕ) → read_fault cwd name ≡ None → GivesE (says_kind cwd u name) (λ v. v ≡ Is (is_of u (kind_of (there name))))
     unfolding says_kind
-    gives_says_kind u name e =
+    gives_says_kind none u name e =
         let p = resolved_text cwd name in
         e_then (kind_by (path_of cwd name)) (λ k. k ≡ kind_of (there name)) (λ k. done (Is (is_of u k))) (λ v. v ≡ Is (is_of u (kind_of (there name))))
-        (subst (λ (o : Option (List ℕ)). GivesE (kind_by o) (λ k. k ≡ kind_of (there name))) (sym (path_there name e)) (lifted (kind_at p) (λ k. k ≡ kind_of (there name)) (gives_kind s d p)))
+        (subst (λ (o : Option (List ℕ)). GivesE (kind_by o) (λ k. k ≡ kind_of (there name))) (sym (path_there name e)) (lifted (kind_at p) (λ k. k ≡ kind_of (there name)) (gives_kind s d none p)))
         (λ k is. e_done (λ v. v ≡ Is (is_of u (kind_of (there name)))) (Is (is_of u k)) (ap (λ (z : Kind). Is (is_of u z)) is))
 
-    gives_says_bytes : (name : List ℕ) → read_fault cwd name ≡ None → GivesE (says_bytes cwd name) (λ v. v ≡ Is (has_bytes (content_of (there name))))
+    gives_says_bytes : NoLinks s d → (name : List ℕ) → read_fault cwd name ≡ None → GivesE (says_bytes cwd name) (λ v. v ≡ Is (has_bytes (content_of (there name))))
     unfolding says_bytes
-    gives_says_bytes name e =
+    gives_says_bytes none name e =
         let p = resolved_text cwd name in
         e_then (content_by (path_of cwd name)) (λ b. b ≡ content_of (there name)) (λ b. done (Is (has_bytes b))) (λ v. v ≡ Is (has_bytes (content_of (there name))))
-        (subst (λ (o : Option (List ℕ)). GivesE (content_by o) (λ b. b ≡ content_of (there name))) (sym (path_there name e)) (lifted (content p) (λ b. b ≡ content_of (there name)) (gives_content s d p)))
+        (subst (λ (o : Option (List ℕ)). GivesE (content_by o) (λ b. b ≡ content_of (there name))) (sym (path_there name e)) (lifted (content p) (λ b. b ≡ content_of (there name)) (gives_content s d none p)))
         (λ b is. e_done (λ v. v ≡ Is (has_bytes (content_of (there name)))) (Is (has_bytes b)) (ap (λ (z : Option (List ℕ)). Is (has_bytes z)) is))
 
-    gives_stamp_by : (name : List ℕ) → read_fault cwd name ≡ None → GivesE (stamp_by (path_of cwd name)) (λ t. t ≡ stamp_of (there name))
-    gives_stamp_by name e =
+    gives_stamp_by : NoLinks s d → (name : List ℕ) → read_fault cwd name ≡ None → GivesE (stamp_by (path_of cwd name)) (λ t. t ≡ stamp_of (there name))
+    gives_stamp_by none name e =
         let p = resolved_text cwd name in
-        subst (λ (o : Option (List ℕ)). GivesE (stamp_by o) (λ t. t ≡ stamp_of (there name))) (sym (path_there name e)) (lifted (stamp_at p) (λ t. t ≡ stamp_of (there name)) (gives_stamp s d p))
+        subst (λ (o : Option (List ℕ)). GivesE (stamp_by o) (λ t. t ≡ stamp_of (there name))) (sym (path_there name e)) (lifted (stamp_at p) (λ t. t ≡ stamp_of (there name)) (gives_stamp s d none p))
 
-    gives_says_stamps : (first : Bool) (a b : List ℕ) → read_fault cwd a ≡ None → read_fault cwd b ≡ None → GivesE (says_stamps cwd first a b) (λ v. v ≡ Is (is_newest first (stamp_of (there a)) (stamp_of (there b))))
+    gives_says_stamps : NoLinks s d → (first : Bool) (a b : List ℕ) → read_fault cwd a ≡ None → read_fault cwd b ≡ None → GivesE (says_stamps cwd first a b) (λ v. v ≡ Is (is_newest first (stamp_of (there a)) (stamp_of (there b))))
     unfolding says_stamps
-    gives_says_stamps first a b e f =
+    gives_says_stamps none first a b e f =
         let Q = λ (v : Verdict). v ≡ Is (is_newest first (stamp_of (there a)) (stamp_of (there b))) in
-        e_then (stamp_by (path_of cwd a)) (λ t. t ≡ stamp_of (there a)) (λ t. stamp_by (path_of cwd b) >>= (λ u. done (Is (is_newest first t u)))) Q (gives_stamp_by a e) (λ t is.
-        e_then (stamp_by (path_of cwd b)) (λ u. u ≡ stamp_of (there b)) (λ u. done (Is (is_newest first t u))) Q (gives_stamp_by b f) (λ u was.
+        e_then (stamp_by (path_of cwd a)) (λ t. t ≡ stamp_of (there a)) (λ t. stamp_by (path_of cwd b) >>= (λ u. done (Is (is_newest first t u)))) Q (gives_stamp_by none a e) (λ t is.
+        e_then (stamp_by (path_of cwd b)) (λ u. u ≡ stamp_of (there b)) (λ u. done (Is (is_newest first t u))) Q (gives_stamp_by none b f) (λ u was.
         e_done Q (Is (is_newest first t u)) (ap (λ (z : Option ℕ). Is (is_newest first z u)) is ∙ ap (λ (z : Option ℕ). Is (is_newest first (stamp_of (there a)) z)) was)))
 
     gives_answer : (ws : List (List ℕ)) (b : Bool) → stripped false ws ≡ (false, ws) → GivesE (says cwd (form_of ws) ws) (λ v. v ≡ Is b) → GivesE (test_words cwd ws) (λ x. x ≡ verdict b)
@@ -185,11 +188,13 @@ is_there : (k : Kind) → k ≢ kind.Absent → is_of unary.Exists k ≡ true
 is_there kind.Absent h = absurd (h refl)
 is_there kind.File h = refl
 is_there kind.Dir h = refl
+is_there kind.Link h = refl
 
 isnt_there : (k : Kind) → ((k ≢ kind.Absent) → ⊥) → is_of unary.Exists k ≡ false
 isnt_there kind.Absent h = refl
 isnt_there kind.File h = absurd (h (λ e. cc))
 isnt_there kind.Dir h = absurd (h (λ e. cc))
+isnt_there kind.Link h = absurd (h (λ e. cc))
 
 is_file : (k : Kind) → k ≡ kind.File → is_of unary.IsFile k ≡ true
 is_file k e = ap (is_of unary.IsFile) e
@@ -198,6 +203,7 @@ isnt_file : (k : Kind) → k ≢ kind.File → is_of unary.IsFile k ≡ false
 isnt_file kind.Absent h = refl
 isnt_file kind.File h = absurd (h refl)
 isnt_file kind.Dir h = refl
+isnt_file kind.Link h = refl
 
 is_dir : (k : Kind) → k ≡ kind.Dir → is_of unary.IsDir k ≡ true
 is_dir k e = ap (is_of unary.IsDir) e
@@ -205,6 +211,7 @@ is_dir k e = ap (is_of unary.IsDir) e
 isnt_dir : (k : Kind) → k ≢ kind.Dir → is_of unary.IsDir k ≡ false
 isnt_dir kind.Absent h = refl
 isnt_dir kind.File h = refl
+isnt_dir kind.Link h = refl
 isnt_dir kind.Dir h = absurd (h refl)
 
 abbrev Filled : Option (List ℕ) → Type 0
@@ -229,24 +236,24 @@ isnt_newer None b h = refl
 isnt_newer (Some m) None h = refl
 isnt_newer (Some m) (Some n) h = by_cases (nat_lt n m) (λ t. nat_lt n m ≡ t → t ≡ false) (λ _ is. absurd (h (m, n, refl, refl, ltb-true n m is))) (λ _ _. refl) refl
 
-module _ (s : State) (w : Workspace) (cwd : List ℕ) where
+module _ (s : State) (w : Workspace) (none : NoLinks s w.changes) (cwd : List ℕ) where
   abbrev node : List ℕ → Option Node
   node name = node_there s w.changes (resolved_text cwd name)
 
   pub test_exists : (name : List ℕ) → read_fault cwd name ≡ None → Finds s w cwd (codes "-e" ∷ name ∷ []) (kind_of (node name) ≢ kind.Absent)
-  test_exists name e = finds s w cwd (codes "-e" ∷ name ∷ []) (kind_of (node name) ≢ kind.Absent) (is_of unary.Exists (kind_of (node name))) refl (gives_says_kind s w.changes cwd unary.Exists name e) (is_there (kind_of (node name))) (isnt_there (kind_of (node name)))
+  test_exists name e = finds s w cwd (codes "-e" ∷ name ∷ []) (kind_of (node name) ≢ kind.Absent) (is_of unary.Exists (kind_of (node name))) refl (gives_says_kind s w.changes cwd none unary.Exists name e) (is_there (kind_of (node name))) (isnt_there (kind_of (node name)))
 
   pub test_file : (name : List ℕ) → read_fault cwd name ≡ None → Finds s w cwd (codes "-f" ∷ name ∷ []) (kind_of (node name) ≡ kind.File)
-  test_file name e = finds s w cwd (codes "-f" ∷ name ∷ []) (kind_of (node name) ≡ kind.File) (is_of unary.IsFile (kind_of (node name))) refl (gives_says_kind s w.changes cwd unary.IsFile name e) (is_file (kind_of (node name))) (isnt_file (kind_of (node name)))
+  test_file name e = finds s w cwd (codes "-f" ∷ name ∷ []) (kind_of (node name) ≡ kind.File) (is_of unary.IsFile (kind_of (node name))) refl (gives_says_kind s w.changes cwd none unary.IsFile name e) (is_file (kind_of (node name))) (isnt_file (kind_of (node name)))
 
   pub test_dir : (name : List ℕ) → read_fault cwd name ≡ None → Finds s w cwd (codes "-d" ∷ name ∷ []) (kind_of (node name) ≡ kind.Dir)
-  test_dir name e = finds s w cwd (codes "-d" ∷ name ∷ []) (kind_of (node name) ≡ kind.Dir) (is_of unary.IsDir (kind_of (node name))) refl (gives_says_kind s w.changes cwd unary.IsDir name e) (is_dir (kind_of (node name))) (isnt_dir (kind_of (node name)))
+  test_dir name e = finds s w cwd (codes "-d" ∷ name ∷ []) (kind_of (node name) ≡ kind.Dir) (is_of unary.IsDir (kind_of (node name))) refl (gives_says_kind s w.changes cwd none unary.IsDir name e) (is_dir (kind_of (node name))) (isnt_dir (kind_of (node name)))
 
   pub test_bytes : (name : List ℕ) → read_fault cwd name ≡ None → Finds s w cwd (codes "-s" ∷ name ∷ []) (Filled (content_of (node name)))
-  test_bytes name e = finds s w cwd (codes "-s" ∷ name ∷ []) (Filled (content_of (node name))) (has_bytes (content_of (node name))) refl (gives_says_bytes s w.changes cwd name e) (has_some (content_of (node name))) (has_none (content_of (node name)))
+  test_bytes name e = finds s w cwd (codes "-s" ∷ name ∷ []) (Filled (content_of (node name))) (has_bytes (content_of (node name))) refl (gives_says_bytes s w.changes cwd none name e) (has_some (content_of (node name))) (has_none (content_of (node name)))
 
   pub test_newer : (a b : List ℕ) → read_fault cwd a ≡ None → read_fault cwd b ≡ None → Finds s w cwd (a ∷ codes "-nt" ∷ b ∷ []) (Above (stamp_of (node a)) (stamp_of (node b)))
-  test_newer a b e f = finds s w cwd (a ∷ codes "-nt" ∷ b ∷ []) (Above (stamp_of (node a)) (stamp_of (node b))) (is_above (stamp_of (node a)) (stamp_of (node b))) (compared a (codes "-nt") b refl) (gives_says_stamps s w.changes cwd true a b e f) (is_newer (stamp_of (node a)) (stamp_of (node b))) (isnt_newer (stamp_of (node a)) (stamp_of (node b)))
+  test_newer a b e f = finds s w cwd (a ∷ codes "-nt" ∷ b ∷ []) (Above (stamp_of (node a)) (stamp_of (node b))) (is_above (stamp_of (node a)) (stamp_of (node b))) (compared a (codes "-nt") b refl) (gives_says_stamps s w.changes cwd none true a b e f) (is_newer (stamp_of (node a)) (stamp_of (node b))) (isnt_newer (stamp_of (node a)) (stamp_of (node b)))
 
   abbrev Under : Option ℕ → Option ℕ → Type 0
   Under a b = (m : ℕ) × (n : ℕ) × (a ≡ Some m) × (b ≡ Some n) × (m < n)
@@ -255,8 +262,41 @@ module _ (s : State) (w : Workspace) (cwd : List ℕ) where
   test_older a b e f =
       let x = stamp_of (node a) in
       let y = stamp_of (node b) in
-      finds s w cwd (a ∷ codes "-ot" ∷ b ∷ []) (Under x y) (is_above y x) (compared a (codes "-ot") b refl) (gives_says_stamps s w.changes cwd false a b e f)
+      finds s w cwd (a ∷ codes "-ot" ∷ b ∷ []) (Under x y) (is_above y x) (compared a (codes "-ot") b refl) (gives_says_stamps s w.changes cwd none false a b e f)
       (λ (m, n, i, j, lt). is_newer y x (n, m, j, i, lt)) (λ h. isnt_newer y x (λ (n, m, j, i, lt). h (m, n, i, j, lt)))
+
+-- ---- links
+
+module _ (s : State) (d : Changes) (cwd name : List ℕ) (fine : read_fault cwd name ≡ None) where
+  abbrev spot : List ℕ
+  spot = resolved_text cwd name
+
+  gives_says_link : led_there s d false spot ≡ plainly s d spot → GivesE s d (says_link cwd name) (λ v. v ≡ Is (is_some (link_of (node_there s d spot))))
+  unfolding says_link
+  gives_says_link plain =
+      let text = link_of (node_there s d spot) in
+      e_then s d (link_by (path_of cwd name)) (λ l. l ≡ text) (λ l. done (Is (is_some l))) (λ v. v ≡ Is (is_some text))
+      (subst (λ (o : Option (List ℕ)). GivesE s d (link_by o) (λ l. l ≡ text)) (sym (path_there s d cwd name fine)) (lifted s d (link_at spot) (λ l. l ≡ text) (gives_link_at s d spot plain)))
+      (λ l is. e_done s d (λ v. v ≡ Is (is_some text)) (Is (is_some l)) (ap (λ (z : Option (List ℕ)). Is (is_some z)) is))
+
+abbrev Says : Option (List ℕ) → Type 0
+Says o = (text : List ℕ) × (o ≡ Some text)
+
+says_some : (o : Option (List ℕ)) → Says o → is_some o ≡ true
+says_some o (text, e) = ap is_some e
+
+says_none : (o : Option (List ℕ)) → (Says o → ⊥) → is_some o ≡ false
+says_none None h = refl
+says_none (Some text) h = absurd (h (text, refl))
+
+pub test_link : (s : State) (w : Workspace) (cwd name : List ℕ) → read_fault cwd name ≡ None → HasNoLinksAbove s w (resolved_text cwd name)
+    → Finds s w cwd (codes "-h" ∷ name ∷ []) (Says (link_of (get (tree_seen s w) (resolved_text cwd name)))) × Finds s w cwd (codes "-L" ∷ name ∷ []) (Says (link_of (get (tree_seen s w) (resolved_text cwd name))))
+test_link s w cwd name fine clear =
+    let text = link_of (get (tree_seen s w) (resolved_text cwd name)) in
+    let gives = gives_says_link s w.changes cwd name fine (plain_at s w (resolved_text cwd name) clear) in (
+      finds s w cwd (codes "-h" ∷ name ∷ []) (Says text) (is_some text) refl gives (says_some text) (says_none text),
+      finds s w cwd (codes "-L" ∷ name ∷ []) (Says text) (is_some text) refl gives (says_some text) (says_none text),
+    )
 
 -- ---- negation
 

@@ -12,7 +12,7 @@ use Rattle.std.specs.FinMap.{get}
 use Rattle.em_path.specs.Paths.{parent_text}
 use Rattle.em_tree.specs.declared.node.Kind.TheVariants as kind
 use Rattle.em_tree.specs.declared.node.Node.{Node}
-use Rattle.em_tree.specs.declared.node.Node.TheVariants.{File, Dir}
+use Rattle.em_tree.specs.declared.node.Node.TheVariants.{File, Dir, Link}
 use Rattle.em_tree.specs.Trees.{Table, kind_of}
 use Rattle.em_view.specs.Actions.{Workspace}
 
@@ -64,3 +64,4 @@ MayTouch t p = kind_of (get t p) ≢ kind.Absent
 abbrev pub with_stamp : ℕ → Node → Node
 with_stamp n (File bytes stamp) = File bytes n
 with_stamp n (Dir stamp) = Dir n
+with_stamp n (Link text stamp) = Link text n

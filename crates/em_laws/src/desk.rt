@@ -7,6 +7,8 @@
 //! but where `place` is given another one; the directory above gets it where a name has come or
 //! gone, and whenever a file is placed. A call that fails changes nothing, but fuel may be gone and
 //! questions asked.
+//!
+//! `HasNoLinks s w` says that the job sees no symbolic link: each path then leads to itself.
 ghost use Rattle.std.specs.Prelude.{
   ◌≡◌,
   ◌≢◌,
@@ -25,6 +27,7 @@ ghost use Rattle.std.specs.Prelude.{
   unwrap_or,
   Ok,
   Some,
+  None,
 };
 ghost use Rattle.std.specs.FinMap as finite;
 ghost use Rattle.std.specs.FinMap.{get, insert};
@@ -34,7 +37,7 @@ ghost use Rattle.em_tree.specs.declared.node.Node.{Node};
 ghost use Rattle.em_tree.specs.declared.node.Node.TheVariants as nodes;
 ghost use Rattle.em_tree.specs.declared.state.State.{State};
 ghost use Rattle.em_tree.specs.Names.{names_of};
-ghost use Rattle.em_tree.specs.Trees.{base_of, kind_of, stamp_of, content_of};
+ghost use Rattle.em_tree.specs.Trees.{IsTree, base_of, kind_of, stamp_of, content_of, link_of};
 ghost use Rattle.em_view.specs.Actions.{Workspace, snapshot, spend};
 ghost use Rattle.em_view.specs.Rows.{
   change_number,
@@ -46,6 +49,8 @@ ghost use Rattle.em_view.specs.Rows.{
   put,
   place,
   make_dir,
+  link_at,
+  make_link,
   remove,
   touch,
 };
@@ -62,27 +67,27 @@ ghost use Rattle.em_laws.specs.Calls.{
   with_stamp,
 };
 ghost use Rattle.em_laws.specs.Files.{AreOld, AreWhole};
-ghost use Rattle.em_laws.specs.Nodes.{tree_seen};
+ghost use Rattle.em_laws.specs.Nodes.{tree_seen, HasNoLinks, HasNoLinksAbove};
 
 /// A file is put exactly where no directory is and a directory is right above, of at most 16 MiB,
 /// while there is fuel. It then has the number of the change, and its directory gets it where the
 /// name is new.
 pub fn law_put()
-    ensures ok { (s : State) (w : Workspace) (p bytes : List ℕ)
+    ensures ok { (s : State) (w : Workspace) → HasNoLinks s w → (p bytes : List ℕ)
         → ((put p bytes (snapshot s) w).0 ≡ Ok tt)
         ↔ (MayPut (tree_seen s w) p (length bytes) × HasFuel (length bytes) w) }
-    ensures new { (s : State) (w : Workspace) (p bytes dir : List ℕ)
+    ensures new { (s : State) (w : Workspace) → HasNoLinks s w → (p bytes dir : List ℕ)
         → (put p bytes (snapshot s) w).0 ≡ Ok tt → kind_of (get (tree_seen s w) p) ≡ kinds.Absent
         → parent_text p ≡ Some dir → tree_seen s (put p bytes (snapshot s) w).1
         ≡ insert (insert (tree_seen s w) p (nodes.File bytes (next_number w))) dir
         (nodes.Dir (next_number w)) }
-    ensures over { (s : State) (w : Workspace) (p bytes : List ℕ)
+    ensures over { (s : State) (w : Workspace) → HasNoLinks s w → (p bytes : List ℕ)
         → (put p bytes (snapshot s) w).0 ≡ Ok tt → kind_of (get (tree_seen s w) p) ≢ kinds.Absent
         → tree_seen s (put p bytes (snapshot s) w).1
         ≡ insert (tree_seen s w) p (nodes.File bytes (next_number w)) }
     ensures kept { (s : State) (w : Workspace) (p bytes : List ℕ)
         → (put p bytes (snapshot s) w).0 ≢ Ok tt → IsAsked w (put p bytes (snapshot s) w).1 }
-    ensures cost { (s : State) (w : Workspace) (p bytes : List ℕ)
+    ensures cost { (s : State) (w : Workspace) → HasNoLinks s w → (p bytes : List ℕ)
         → (put p bytes (snapshot s) w).0 ≡ Ok tt
         → IsPaid (length bytes) w (put p bytes (snapshot s) w).1
         × IsCounted w (put p bytes (snapshot s) w).1 }
@@ -91,10 +96,11 @@ pub fn law_put()
 /// A file is placed where it may be put. It has the stamp that was given, and its directory always
 /// gets the number of the change.
 pub fn law_place()
-    ensures ok { (s : State) (w : Workspace) (p bytes : List ℕ) (stamp : ℕ)
+    ensures ok { (s : State) (w : Workspace) → HasNoLinks s w → (p bytes : List ℕ) (stamp : ℕ)
         → ((place p bytes stamp (snapshot s) w).0 ≡ Ok tt)
         ↔ (MayPut (tree_seen s w) p (length bytes) × HasFuel (length bytes) w) }
-    ensures tree { (s : State) (w : Workspace) (p bytes : List ℕ) (stamp : ℕ) (dir : List ℕ)
+    ensures tree { (s : State) (w : Workspace) → HasNoLinks s w
+        → (p bytes : List ℕ) (stamp : ℕ) (dir : List ℕ)
         → (place p bytes stamp (snapshot s) w).0 ≡ Ok tt → parent_text p ≡ Some dir
         → tree_seen s (place p bytes stamp (snapshot s) w).1
         ≡ insert (insert (tree_seen s w) p (nodes.File bytes stamp)) dir
@@ -102,7 +108,7 @@ pub fn law_place()
     ensures kept { (s : State) (w : Workspace) (p bytes : List ℕ) (stamp : ℕ)
         → (place p bytes stamp (snapshot s) w).0 ≢ Ok tt
         → IsAsked w (place p bytes stamp (snapshot s) w).1 }
-    ensures cost { (s : State) (w : Workspace) (p bytes : List ℕ) (stamp : ℕ)
+    ensures cost { (s : State) (w : Workspace) → HasNoLinks s w → (p bytes : List ℕ) (stamp : ℕ)
         → (place p bytes stamp (snapshot s) w).0 ≡ Ok tt
         → IsPaid (length bytes) w (place p bytes stamp (snapshot s) w).1
         × IsCounted w (place p bytes stamp (snapshot s) w).1 }
@@ -111,16 +117,16 @@ pub fn law_place()
 /// A directory is made exactly where nothing is and a directory is right above, while there is
 /// fuel. Both then have the number of the change.
 pub fn law_make()
-    ensures ok { (s : State) (w : Workspace) (p : List ℕ)
+    ensures ok { (s : State) (w : Workspace) → HasNoLinks s w → (p : List ℕ)
         → ((make_dir p (snapshot s) w).0 ≡ Ok tt) ↔ (MayMake (tree_seen s w) p × HasFuel 0 w) }
-    ensures tree { (s : State) (w : Workspace) (p dir : List ℕ)
+    ensures tree { (s : State) (w : Workspace) → HasNoLinks s w → (p dir : List ℕ)
         → (make_dir p (snapshot s) w).0 ≡ Ok tt → parent_text p ≡ Some dir
         → tree_seen s (make_dir p (snapshot s) w).1
         ≡ insert (insert (tree_seen s w) p (nodes.Dir (next_number w))) dir
         (nodes.Dir (next_number w)) }
     ensures kept { (s : State) (w : Workspace) (p : List ℕ)
         → (make_dir p (snapshot s) w).0 ≢ Ok tt → IsAsked w (make_dir p (snapshot s) w).1 }
-    ensures cost { (s : State) (w : Workspace) (p : List ℕ)
+    ensures cost { (s : State) (w : Workspace) → HasNoLinks s w → (p : List ℕ)
         → (make_dir p (snapshot s) w).0 ≡ Ok tt
         → IsPaid 0 w (make_dir p (snapshot s) w).1
         × IsCounted w (make_dir p (snapshot s) w).1 }
@@ -129,15 +135,15 @@ pub fn law_make()
 /// What is removed is there, isn't the root, and has nothing right below it; of all such, while
 /// there is fuel. Its directory gets the number of the change.
 pub fn law_remove()
-    ensures ok { (s : State) (w : Workspace) (p : List ℕ) → AreWhole s w
+    ensures ok { (s : State) (w : Workspace) → HasNoLinks s w → (p : List ℕ) → AreWhole s w
         → ((remove p (snapshot s) w).0 ≡ Ok tt) ↔ (MayRemove (tree_seen s w) p × HasFuel 0 w) }
-    ensures tree { (s : State) (w : Workspace) (p dir : List ℕ)
+    ensures tree { (s : State) (w : Workspace) → HasNoLinks s w → (p dir : List ℕ)
         → (remove p (snapshot s) w).0 ≡ Ok tt → parent_text p ≡ Some dir
         → tree_seen s (remove p (snapshot s) w).1
         ≡ insert (finite.remove (tree_seen s w) p) dir (nodes.Dir (next_number w)) }
     ensures kept { (s : State) (w : Workspace) (p : List ℕ)
         → (remove p (snapshot s) w).0 ≢ Ok tt → IsAsked w (remove p (snapshot s) w).1 }
-    ensures cost { (s : State) (w : Workspace) (p : List ℕ)
+    ensures cost { (s : State) (w : Workspace) → HasNoLinks s w → (p : List ℕ)
         → (remove p (snapshot s) w).0 ≡ Ok tt
         → IsPaid 0 w (remove p (snapshot s) w).1 × IsCounted w (remove p (snapshot s) w).1 }
 {}
@@ -145,15 +151,15 @@ pub fn law_remove()
 /// What is there can be touched, while there is fuel. It gets the number of the change, and nothing
 /// else does.
 pub fn law_touch()
-    ensures ok { (s : State) (w : Workspace) (p : List ℕ)
+    ensures ok { (s : State) (w : Workspace) → HasNoLinks s w → (p : List ℕ)
         → ((touch p (snapshot s) w).0 ≡ Ok tt) ↔ (MayTouch (tree_seen s w) p × HasFuel 0 w) }
-    ensures tree { (s : State) (w : Workspace) (p : List ℕ) (node : Node)
+    ensures tree { (s : State) (w : Workspace) → HasNoLinks s w → (p : List ℕ) (node : Node)
         → (touch p (snapshot s) w).0 ≡ Ok tt → get (tree_seen s w) p ≡ Some node
         → tree_seen s (touch p (snapshot s) w).1
         ≡ insert (tree_seen s w) p (with_stamp (next_number w) node) }
     ensures kept { (s : State) (w : Workspace) (p : List ℕ)
         → (touch p (snapshot s) w).0 ≢ Ok tt → IsAsked w (touch p (snapshot s) w).1 }
-    ensures cost { (s : State) (w : Workspace) (p : List ℕ)
+    ensures cost { (s : State) (w : Workspace) → HasNoLinks s w → (p : List ℕ)
         → (touch p (snapshot s) w).0 ≡ Ok tt
         → IsPaid 0 w (touch p (snapshot s) w).1 × IsCounted w (touch p (snapshot s) w).1 }
 {}
@@ -161,29 +167,29 @@ pub fn law_touch()
 /// What is told is what the tree says that the job sees, while there is fuel; and what is told was
 /// paid, and changed nothing.
 pub fn law_tell()
-    ensures kind { (s : State) (w : Workspace) (p : List ℕ) → HasFuel 0 w
+    ensures kind { (s : State) (w : Workspace) → HasNoLinks s w → (p : List ℕ) → HasFuel 0 w
         → (kind_at p (snapshot s) w).0 ≡ Ok (kind_of (get (tree_seen s w) p)) }
-    ensures kind_cost { (s : State) (w : Workspace) (p : List ℕ) (k : _)
+    ensures kind_cost { (s : State) (w : Workspace) → HasNoLinks s w → (p : List ℕ) (k : _)
         → (kind_at p (snapshot s) w).0 ≡ Ok k
         → HasFuel 0 w × IsPaid 0 w (kind_at p (snapshot s) w).1
         × IsAsked w (kind_at p (snapshot s) w).1 }
-    ensures stamp { (s : State) (w : Workspace) (p : List ℕ) → HasFuel 0 w
+    ensures stamp { (s : State) (w : Workspace) → HasNoLinks s w → (p : List ℕ) → HasFuel 0 w
         → (stamp_at p (snapshot s) w).0 ≡ Ok (stamp_of (get (tree_seen s w) p)) }
-    ensures stamp_cost { (s : State) (w : Workspace) (p : List ℕ) (k : _)
+    ensures stamp_cost { (s : State) (w : Workspace) → HasNoLinks s w → (p : List ℕ) (k : _)
         → (stamp_at p (snapshot s) w).0 ≡ Ok k
         → HasFuel 0 w × IsPaid 0 w (stamp_at p (snapshot s) w).1
         × IsAsked w (stamp_at p (snapshot s) w).1 }
-    ensures content { (s : State) (w : Workspace) (p : List ℕ)
+    ensures content { (s : State) (w : Workspace) → HasNoLinks s w → (p : List ℕ)
         → HasFuel (length (unwrap_or (content_of (get (tree_seen s w) p)) [])) w
         → (content p (snapshot s) w).0 ≡ Ok (content_of (get (tree_seen s w) p)) }
-    ensures content_cost { (s : State) (w : Workspace) (p : List ℕ) (body : _)
+    ensures content_cost { (s : State) (w : Workspace) → HasNoLinks s w → (p : List ℕ) (body : _)
         → (content p (snapshot s) w).0 ≡ Ok body → HasFuel (length (unwrap_or body [])) w
         × IsPaid (length (unwrap_or body [])) w (content p (snapshot s) w).1
         × IsAsked w (content p (snapshot s) w).1 }
-    ensures names { (s : State) (w : Workspace) (p : List ℕ) → AreWhole s w
+    ensures names { (s : State) (w : Workspace) → HasNoLinks s w → (p : List ℕ) → AreWhole s w
         → HasFuel (sum (map length (unwrap_or (names_of (tree_seen s w) p) []))) w
         → (names p (snapshot s) w).0 ≡ Ok (names_of (tree_seen s w) p) }
-    ensures names_cost { (s : State) (w : Workspace) (p : List ℕ) (ns : _)
+    ensures names_cost { (s : State) (w : Workspace) → HasNoLinks s w → (p : List ℕ) (ns : _)
         → (names p (snapshot s) w).0 ≡ Ok ns → HasFuel (sum (map length (unwrap_or ns []))) w
         × IsPaid (sum (map length (unwrap_or ns []))) w (names p (snapshot s) w).1
         × IsAsked w (names p (snapshot s) w).1 }
@@ -193,6 +199,40 @@ pub fn law_tell()
         → (outcome j (snapshot s) w).0 ≡ Ok k
         → HasFuel 0 w × IsPaid 0 w (outcome j (snapshot s) w).1
         × IsAsked w (outcome j (snapshot s) w).1 }
+{}
+
+/// Of a path above which no directory is a link, it is told what link stands there, and none where
+/// there is no link. A link is made there where a directory may be made, with the number of the
+/// change, which the directory above gets, too. No directory above is a link where none is seen,
+/// and, in a tree, above all that is there.
+pub fn law_link()
+    ensures text { (s : State) (w : Workspace) (p : List ℕ) → HasNoLinksAbove s w p
+        → HasFuel (length (unwrap_or (link_of (get (tree_seen s w) p)) [])) w
+        → (link_at p (snapshot s) w).0 ≡ Ok (link_of (get (tree_seen s w) p)) }
+    ensures text_cost { (s : State) (w : Workspace) (p : List ℕ) → HasNoLinksAbove s w p
+        → (text : _) → (link_at p (snapshot s) w).0 ≡ Ok text
+        → HasFuel (length (unwrap_or text [])) w
+        × IsPaid (length (unwrap_or text [])) w (link_at p (snapshot s) w).1
+        × IsAsked w (link_at p (snapshot s) w).1 }
+    ensures ok { (s : State) (w : Workspace) (p text : List ℕ) → HasNoLinksAbove s w p
+        → ((make_link p text (snapshot s) w).0 ≡ Ok tt)
+        ↔ (MayMake (tree_seen s w) p × HasFuel (length text) w) }
+    ensures tree { (s : State) (w : Workspace) (p text dir : List ℕ) → HasNoLinksAbove s w p
+        → (make_link p text (snapshot s) w).0 ≡ Ok tt → parent_text p ≡ Some dir
+        → tree_seen s (make_link p text (snapshot s) w).1
+        ≡ insert (insert (tree_seen s w) p (nodes.Link text (next_number w))) dir
+        (nodes.Dir (next_number w)) }
+    ensures kept { (s : State) (w : Workspace) (p text : List ℕ)
+        → (make_link p text (snapshot s) w).0 ≢ Ok tt
+        → IsAsked w (make_link p text (snapshot s) w).1 }
+    ensures cost { (s : State) (w : Workspace) (p text : List ℕ) → HasNoLinksAbove s w p
+        → (make_link p text (snapshot s) w).0 ≡ Ok tt
+        → IsPaid (length text) w (make_link p text (snapshot s) w).1
+        × IsCounted w (make_link p text (snapshot s) w).1 }
+    ensures none { (s : State) (w : Workspace) → HasNoLinks s w → (p : List ℕ)
+        → HasNoLinksAbove s w p × (link_of (get (tree_seen s w) p) ≡ None) }
+    ensures there { (s : State) (w : Workspace) (p : List ℕ) → IsTree (tree_seen s w)
+        → kind_of (get (tree_seen s w) p) ≢ kinds.Absent → HasNoLinksAbove s w p }
 {}
 
 /// Fuel is spent exactly where there is so much, and nothing else changes.

@@ -1,5 +1,5 @@
-//! What the file utilities do to the tree that a job sees, on a state: each function's contract is
-//! the law, and its body is empty.
+//! What the file utilities do to the tree that a job sees, on a state where no symbolic link is
+//! seen, and what `rm` does with one: each function's contract is the law, and its body is empty.
 ghost use Rattle.std.specs.Prelude.{
   ◌≡◌,
   ◌≢◌,
@@ -43,40 +43,57 @@ ghost use Rattle.em_laws.specs.Files.{
   target,
   IsCopied,
 };
-ghost use Rattle.em_laws.specs.Nodes.{tree_seen, AreAlike};
+ghost use Rattle.em_laws.specs.Nodes.{tree_seen, HasNoLinks, HasNoLinksAbove, AreAlike};
 
 /// What `rm` has removed without a fault isn't there, whatever it was, and nothing is below it.
 /// Whatever faults it has, it changes nothing but what it was to remove and what is below that, and
-/// the directory above, which may get a stamp.
+/// the directory above, which may get a stamp; with links in the tree, too, where no directory
+/// above its operand is one.
 pub fn law_rm()
-    ensures gone { (s : State) (w : Workspace) (d : Done) (force recursive : _) (n : ℕ)
+    ensures gone { (s : State) (w : Workspace) → HasNoLinks s w
+        → (d : Done) (force recursive : _) (n : ℕ)
         (name p : List ℕ) (r : _) → (removed s w d force recursive n name p).0 ≡ Ok r
         → get (tree_seen s (removed s w d force recursive n name p).1) p ≡ None }
-    ensures below { (s : State) (w : Workspace) (d : Done) (force recursive : _) (n : ℕ)
+    ensures below { (s : State) (w : Workspace) → HasNoLinks s w
+        → (d : Done) (force recursive : _) (n : ℕ)
         (name p : List ℕ) (r : _) (k : List ℕ) → AreWhole s w → IsPath p
         → (removed s w d force recursive n name p).0 ≡ Ok r → IsUnder p k
         → get (tree_seen s (removed s w d force recursive n name p).1) k ≡ None }
     ensures others { (s : State) (w : Workspace) (d : Done) (force recursive : _) (n : ℕ)
-        (name p k : List ℕ) → AreWhole s w → IsPath p → ¬ IsUnder p k → parent_text p ≢ Some k
+        (name p k : List ℕ) → HasNoLinksAbove s w p → AreWhole s w → IsPath p → ¬ IsUnder p k
+        → parent_text p ≢ Some k
         → get (tree_seen s (removed s w d force recursive n name p).1) k
         ≡ get (tree_seen s w) k }
+{}
+
+/// Of a link `rm` removes the link alone, with `-r` too: nothing that it leads to has changed.
+pub fn law_rm_links()
+    ensures { (s : State) (w : Workspace) (d : Done) (force recursive : _) (n : ℕ)
+        (name p text : List ℕ) (stamp : ℕ) (dir : List ℕ) (r : _) → HasNoLinksAbove s w p
+        → get (tree_seen s w) p ≡ Some (nodes.Link text stamp) → parent_text p ≡ Some dir
+        → (removed s w d force recursive n name p).0 ≡ Ok r
+        → tree_seen s (removed s w d force recursive n name p).1
+        ≡ insert (finite.remove (tree_seen s w) p) dir (nodes.Dir (next_number w)) }
 {}
 
 /// A file that `cp` has copied without a fault has the source's bytes, and the number of the change
 /// as its stamp, which its directory gets, too, where the name is new. Nothing else has changed.
 pub fn law_cp()
-    ensures bytes { (s : State) (w : Workspace) (d : Done) (from to p q : List ℕ) (r : _)
+    ensures bytes { (s : State) (w : Workspace) → HasNoLinks s w
+        → (d : Done) (from to p q : List ℕ) (r : _)
         → (copied s w d from to p q).0 ≡ Ok r
         → content_of (get (tree_seen s (copied s w d from to p q).1) q)
         ≡ content_of (get (tree_seen s w) p) }
-    ensures new { (s : State) (w : Workspace) (d : Done) (from to p q : List ℕ) (r : _)
+    ensures new { (s : State) (w : Workspace) → HasNoLinks s w
+        → (d : Done) (from to p q : List ℕ) (r : _)
         (bytes dir : List ℕ) → (copied s w d from to p q).0 ≡ Ok r
         → content_of (get (tree_seen s w) p) ≡ Some bytes
         → kind_of (get (tree_seen s w) q) ≡ kinds.Absent → parent_text q ≡ Some dir
         → tree_seen s (copied s w d from to p q).1
         ≡ insert (insert (tree_seen s w) q (nodes.File bytes (next_number w))) dir
         (nodes.Dir (next_number w)) }
-    ensures over { (s : State) (w : Workspace) (d : Done) (from to p q : List ℕ) (r : _)
+    ensures over { (s : State) (w : Workspace) → HasNoLinks s w
+        → (d : Done) (from to p q : List ℕ) (r : _)
         (bytes : List ℕ) → (copied s w d from to p q).0 ≡ Ok r
         → content_of (get (tree_seen s w) p) ≡ Some bytes
         → kind_of (get (tree_seen s w) q) ≢ kinds.Absent
@@ -88,18 +105,22 @@ pub fn law_cp()
 /// and no longer at the old one. The directory of its new place has the number of the first change,
 /// that of its old place the number of the second one, and nothing else has changed.
 pub fn law_mv()
-    ensures bytes { (s : State) (w : Workspace) (d : Done) (from to p q : List ℕ) (r : _)
+    ensures bytes { (s : State) (w : Workspace) → HasNoLinks s w
+        → (d : Done) (from to p q : List ℕ) (r : _)
         → IsTree (tree_seen s w) → p ≢ q → (moved s w d from to p q).0 ≡ Ok r
         → content_of (get (tree_seen s (moved s w d from to p q).1) q)
         ≡ content_of (get (tree_seen s w) p) }
-    ensures stamp { (s : State) (w : Workspace) (d : Done) (from to p q : List ℕ) (r : _)
+    ensures stamp { (s : State) (w : Workspace) → HasNoLinks s w
+        → (d : Done) (from to p q : List ℕ) (r : _)
         → IsTree (tree_seen s w) → p ≢ q → (moved s w d from to p q).0 ≡ Ok r
         → stamp_of (get (tree_seen s (moved s w d from to p q).1) q)
         ≡ stamp_of (get (tree_seen s w) p) }
-    ensures gone { (s : State) (w : Workspace) (d : Done) (from to p q : List ℕ) (r : _)
+    ensures gone { (s : State) (w : Workspace) → HasNoLinks s w
+        → (d : Done) (from to p q : List ℕ) (r : _)
         → IsTree (tree_seen s w) → p ≢ q → (moved s w d from to p q).0 ≡ Ok r
         → get (tree_seen s (moved s w d from to p q).1) p ≡ None }
-    ensures tree { (s : State) (w : Workspace) (d : Done) (from to p q : List ℕ) (r : _)
+    ensures tree { (s : State) (w : Workspace) → HasNoLinks s w
+        → (d : Done) (from to p q : List ℕ) (r : _)
         (bytes : List ℕ) (stamp : ℕ) (old new : List ℕ) → (moved s w d from to p q).0 ≡ Ok r
         → get (tree_seen s w) p ≡ Some (nodes.File bytes stamp) → parent_text p ≡ Some old
         → parent_text q ≡ Some new → tree_seen s (moved s w d from to p q).1
@@ -111,20 +132,24 @@ pub fn law_mv()
 /// gets the same stamp, and else the same node with the number of the change as its stamp, which is
 /// above all stamps. Nothing else changes; with `-c` what is absent stays so.
 pub fn law_touch()
-    ensures newest { (s : State) (w : Workspace) (d : Done) (create : _) (name p : List ℕ) (r : _)
+    ensures newest { (s : State) (w : Workspace) → HasNoLinks s w
+        → (d : Done) (create : _) (name p : List ℕ) (r : _)
         → AreOld s w → (touched s w d create name p).0 ≡ Ok r
         → (create ≡ true) ⊎ (kind_of (get (tree_seen s w) p) ≢ kinds.Absent) → (t : ℕ)
         × (stamp_of (get (tree_seen s (touched s w d create name p).1) p) ≡ Some t)
         × ((q : List ℕ) (n : ℕ) → stamp_of (get (tree_seen s w) q) ≡ Some n → n < t) }
-    ensures none { (s : State) (w : Workspace) (d : Done) (name p : List ℕ) (r : _)
+    ensures none { (s : State) (w : Workspace) → HasNoLinks s w
+        → (d : Done) (name p : List ℕ) (r : _)
         → (touched s w d false name p).0 ≡ Ok r → kind_of (get (tree_seen s w) p) ≡ kinds.Absent
         → tree_seen s (touched s w d false name p).1 ≡ tree_seen s w }
-    ensures new { (s : State) (w : Workspace) (d : Done) (name p : List ℕ) (r : _) (dir : List ℕ)
+    ensures new { (s : State) (w : Workspace) → HasNoLinks s w
+        → (d : Done) (name p : List ℕ) (r : _) (dir : List ℕ)
         → (touched s w d true name p).0 ≡ Ok r → kind_of (get (tree_seen s w) p) ≡ kinds.Absent
         → parent_text p ≡ Some dir → tree_seen s (touched s w d true name p).1
         ≡ insert (insert (tree_seen s w) p (nodes.File [] (next_number w))) dir
         (nodes.Dir (next_number w)) }
-    ensures over { (s : State) (w : Workspace) (d : Done) (create : _) (name p : List ℕ) (r : _)
+    ensures over { (s : State) (w : Workspace) → HasNoLinks s w
+        → (d : Done) (create : _) (name p : List ℕ) (r : _)
         (node : _) → (touched s w d create name p).0 ≡ Ok r → get (tree_seen s w) p ≡ Some node
         → tree_seen s (touched s w d create name p).1
         ≡ insert (tree_seen s w) p (with_stamp (next_number w) node) }
@@ -133,13 +158,16 @@ pub fn law_touch()
 /// What `rmdir` has removed without a fault was a directory that held nothing, and isn't there; the
 /// directory above has the number of the change, and nothing else changes.
 pub fn law_rmdir()
-    ensures empty { (s : State) (w : Workspace) (d : Done) (name p : List ℕ) (r : _)
+    ensures empty { (s : State) (w : Workspace) → HasNoLinks s w
+        → (d : Done) (name p : List ℕ) (r : _)
         → AreWhole s w → (unmade s w d name p).0 ≡ Ok r
         → (kind_of (get (tree_seen s w) p) ≡ kinds.Dir)
         × ((q : List ℕ) → parent_text q ≡ Some p → get (tree_seen s w) q ≡ None) }
-    ensures gone { (s : State) (w : Workspace) (d : Done) (name p : List ℕ) (r : _)
+    ensures gone { (s : State) (w : Workspace) → HasNoLinks s w
+        → (d : Done) (name p : List ℕ) (r : _)
         → (unmade s w d name p).0 ≡ Ok r → get (tree_seen s (unmade s w d name p).1) p ≡ None }
-    ensures tree { (s : State) (w : Workspace) (d : Done) (name p : List ℕ) (r : _)
+    ensures tree { (s : State) (w : Workspace) → HasNoLinks s w
+        → (d : Done) (name p : List ℕ) (r : _)
         (dir : List ℕ) → (unmade s w d name p).0 ≡ Ok r → parent_text p ≡ Some dir
         → tree_seen s (unmade s w d name p).1
         ≡ insert (finite.remove (tree_seen s w) p) dir (nodes.Dir (next_number w)) }
@@ -151,7 +179,8 @@ pub fn law_rmdir()
 /// directory the target is what has the source's last name, or, of a source that was named with a
 /// `.` at the end, the directory itself.
 pub fn law_cp_tree()
-    ensures { (s : State) (w : Workspace) (cwd from to : List ℕ) (d : Done) → AreWhole s w
+    ensures { (s : State) (w : Workspace) → HasNoLinks s w
+        → (cwd from to : List ℕ) (d : Done) → AreWhole s w
         → IsPath cwd → (utility (codes "cp" ∷ codes "-r" ∷ codes "--" ∷ from ∷ to ∷ []) cwd
         (snapshot s) w).0 ≡ Ok (Some d) → d.status ≡ 0
         → ¬ IsUnder (target s w cwd from to) (resolved_text cwd from)
@@ -165,15 +194,18 @@ pub fn law_cp_tree()
 /// as it was, its stamp too, unless it or what stands right in it is a directory on the way that
 /// wasn't there.
 pub fn law_mkdir_all()
-    ensures dirs { (s : State) (w : Workspace) (d : Done) (name p : List ℕ) (r : _)
+    ensures dirs { (s : State) (w : Workspace) → HasNoLinks s w
+        → (d : Done) (name p : List ℕ) (r : _)
         → IsTree (tree_seen s w) → IsPath p → (made_all s w d name p).0 ≡ Ok r
         → (k : List ℕ) → IsOver p k
         → kind_of (get (tree_seen s (made_all s w d name p).1) k) ≡ kinds.Dir }
-    ensures kept { (s : State) (w : Workspace) (d : Done) (name p : List ℕ) (r : _)
+    ensures kept { (s : State) (w : Workspace) → HasNoLinks s w
+        → (d : Done) (name p : List ℕ) (r : _)
         → IsTree (tree_seen s w) → IsPath p → (made_all s w d name p).0 ≡ Ok r
         → (k : List ℕ) → (kind_of (get (tree_seen s w) k) ≢ kinds.Absent) ⊎ (¬ IsOver p k)
         → AreAlike (get (tree_seen s w) k) (get (tree_seen s (made_all s w d name p).1) k) }
-    ensures same { (s : State) (w : Workspace) (d : Done) (name p k : List ℕ) → IsPath p
+    ensures same { (s : State) (w : Workspace) → HasNoLinks s w
+        → (d : Done) (name p k : List ℕ) → IsPath p
         → ((q : List ℕ) → IsOver p q → (q ≡ k) ⊎ (parent_text q ≡ Some k)
         → kind_of (get (tree_seen s w) q) ≢ kinds.Absent)
         → get (tree_seen s (made_all s w d name p).1) k ≡ get (tree_seen s w) k }

@@ -9,14 +9,15 @@ ghost use Rattle.em_view.specs.Actions.{Workspace, snapshot};
 ghost use Rattle.em_glob.specs.declared.glyph.Glyph.{Glyph};
 ghost use Rattle.em_pathname.specs.Walking.{components, name_below, matching_names};
 ghost use Rattle.em_laws.specs.Expanded.{Begins, Leads};
+ghost use Rattle.em_laws.specs.Nodes.{HasNoLinks};
 
 /// On a state the names that a pattern gives stand in byte order, once each; each matches component
-/// by component what is there, and each such name is given.
+/// by component what is there, and each such name is given, where no symbolic link is seen.
 pub fn law_names()
     ensures order { (s : State) (w : Workspace) (cwd : List ℕ) (gs : List Glyph)
         (out : List (List ℕ)) → (matching_names cwd gs (snapshot s) w).0 ≡ Ok out
         → IsStrictlySortedBy (slice_cmp nat_cmp) out }
-    ensures given { (s : State) (w : Workspace) (cwd : List ℕ) (gs : List Glyph)
+    ensures given { (s : State) (w : Workspace) → HasNoLinks s w → (cwd : List ℕ) (gs : List Glyph)
         (out : List (List ℕ)) (end : List ℕ) → (matching_names cwd gs (snapshot s) w).0 ≡ Ok out
         → Contains out end ↔ ((name : List ℕ) × (path : List ℕ) × Begins cwd gs name path
         × Leads s w.changes cwd name path (components gs) end) }

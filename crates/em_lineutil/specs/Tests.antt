@@ -23,6 +23,8 @@ unary_of op =
     else if bytes_eq op (codes "-f") then Some unary.IsFile
     else if bytes_eq op (codes "-d") then Some unary.IsDir
     else if bytes_eq op (codes "-s") then Some unary.HasBytes
+    else if bytes_eq op (codes "-h") then Some unary.IsLink
+    else if bytes_eq op (codes "-L") then Some unary.IsLink
     else None
 
 abbrev pub binary_of : List ℕ → Option Binary

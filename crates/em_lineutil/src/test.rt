@@ -20,6 +20,8 @@ pub enum Unary {
     IsDir,
     /// `-s`: it is a file that isn't empty.
     HasBytes,
+    /// `-h`, `-L`: the name itself is a symbolic link.
+    IsLink,
 }
 
 /// How two numbers stand.
@@ -79,6 +81,7 @@ fn unary_of(operator: &[u8]) -> Option<Unary>
         b"-f" => Some(Unary::IsFile),
         b"-d" => Some(Unary::IsDir),
         b"-s" => Some(Unary::HasBytes),
+        b"-h" | b"-L" => Some(Unary::IsLink),
         _ => None,
     }
 }

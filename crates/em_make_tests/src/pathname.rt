@@ -18,8 +18,8 @@ static ROWS: [Row; 9] = [
     (b".", 0, Some(b"."), 1),
     (b"./..", 4, Some(b"./.."), 2),
     (b"*", 1, None, 1),
-    (b"*", 0, None, 1),
-    (b"a/*", 3, None, 1),
+    (b"*", 0, None, 2),
+    (b"a/*", 3, None, 2),
     (b"/a\n", 3, None, 0),
 ];
 

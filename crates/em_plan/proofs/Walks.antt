@@ -5,6 +5,7 @@
 --     weight_..      and less to do
 --     steps_..       together, for each step of the code
 use Rattle.std.proofs.Common.{◌≡◌, ◌⊎◌, inl, inr, ℕ, zero, suc, ◌+◌, ◌-◌, ◌^◌, ◌<◌, ◌≤◌, Bool, true, false, cond, ◌||◌, nat_lt, List, [], ◌∷◌, ◌++◌, length, drop, Option, Some, None, Ok, Err, refl, sym, ap, subst, ◌∙◌, arith, length-append, option_map, slice_get}
+use Rattle.std.specs.Prelude.{IsSomeAnd}
 use Rattle.std.specs.FinMap.{get, insert, empty, get-empty}
 use Rattle.std.specs.Cmp.Lexicographic.{slice_cmp}
 use Rattle.std.specs.Ordering.{nat_cmp}
@@ -176,6 +177,11 @@ next_of (m ∷ ns) (suc i) n e =
     let r = next_of ns i n e in
     let k : suc i + 1 ≡ suc (i + 1) = omega arith in
     (r.0, rw k r.1, r.2)
+
+-- a prerequisite of whose name this is told
+pub the_need : (P : List ℕ → Type 0) (o : Option Need) → IsSomeAnd o (λ x. P x.name) → (n : List ℕ) × (option_map (λ (x : Need). x.name) o ≡ Some n) × P n
+the_need P None h = absurd h
+the_need P (Some x) h = (x.name, refl, h)
 
 -- a prerequisite that is open
 pub resume_circular : (says : Says) (f : Frame) (fs : List Frame) (w : Walked) (x : Need) → drop f.next f.making.needs ≡ x ∷ drop (f.next + 1) f.making.needs → is_open (opens (f ∷ fs)) x.name ≡ true

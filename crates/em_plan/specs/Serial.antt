@@ -1,7 +1,8 @@
 -- What a plan's jobs are, said of the list alone.
 --     AreMade before jobs           behind the jobs before, each job is made from those in front of it
 --     IsSerial says before jobs     each is also that of the next unit of its trigger
---     StandsBefore jobs k p         a prerequisite's jobs have its name among their targets, and stand before job k
+--     StandsBefore jobs k p         a prerequisite's jobs have its name among their targets, and stand before job k; that it
+--                                   has any isn't said here, but by `law_dropped`: each of its units has one
 use Rattle.std.specs.Prelude.{◌≡◌, ℕ, ◌<◌, Bool, true, List, [], ◌∷◌, ◌++◌, length, Some, slice_get, IsSomeAnd}
 use Rattle.std.specs.List.{All}
 use Rattle.em_plan.specs.declared.making.Making.{Making}

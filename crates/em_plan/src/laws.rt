@@ -38,7 +38,7 @@ pub fn law_plain()
 {}
 
 /// In a plan the jobs of each prerequisite that wasn't dropped stand before the job that needs it,
-/// and have the prerequisite among their targets.
+/// and have the prerequisite among their targets. That there are any is said by `law_dropped`.
 pub fn law_prerequisites_stand_before()
     ensures normal { (says : Says) (goals : List (List ℕ)) (p : Plan)
         → plan_for says goals ≡ Ok p

@@ -36,7 +36,7 @@ pub struct Making {
     /// else empty.
     pub stem: Text,
     pub recipe: Option<Seq<RecipeLine>>,
-    /// Whether it has a rule, or a pattern rule applies to it.
+    /// Whether a target has a rule, or a pattern rule applies to it.
     pub ruled: bool,
     /// Whether one of the targets is phony.
     pub phony: bool,
@@ -283,11 +283,12 @@ impl Makefile<'_> {
         alloc: Global,
         marks: &Table<Mark>,
         name: &[u8],
+        place: usize,
     ) -> Result<Option<Making>, NoMemory>
+        requires { place ≡ length (numbers_in marks.now name.now) }
         ensures { IfOk result (λ o. o ≡ slice_get (says self.now (known_in marks.now) name.now)
             (length (numbers_in marks.now name.now))) }
     {
-        let place = numbers(marks, name).len();
         if self.book.rules.is_double(name) {
             return self.double_at(alloc, name, place);
         }
@@ -297,7 +298,27 @@ impl Makefile<'_> {
         Ok(Some(self.unit(alloc, marks, name)?))
     }
 
-    /// The name's next unit, with fewer than 2^64 prerequisites.
+    /// The name's next unit, with fewer than 2^64 prerequisites. The name has jobs for this many.
+    pub(crate) fn making_at(
+        &self,
+        alloc: Global,
+        marks: &Table<Mark>,
+        name: &[u8],
+        place: usize,
+    ) -> Result<Option<Making>, NoMemory>
+        requires { place ≡ length (numbers_in marks.now name.now) }
+        ensures next { IfOk result (λ o. o ≡ slice_get (says self.now (known_in marks.now) name.now)
+            (length (numbers_in marks.now name.now))) }
+        ensures few { IfOk result (λ o. IfSome o (λ m. length m.needs < 2 ^ 64)) }
+    {
+        let making = self.next_unit(alloc, marks, name, place)?;
+        if let Some(making) = &making {
+            let _count = making.needs.len();
+        }
+        Ok(making)
+    }
+
+    /// The same, where it isn't known how many jobs the name has.
     pub(crate) fn making(
         &self,
         alloc: Global,
@@ -308,10 +329,6 @@ impl Makefile<'_> {
             (length (numbers_in marks.now name.now))) }
         ensures few { IfOk result (λ o. IfSome o (λ m. length m.needs < 2 ^ 64)) }
     {
-        let making = self.next_unit(alloc, marks, name)?;
-        if let Some(making) = &making {
-            let _count = making.needs.len();
-        }
-        Ok(making)
+        self.making_at(alloc, marks, name, numbers(marks, name).len())
     }
 }

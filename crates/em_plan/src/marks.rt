@@ -1,5 +1,5 @@
 //! How far the walk is with each name.
-ghost use Rattle.std.specs.Prelude.{ℕ, List, ◌≡◌, OnOk, IfOk};
+ghost use Rattle.std.specs.Prelude.{ℕ, List, ◌≡◌, true, false, length, MatchOption, OnOk, IfOk};
 ghost use Rattle.std.specs.FinMap as finmap;
 ghost use Rattle.em_plan.specs.Once.{is_among, same};
 ghost use Rattle.em_plan.specs.Resuming.{closing, known_in, numbers_in, open_in, opening};
@@ -24,6 +24,20 @@ pub(crate) fn is_open(marks: &Table<Mark>, name: &[u8]) -> bool
     match marks.get(name) {
         None => false,
         Some(mark) => mark.begun,
+    }
+}
+
+/// How many jobs the name has, unless it is open: the place of its next unit.
+pub(crate) fn next_place(marks: &Table<Mark>, name: &[u8]) -> Option<usize>
+    ensures { MatchOption result
+        (open_in marks.now name.now ≡ true)
+        (λ place. (open_in marks.now name.now ≡ false)
+        × (place ≡ length (numbers_in marks.now name.now))) }
+{
+    match marks.get(name) {
+        None => Some(0),
+        Some(mark) if mark.begun => None,
+        Some(mark) => Some(mark.jobs.len()),
     }
 }
 

@@ -31,7 +31,8 @@ impl TryClone for Pre {
     }
 }
 
-/// What is to be done for one name.
+/// What is to be done for one unit: a name, the members of a group, or what one double-colon rule
+/// of a name makes.
 #[derive(Debug, Drop, PartialEq, Eq)]
 pub struct PlanJob {
     /// The name from which the walk came to the job: `$@`, and what messages name.
@@ -49,12 +50,15 @@ pub struct PlanJob {
     /// else empty.
     pub stem: Text,
     pub recipe: Option<Seq<RecipeLine>>,
-    /// Whether the name has a rule, or a pattern rule applies to it.
+    /// Whether a target has a rule, or a pattern rule applies to it.
     pub ruled: bool,
+    /// Whether one of the targets is phony.
     pub phony: bool,
-    /// The name from which the walk first came to this one; `None` where it came to it as a goal.
+    /// The target of the job from which the walk came to this one; `None` where it came to it as a
+    /// goal.
     pub needed_by: Option<Text>,
-    /// The jobs of all these prerequisites in rising order, once each.
+    /// The jobs of all these prerequisites, and of a double-colon rule the earlier ones of its
+    /// name, in rising order, once each.
     pub waits: Seq<u32>,
 }
 

@@ -1,5 +1,5 @@
 //! The walk over the prerequisites, with a stack of its own and a mark for each name.
-ghost use Rattle.std.specs.Prelude.{ℕ, List, Ok, ◌≡◌, ◌⊎◌, ◌<◌, ◌^◌, ◌∷◌, [], ◌+◌, nat_lt, length, true, false, Some, None, slice_get, IfOk, IfErr, OnOk};
+ghost use Rattle.std.specs.Prelude.{ℕ, List, Ok, ◌≡◌, ◌⊎◌, ◌<◌, ◌^◌, ◌∷◌, [], ◌+◌, nat_lt, length, true, false, Some, None, slice_get, IsSomeAnd, IfOk, IfErr, OnOk};
 ghost use Rattle.std.specs.Option.{option_map};
 ghost use Rattle.std.specs.FinMap as finmap;
 ghost use Rattle.em_plan.specs.Once.{is_among};
@@ -9,7 +9,7 @@ ghost use Rattle.em_plan.specs.Resuming.{known_in, numbers_in, open_by, open_in,
 
 use crate::job::job;
 use crate::making::{Makefile, Making};
-use crate::marks::{Mark, close_all, is_open, open_all};
+use crate::marks::{Mark, close_all, next_place, open_all};
 use crate::no::PlanNo;
 use crate::planned::PlanJob;
 use em_base::{NoMemory, Seq, Stack, Table, Text};
@@ -145,13 +145,12 @@ fn go_into(
 }
 
 /// Each unit of the innermost unit's next prerequisite has a number.
-fn pass(makefile: Makefile, walk: &mut Walk, frame: Frame, name: &[u8]) -> Result<(), PlanNo>
+fn pass(makefile: Makefile, walk: &mut Walk, frame: Frame) -> Result<(), PlanNo>
     requires marked { IsMarked (open_by frame ∷ opens walk.old.begun) walk.old }
-    requires next { option_map (λ x. x.name) (slice_get frame.making.needs frame.next)
-        ≡ Some name.now }
-    requires shut { open_in walk.old.marks name.now ≡ false }
-    requires past { slice_get (says makefile (known_in walk.old.marks) name.now)
-        (length (numbers_in walk.old.marks name.now)) ≡ None }
+    requires past { IsSomeAnd (slice_get frame.making.needs frame.next)
+        (λ x. (open_in walk.old.marks x.name ≡ false)
+        × (slice_get (says makefile (known_in walk.old.marks) x.name)
+        (length (numbers_in walk.old.marks x.name)) ≡ None)) }
     ensures ok { OnOk result
         (Steps (says makefile.entry) (frame ∷ walk.old.begun) walk.old.walked walk.new) }
     ensures only { IfErr result (λ e. e ≡ PlanNo.NoMemory) }
@@ -202,14 +201,15 @@ fn step(alloc: Global, makefile: Makefile, walk: &mut Walk, frame: Frame) -> Res
     let Some(need) = frame.making.needs.get(frame.next) else {
         return close(alloc, walk, frame);
     };
-    let name = need.name.copy(alloc)?;
-    if is_open(&walk.marks, name.bytes()) {
+    let Some(place) = next_place(&walk.marks, need.name.bytes()) else {
+        let name = need.name.copy(alloc)?;
         return drop_circular(alloc, walk, frame, name.bytes());
-    }
-    match makefile.making(alloc, &walk.marks, name.bytes())? {
-        None => pass(makefile, walk, frame, name.bytes()),
-        Some(making) => go_into(alloc, makefile, walk, frame, name, making),
-    }
+    };
+    let Some(making) = makefile.making_at(alloc, &walk.marks, need.name.bytes(), place)? else {
+        return pass(makefile, walk, frame);
+    };
+    let name = need.name.copy(alloc)?;
+    go_into(alloc, makefile, walk, frame, name, making)
 }
 
 /// The walk from a goal's next unit.

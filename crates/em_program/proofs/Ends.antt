@@ -7,6 +7,7 @@ use Rattle.std.specs.List.{list_any}
 use Rattle.std.specs.FinMap.{entries, get}
 use Rattle.std.proofs.lemmas.Bool.{false≢true}
 use Rattle.em_tree.specs.Trees.{Table, greatest, base_of, kind_of, stamp_in}
+use Rattle.em_tree.specs.Resolving.{node_behind}
 use Rattle.em_view.specs.Actions.{snapshot}
 use Rattle.em_reader.specs.Makefiles as makefiles
 use Rattle.em_tree.specs.declared.node.Node.{Node}
@@ -46,18 +47,19 @@ failed-so no.NoMemory read other h = absurd (other refl)
 -- ---- the parts of a project
 
 -- a directory, another kind, and no path
-pub entered_dir : (t : Table) (name path : List ℕ) → read_fault root_text name ≡ None → path ≡ resolved_text root_text name → kind_of (get t path) ≡ kind.Dir → entered t name ≡ done path
+pub entered_dir : (t : Table) (name path : List ℕ) → read_fault root_text name ≡ None → path ≡ resolved_text root_text name → kind_of (node_behind t path) ≡ kind.Dir → entered t name ≡ done path
 entered_dir t name path none is dir =
-    ap (as_path t name) none ∙ ap (as_dir name (resolved_text root_text name)) (ap (λ (p : List ℕ). kind_of (get t p)) (sym is) ∙ dir) ∙ ap done (sym is)
+    ap (as_path t name) none ∙ ap (as_dir name (resolved_text root_text name)) (ap (λ (p : List ℕ). kind_of (node_behind t p)) (sym is) ∙ dir) ∙ ap done (sym is)
 
 other_kind : (name path : List ℕ) (k : Kind) → (k ≡ kind.Dir → ⊥) → as_dir name path k ≡ no_dir name
 other_kind name path kind.Dir other = absurd (other refl)
 other_kind name path kind.File other = refl
 other_kind name path kind.Absent other = refl
+other_kind name path kind.Link other = refl
 
-pub entered_other : (t : Table) (name path : List ℕ) → read_fault root_text name ≡ None → path ≡ resolved_text root_text name → (kind_of (get t path) ≡ kind.Dir → ⊥) → entered t name ≡ no_dir name
+pub entered_other : (t : Table) (name path : List ℕ) → read_fault root_text name ≡ None → path ≡ resolved_text root_text name → (kind_of (node_behind t path) ≡ kind.Dir → ⊥) → entered t name ≡ no_dir name
 entered_other t name path none is other =
-    ap (as_path t name) none ∙ other_kind name _ _ (λ (dir : kind_of (get t (resolved_text root_text name)) ≡ kind.Dir). other (ap (λ (p : List ℕ). kind_of (get t p)) is ∙ dir))
+    ap (as_path t name) none ∙ other_kind name _ _ (λ (dir : kind_of (node_behind t (resolved_text root_text name)) ≡ kind.Dir). other (ap (λ (p : List ℕ). kind_of (node_behind t p)) is ∙ dir))
 
 pub entered_none : (t : Table) (name : List ℕ) (e : PathNo) → read_fault root_text name ≡ Some e → entered t name ≡ no_dir name
 entered_none t name e named = ap (as_path t name) named

@@ -9,6 +9,7 @@ use Rattle.em_host.specs.declared.call.Call.{Call}
 use Rattle.em_host.specs.Outside.{Files}
 use Rattle.em_host.specs.Calls.{files_after}
 use Rattle.em_tree.specs.Trees.{Table, base_of, kind_of}
+use Rattle.em_tree.specs.Resolving.{node_behind}
 use Rattle.em_tree.specs.declared.node.Kind.{Kind}
 use Rattle.em_tree.specs.declared.node.Kind.TheVariants as kind
 use Rattle.em_path.specs.declared.path.PathNo.{PathNo}
@@ -75,9 +76,10 @@ steady_dir : (name path : List ℕ) (k : Kind) → IsSteady (as_dir name path k)
 steady_dir name path kind.Dir = steady_done path
 steady_dir name path kind.File = steady_stop _ _ Faulty
 steady_dir name path kind.Absent = steady_stop _ _ Faulty
+steady_dir name path kind.Link = steady_stop _ _ Faulty
 
 steady_path : (t : Table) (name : List ℕ) (no : Option PathNo) → IsSteady (as_path t name no)
-steady_path t name None = steady_dir name (resolved_text root_text name) (kind_of (get t (resolved_text root_text name)))
+steady_path t name None = steady_dir name (resolved_text root_text name) (kind_of (node_behind t (resolved_text root_text name)))
 steady_path t name (Some e) = steady_stop _ _ Faulty
 
 steady_read : (read : Result (Round × List ℕ) (ReadNo × List ℕ)) → IsSteady (as_round read)

@@ -50,6 +50,7 @@ limit_name which.Image = codes "Limit(Image)"
 limit_name which.Nodes = codes "Limit(Nodes)"
 limit_name which.File = codes "Limit(File)"
 limit_name which.Stamp = codes "Limit(Stamp)"
+limit_name which.Link = codes "Limit(Link)"
 
 abbrev pub fault_name : ImageNo → List ℕ
 fault_name (no.Form at) = codes "Form"

@@ -15,6 +15,7 @@ use Rattle.em_tree.specs.declared.node.Kind.{Kind}
 use Rattle.em_tree.specs.declared.node.Kind.TheVariants as kind
 use Rattle.em_tree.specs.declared.state.State.{State}
 use Rattle.em_tree.specs.Trees.{Table, base_of, kind_of}
+use Rattle.em_tree.specs.Resolving.{node_behind}
 use Rattle.em_view.specs.Actions.{snapshot}
 use Rattle.em_image.specs.Image.{limits}
 use Rattle.em_image.specs.Reading as image
@@ -92,7 +93,8 @@ recalled mode.Create name = done []
 recalled mode.Merge name = recalled_from name
 recalled mode.Read name = recalled_from name
 
--- ---- the working directory: `-C` names a directory of the tree
+-- ---- the working directory: `-C` names a directory of the tree, or a link to one, and keeps the
+-- ---- name that was given
 
 abbrev pub no_dir : List ℕ → Course (List ℕ)
 no_dir name = stop (dir_line name) Faulty
@@ -102,7 +104,7 @@ as_dir name path kind.Dir = done path
 as_dir name path _ = no_dir name
 
 abbrev pub as_path : Table → List ℕ → Option PathNo → Course (List ℕ)
-as_path t name None = as_dir name (resolved_text root_text name) (kind_of (get t (resolved_text root_text name)))
+as_path t name None = as_dir name (resolved_text root_text name) (kind_of (node_behind t (resolved_text root_text name)))
 as_path t name (Some e) = no_dir name
 
 abbrev pub entered : Table → List ℕ → Course (List ℕ)

@@ -12,6 +12,7 @@ use Rattle.em_tree.specs.declared.node.Kind.{Kind}
 use Rattle.em_tree.specs.declared.node.Kind.TheVariants as kind
 use Rattle.em_tree.specs.declared.state.State.{State}
 use Rattle.em_tree.specs.Trees.{Table, base_of, kind_of}
+use Rattle.em_tree.specs.Resolving.{node_behind}
 use Rattle.em_history.specs.Histories.{united}
 use Rattle.em_image.specs.declared.no.ImageNo.TheVariants.{Limit}
 use Rattle.em_image.specs.declared.no.Which.TheVariants.{Stamp}
@@ -54,7 +55,7 @@ is_file _ = false
 
 abbrev pub is_file_at : Table → Option (List ℕ) → Bool
 is_file_at t None = false
-is_file_at t (Some path) = is_file (kind_of (get t path))
+is_file_at t (Some path) = is_file (kind_of (node_behind t path))
 
 -- a file that an `include` needs and that still isn't there: its name is no path, or no file's
 abbrev pub is_lacking : Table → List ℕ → Missing → Bool

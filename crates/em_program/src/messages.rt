@@ -70,6 +70,7 @@ fn limit_name(which: Which) -> &'static [u8]
         Which::Nodes => b"Limit(Nodes)",
         Which::File => b"Limit(File)",
         Which::Stamp => b"Limit(Stamp)",
+        Which::Link => b"Limit(Link)",
     }
 }
 

@@ -61,7 +61,8 @@ fn no_dir<H: Host>(alloc: Global, name: &[u8], host: &mut H) -> Result<Path, Sto
     stop(host, line.bytes(), Verdict::Faulty)
 }
 
-/// The working directory: `-C` names a directory of the tree.
+/// The working directory: `-C` names a directory of the tree, or a link to one, and keeps the name
+/// that was given.
 pub fn entered<H: Host>(alloc: Global, tree: &Tree, name: &[u8], host: &mut H) -> Result<Path, Stop>
     ensures told { Follows (projects.entered tree.now name.now) result
         (H.told host.old) (H.told host.new) }
@@ -69,10 +70,13 @@ pub fn entered<H: Host>(alloc: Global, tree: &Tree, name: &[u8], host: &mut H) -
     ensures path { IfOk result (λ p. read_fault root_text name.now ≡ None) }
 {
     match Path::read(alloc, &Path::root(), name) {
-        Ok(path) => match tree.kind(&path) {
-            Kind::Dir => Ok(path),
-            _ => no_dir(alloc, name, host),
-        },
+        Ok(path) => {
+            let kind = tree.kind_behind(&path)?;
+            match kind {
+                Kind::Dir => Ok(path),
+                _ => no_dir(alloc, name, host),
+            }
+        }
         Err(no) => match no {
             PathNo::NoMemory => Err(Stop::NoMemory),
             _ => no_dir(alloc, name, host),

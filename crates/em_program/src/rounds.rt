@@ -76,12 +76,12 @@ fn based<H: Host>(alloc: Global, tree: &Tree, host: &mut H) -> Result<(), Stop>
     Ok(())
 }
 
-/// Whether the name is that of a file.
+/// Whether the name is that of a file, or of a link to one.
 fn is_file(alloc: Global, tree: &Tree, cwd: &Path, name: &[u8]) -> Result<bool, NoMemory>
     ensures { IfOk result (λ b. b ≡ rounds.is_file_at tree.now (path_of cwd.now name.now)) }
 {
     match Path::read(alloc, cwd, name) {
-        Ok(path) => Ok(matches!(tree.kind(&path), Kind::File)),
+        Ok(path) => Ok(matches!(tree.kind_behind(&path)?, Kind::File)),
         Err(PathNo::NoMemory) => Err(NoMemory),
         Err(_) => Ok(false),
     }

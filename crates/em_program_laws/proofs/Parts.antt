@@ -14,6 +14,7 @@ use Rattle.em_path.specs.declared.path.PathNo.{PathNo}
 use Rattle.em_path.specs.Paths.{root_text}
 use Rattle.em_path.specs.Reading.{read_fault, resolved_text}
 use Rattle.em_tree.specs.Trees.{Table, base_of, kind_of}
+use Rattle.em_tree.specs.Resolving.{node_behind}
 use Rattle.em_tree.specs.declared.node.Kind.{Kind}
 use Rattle.em_tree.specs.declared.node.Kind.TheVariants as kind
 use Rattle.em_tree.specs.declared.state.State.{State}
@@ -139,9 +140,10 @@ module _ (Agree : Files → Files → Type 0) where
   quiet_dir name path kind.Dir = quiet_done Agree path
   quiet_dir name path kind.File = quiet_stop Agree (List ℕ) (dir_line name) Faulty faulty
   quiet_dir name path kind.Absent = quiet_stop Agree (List ℕ) (dir_line name) Faulty faulty
+  quiet_dir name path kind.Link = quiet_stop Agree (List ℕ) (dir_line name) Faulty faulty
 
   quiet_path : (t : Table) (name : List ℕ) (not_so : Option PathNo) → IsQuiet Agree (List ℕ) (as_path t name not_so)
-  quiet_path t name None = quiet_dir name (resolved_text root_text name) (kind_of (get t (resolved_text root_text name)))
+  quiet_path t name None = quiet_dir name (resolved_text root_text name) (kind_of (node_behind t (resolved_text root_text name)))
   quiet_path t name (Some e) = quiet_stop Agree (List ℕ) (dir_line name) Faulty faulty
 
   pub quiet_entered : (t : Table) (name : List ℕ) → IsQuiet Agree (List ℕ) (entered t name)

@@ -127,9 +127,13 @@ leave p r = left p (after_leave r.nest) r
 abbrev pub begin_define : Place → Assignment → Change
 begin_define p a r = good (record r { define = Some (record { place = p; assignment = a; nested = 0; text = None }) })
 
--- it is passed over in a branch that isn't read
+abbrev pub define_behind : Place → Assignment → Changed → Changed
+define_behind p a (Ok x) = begin_define p a x.1
+define_behind p a (Err e) = Err e
+
+-- the rule before it is whole; it is passed over in a branch that isn't read
 abbrev pub define_line : Place → Assignment → Change
-define_line p a r = if is_read r then begin_define p a r else good r
+define_line p a r = if is_read r then define_behind p a (close_rule r) else good r
 
 -- a line of the body, with the tab that it began with
 abbrev pub body_text : Line → List ℕ

@@ -133,7 +133,7 @@ impl Reading {
         Ok(())
     }
 
-    /// A `define` in a branch that is read; it is passed over elsewhere.
+    /// A `define` in a branch that is read ends the rule before it; it is passed over elsewhere.
     pub fn define_line(
         &mut self,
         alloc: Global,
@@ -146,6 +146,7 @@ impl Reading {
         if !self.is_read() {
             return Ok(());
         }
+        self.close_rule(alloc)?;
         self.begin_define(alloc, place, assignment)
     }
 

@@ -132,7 +132,8 @@ fn recipe_line(alloc: Global, line: &Line) -> Result<RecipeLine, NoMemory>
 impl Reading {
     /// Adds a rule that is whole, with its warnings.
     fn add_rule(&mut self, alloc: Global, rule: Rule) -> Result<(), ReadNo>
-        ensures { Works is_free self.old self.new result (changes.add_rule rule (fault_of self.old.book.rules rule)) }
+        ensures { Works is_free self.old self.new result
+            (changes.add_rule rule (fault_of self.old.book.rules rule)) }
     {
         warn(alloc, &mut self.spoken.said, &self.book, &rule)?;
         let place = rule.place.copy(alloc)?;

@@ -42,7 +42,7 @@ use Rattle.em_reading.specs.declared.reading.Body.{Body}
 use Rattle.em_reading.specs.declared.noted.Noted.{Noted}
 use Rattle.em_reading.specs.Faults.{at_place, of_desk}
 use Rattle.em_reading.specs.Variables.{is_expanded}
-use Rattle.em_reading.specs.Changes.{Change, add_rule, begin_by, begin_define, begin_rule, body_line, close_by, close_rule, define_line, end_conditionals, end_rule, end_rule_by, end_text, enter, good, is_held, is_read, leave, left, other, recipe, recipe_by, take_define, turned, unbalanced, unended}
+use Rattle.em_reading.specs.Changes.{Change, Changed, add_rule, begin_by, begin_define, define_behind, begin_rule, body_line, close_by, close_rule, define_line, end_conditionals, end_rule, end_rule_by, end_text, enter, good, is_held, is_read, leave, left, other, recipe, recipe_by, take_define, turned, unbalanced, unended}
 use Rattle.em_reading.specs.Heard.{refused_in, unless, holds, enter_by, other_by, if_heard, else_if_heard, assignment_refusal, assign_vars, assign, undefine_vars, undefine, export_vars, export, unexport_vars, unexport}
 use Rattle.em_reading.specs.Start.{set_goal}
 use Rattle.em_reader.specs.Hearing.{Reads, plain, cut_off, caught_of, caught_by, caught, with_spoken, itself, heard, pieces, go_on, heard_pieces, heard_head, nothing, both, one, heard_after, two, value_by, value_of_assignment, hear_assignment, hear_condition, head, hear}
@@ -162,8 +162,12 @@ leave_blind p = changed (leave p) (λ n r. by n r (after_leave r.nest))
 pub define_blind : (p : Place) (a : Assignment) → Blind (own (define_line p a))
 define_blind p a = changed (define_line p a) (λ n r. by n r (is_read r))
   where
-    by : (n : Option Noted) (r : Reading) (b : Bool) → (if b then begin_define p a (put n r) else good (put n r)) ≡ lift n (if b then begin_define p a r else good r)
-    by n r true = refl
+    behind : (n : Option Noted) (c : Changed) → define_behind p a (lift n c) ≡ lift n (define_behind p a c)
+    behind n (Ok x) = refl
+    behind n (Err e) = refl
+
+    by : (n : Option Noted) (r : Reading) (b : Bool) → (if b then define_behind p a (close_rule (put n r)) else good (put n r)) ≡ lift n (if b then define_behind p a (close_rule r) else good r)
+    by n r true = ap (define_behind p a) (closed r.begun n r) ∙ behind n (close_rule r)
     by n r false = refl
 
 pub body_blind : (b : Body) (l : Line) → Blind (own (body_line b l))

@@ -45,7 +45,7 @@ use Rattle.em_reading.specs.declared.reading.Body.{Body}
 use Rattle.em_reading.specs.declared.noted.Noted.{Noted}
 use Rattle.em_reading.specs.Faults.{at_place, of_desk}
 use Rattle.em_reading.specs.Variables.{is_expanded}
-use Rattle.em_reading.specs.Changes.{Change, good, is_read, warnings, add_rule, close_by, close_rule, begin_by, begin_rule, recipe_by, recipe, enter, turned, other, left, leave, begin_define, define_line, ends_body, body_line, whole, take_define, unended, end_text, unbalanced, end_conditionals, is_held, end_rule_by, end_rule, opens, lacking, lacks}
+use Rattle.em_reading.specs.Changes.{Change, Changed, good, is_read, warnings, add_rule, close_by, close_rule, begin_by, begin_rule, recipe_by, recipe, enter, turned, other, left, leave, begin_define, define_behind, define_line, ends_body, body_line, whole, take_define, unended, end_text, unbalanced, end_conditionals, is_held, end_rule_by, end_rule, opens, lacking, lacks}
 use Rattle.em_reading.specs.Heard.{refused_in, unless, holds, enter_by, other_by, if_heard, else_if_heard, assignment_refusal, assign_vars, assign, undefine_vars, undefine, export_vars, export, unexport_vars, unexport}
 use Rattle.em_reading.specs.Start.{start, start_vars, set_goal}
 use Rattle.em_reader.specs.Hearing.{Reads, plain, cut_off, caught_of, caught_by, caught, with_spoken, itself, heard, pieces, go_on, heard_pieces, heard_head, nothing, both, one, heard_after, two, value_by, value_of_assignment, hear_assignment, hear_condition, head, hear}
@@ -139,8 +139,12 @@ left_stays p (Some n) r = goes_same r
 defined : (p : Place) (a : Assignment) → Stays (define_line p a)
 defined p a r = by (is_read r)
   where
-    by : (b : Bool) → Goes r (state_of (if b then begin_define p a r else good r))
-    by true = goes_same r
+    behind : (c : Changed) → Goes r (state_of c) → Goes r (state_of (define_behind p a c))
+    behind (Ok x) g = g
+    behind (Err e) g = g
+
+    by : (b : Bool) → Goes r (state_of (if b then define_behind p a (close_rule r) else good r))
+    by true = behind (close_rule r) (closed r.begun r)
     by false = goes_same r
 
 ended : (too_long : Option Place) → Stays (end_text too_long)

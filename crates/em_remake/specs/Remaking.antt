@@ -3,15 +3,15 @@
 --     is_goal book tree cwd name         the name isn't phony, and a rule for it has a recipe or a pattern rule is found for it, and it isn't always
 --                                        remade by a double-colon rule
 --     goals_of r tree cwd                the candidates that are goals, in order
---     stamp_at tree cwd name             the stamp of what stands at the name
+--     stamp_at tree cwd name             the stamp of what stands at the name, behind the links on its way
 --     changed before after names cwd     a name has another stamp in the one tree than in the other
 use Rattle.std.specs.Prelude.{ℕ, ◌&&◌, ◌||◌, ◌==◌, not, nat_eq, Bool, List, [], ◌++◌, length, map, Option, Some, None, is_some}
 use Rattle.std.specs.List.{filter, list_any}
 use Rattle.std.specs.Option.{option_eq}
-use Rattle.std.specs.FinMap.{get}
 use Rattle.em_path.specs.declared.path.PathNo.{PathNo}
 use Rattle.em_path.specs.Reading.{read_fault, resolved_text}
 use Rattle.em_tree.specs.Trees.{Table, stamp_of}
+use Rattle.em_tree.specs.Resolving.{node_behind}
 use Rattle.em_rules.specs.declared.book.Book.{Book}
 use Rattle.em_rules.specs.declared.rule.Rule.{Rule}
 use Rattle.em_rules.specs.Groups.{is_double, is_double_kind}
@@ -54,7 +54,7 @@ goals_of r tree cwd = goals_among r.book tree cwd (candidates r)
 
 -- a name that is no path has none
 abbrev pub stamp_by : Option PathNo → Table → List ℕ → List ℕ → Option ℕ
-stamp_by None tree cwd name = stamp_of (get tree (resolved_text cwd name))
+stamp_by None tree cwd name = stamp_of (node_behind tree (resolved_text cwd name))
 stamp_by (Some fault) tree cwd name = None
 
 abbrev pub stamp_at : Table → List ℕ → List ℕ → Option ℕ

@@ -88,14 +88,14 @@ fn goals_among(alloc: Global, makefile: Makefile, names: Seq<Text>) -> Result<Se
 }
 
 /// The makefiles that are to be remade before the goals: of the files that were read and then those
-/// that aren't there, each where it first stands, those that aren't phony and for which a rule has a
-/// recipe or a pattern rule is found, by what exists in the tree; but for those for which a
+/// that aren't there, each where it first stands, those that aren't phony and for which a rule has
+/// a recipe or a pattern rule is found, by what exists in the tree; but for those for which a
 /// double-colon rule has a recipe and no prerequisites. Their names are taken without the `./` that
 /// they begin with, and read against the working directory.
 ///
 /// A few searches by name for each file, steps for each rule where it has double-colon rules, and
-/// `find` for each that isn't phony, has no recipe and no double-colon rules.
-/// Each name is copied twice.
+/// `find` for each that isn't phony, has no recipe and no double-colon rules. Each name is copied
+/// twice.
 pub fn goals_of(alloc: Global, r: &Round, tree: &Tree, cwd: &Path) -> Result<Seq<Text>, NoMemory>
     ensures { IfOk result (λ g. g ≡ goals_of r.now tree.now cwd.now) }
 {

@@ -7,8 +7,8 @@ use em_path::{Path, PathNo};
 use em_tree::Tree;
 use std::alloc::Global;
 
-/// Whether what stands at the name has another stamp in the one tree than in the other. Nothing
-/// stands at a name that is no path.
+/// Whether what stands at the name, behind the links on its way, has another stamp in the one tree
+/// than in the other. Nothing stands at a name that is no path.
 fn is_changed(
     alloc: Global,
     before: &Tree,
@@ -19,14 +19,14 @@ fn is_changed(
     ensures { IfOk result (λ b. b ≡ is_changed before.now after.now cwd.now name.now) }
 {
     match Path::read(alloc, cwd, name) {
-        Ok(path) => Ok(before.stamp(&path) != after.stamp(&path)),
+        Ok(path) => Ok(before.stamp_behind(&path)? != after.stamp_behind(&path)?),
         Err(PathNo::NoMemory) => Err(NoMemory),
         Err(_) => Ok(false),
     }
 }
 
 /// Whether one of the names, read against the working directory, has another stamp in the tree
-/// after than in the tree before. Where nothing stands at a name, or it is no path, it has none: so
+/// after than in the tree before, behind the links on its way. Where nothing stands at a name, or it is no path, it has none: so
 /// one that came or went has changed.
 ///
 /// Two searches for each name, up to the first that has changed.

@@ -1,7 +1,7 @@
 -- Rules by their kinds.
 --     is_double rules n      a double-colon rule is for n;  is_single: one of another kind
 --     each_once names        the names, each where it first stands
---     members rules i r      the targets of rule r, whose number is i, but for those that another rule has the recipe of
+--     members rules i r      those of the targets of rule r, whose number is i, that have their recipe from it
 --     normal_for r t, order_for r t      the prerequisites that a rule gives one of its targets
 use Rattle.std.specs.Prelude.{ℕ, ◌+◌, ◌*◌, ◌/◌, ◌==◌, ◌&&◌, not, Bool, true, false, List, [], ◌∷◌, ◌++◌, length, filter, fold, take, drop, slice_get, Option, Some, None, is_some, if◌then◌else◌}
 use Rattle.std.specs.List.{list_any}

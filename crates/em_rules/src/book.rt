@@ -28,7 +28,7 @@ pub enum BookNo {
     /// The first target of a grouped rule without a recipe.
     #[error("a grouped target needs a recipe")]
     Group(Text),
-    /// A target that has both ordinary and double-colon rules.
+    /// The first target that has rules of both kinds, double-colon or not.
     #[error("a target has both kinds of rules")]
     Mixed(Text),
     #[error("out of memory")]
@@ -120,7 +120,7 @@ fn mixed_among(kind: RuleKind, rules: &Rules, targets: &[Text]) -> Option<usize>
     None
 }
 
-/// The place of the first target that has a rule of the other kind.
+/// The place of the first target that has a rule of the other kind; of no pattern rule.
 fn mixed(rules: &Rules, r: &Rule) -> Option<usize>
     ensures { MatchOption result
         (mixed rules.now (undotted_rule r.now) ≡ None)
@@ -156,8 +156,8 @@ impl Book {
     }
 
     /// The rule, unless its line is faulty: a target that its target pattern doesn't match, or else
-    /// one that has a rule of the other kind, with the first such target. No memory. A search for
-    /// each target.
+    /// one that has a rule of the other kind, with the first such target. Pattern rules have no
+    /// rules of the other kind. No memory. A search for each target.
     pub fn judged(&self, r: Rule) -> Result<Rule, BookNo>
         ensures { result ≡ unless (line_fault self.now.rules r) r }
     {
@@ -185,17 +185,20 @@ impl Book {
     /// Adds a rule, behind all others; its names are taken without the `./` that they begin with.
     ///
     /// - A static pattern rule comes to one rule for each target, whose prerequisites are made from
-    ///   what the target has for the `%` of the target pattern, which may be empty. `Static` comes
-    ///   exactly where a target doesn't match, with the first such target.
-    /// - `Mixed` comes else exactly where a target has a rule of the other kind, double-colon or
-    ///   not, with the first such target.
-    /// - `Group` comes else exactly where a grouped rule with a target has no recipe, with the first
-    ///   target.
+    ///   what the target has for the `%` of the target pattern, which may be empty; a grouped one
+    ///   stays one, with the prerequisites of its targets in a row. `Static` comes exactly where a
+    ///   target doesn't match, with the first such target.
+    /// - A double-colon rule comes to one rule for each target.
+    /// - `Mixed` comes else exactly where the rule is no pattern rule and a target has a rule of
+    ///   the other kind, double-colon or not, with the first such target.
+    /// - `Group` comes else exactly where a grouped rule with a target has no recipe, with the
+    ///   first target; of pattern rules, too.
     /// - A pattern rule with a recipe goes to the pattern rules; one without takes out those with
     ///   the same targets and prerequisites, and isn't kept.
     ///
-    /// These faults come also where memory is short. Two searches for each name in the rule; a
-    /// pattern rule without a recipe is compared with each pattern rule.
+    /// These faults come also where memory is short. A search for each target, and two for each
+    /// name in the rules that it comes to; none for a pattern rule, which is compared with each
+    /// pattern rule where it has no recipe.
     pub fn add(&mut self, r: Rule) -> Result<(), BookNo>
         ensures ok { IfOk result
             (λ _. (fault_of self.old.rules r ≡ None) × (self.new ≡ added self.old r)) }

@@ -1,5 +1,5 @@
 //! What a rule comes to: its names as they are known, and a rule for each target of a static
-//! pattern rule.
+//! pattern rule or a double-colon rule; a grouped static pattern rule stays one.
 ghost use Rattle.std.specs.Prelude.{◌≡◌, ◌<◌, ◌++◌, ◌∷◌, [], map, length, slice_get, is_none, Some, None, option_map, MatchOption, IfOk, OnOk};
 ghost use Rattle.em_wordlist.specs.Stems.{stem_of};
 ghost use Rattle.em_rules.specs.Dots.{undotted};

@@ -87,7 +87,7 @@ impl Rules {
         self.alloc
     }
 
-    /// Appends rules, with a search for each name in them.
+    /// Appends rules, with two searches for each name in them.
     pub(crate) fn add(&mut self, mut rules: Vec<Rule>) -> Result<(), NoMemory>
         ensures ok { OnOk result (self.new ≡ self.old ++ rules.items) }
         ensures err { OnErr result (self.new ≡ self.old) }
@@ -217,9 +217,9 @@ impl Rules {
         Ok(members)
     }
 
-    /// The targets of the rule of this number, each once, but for those that another rule has the
-    /// recipe of: a later rule with a recipe takes its targets out of a group. None where there is
-    /// no such rule. Two searches for each target, and a copy of each.
+    /// Those of the targets of the rule of this number that have their recipe from it, each once: a
+    /// later rule with a recipe takes its targets out of a group. None where there is no such rule,
+    /// or it has no recipe. Up to three searches for each target, and two copies of each.
     pub fn members(&self, alloc: Global, number: usize) -> Result<Seq<Text>, NoMemory>
         ensures { IfOk result (λ s. s ≡ members_at self.now number) }
     {

@@ -14,6 +14,7 @@ looked_is v j (ask.Kind p) = tt
 looked_is v j (ask.Stamp p) = tt
 looked_is v j (ask.Content p) = tt
 looked_is v j (ask.Names p) = tt
+looked_is v j (ask.Link p) = tt
 looked_is v j (ask.Outcome k) = tt
 
 pub answered : {E : Type 0} (v : Posted) (j : ℕ) (q : Question) (r : Result Answer E) → IfOk r (λ a. a ≡ looked v j q) → IfOk r (λ a. IsAnswerTo q a)

@@ -201,6 +201,7 @@ fn nothing(alloc: Global, q: &Question) -> Answer
         Question::Stamp(_) => Answer::Stamp(None),
         Question::Content(_) => Answer::Content(None),
         Question::Names(_) => Answer::Names(Some(NameList::new(alloc))),
+        Question::Link(_) => Answer::Link(None),
         Question::Outcome(_) => Answer::Outcome(None),
     }
 }

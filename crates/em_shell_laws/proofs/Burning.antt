@@ -2,7 +2,7 @@
 --     Burns m         behind the action there is at most the fuel that there was, however it ends
 --     BurnsAll m      so with the steps, from any state
 --     then_burns, all_then      one after another
-use Rattle.std.proofs.Common.{◌≤◌, ℕ, Bool, true, false, cond, List, [], ◌∷◌, ◌++◌, Option, Some, None, Result, Ok, Err, arith}
+use Rattle.std.proofs.Common.{◌≤◌, ℕ, ◌+◌, zero, suc, Bool, true, false, cond, List, [], ◌∷◌, ◌++◌, Option, Some, None, Result, Ok, Err, arith}
 use Rattle.std.specs.Prelude.{nat_lt, ◌-◌}
 use Rattle.em_path.specs.Paths.{parent_text}
 use Rattle.em_tree.specs.declared.node.Kind.{Kind}
@@ -15,7 +15,15 @@ use Rattle.em_view.specs.declared.no.FileNo.{FileNo}
 use Rattle.em_view.specs.declared.no.DeskNo.{DeskNo}
 use Rattle.em_view.specs.declared.no.DeskNo.TheVariants as desk
 use Rattle.em_view.specs.Actions.{Workspace, Oracle, Action, ◌>>=◌, go_on, done, fail, ask, lift, mine, ready, spend}
-use Rattle.em_view.specs.Rows.{is_dir, kind_by, kind_below, kind_at, stamp_by, stamp_below, stamp_at, content_by, content_below, content, told_names, amend, made_names, other_names, names_by, names_below, names, number, change, pay, look_by, look, put, place, make_dir, take_away, remove_dir, remove_by, remove_under, remove, touch_dir, touch_bytes, touch_file, touch_by, touch}
+use Rattle.em_tree.specs.declared.way.Met.{Met}
+use Rattle.em_tree.specs.declared.way.Way.{Way}
+use Rattle.em_tree.specs.declared.way.Way.TheVariants.{To, TooMany, Bad}
+use Rattle.em_tree.specs.declared.way.Led.{Led}
+use Rattle.em_tree.specs.Resolving.{most, levels, onward}
+use Rattle.em_view.specs.Walking.{link_by, link_below, passed_by, passed_under, passed, pass_above, pass, lead_by, lead_on, too_many, resolve_from, resolve, target_by, target}
+use Rattle.em_view.specs.Rows.{is_dir, kind_by, kind_below, kind_to, kind_at, stamp_by, stamp_below, stamp_to, stamp_at, content_by, content_below, content_to, content, told_names, amend, made_names, other_names, names_by, names_below, names_to, names, link_to, link_at, number, change, pay, look_by, look, put_at, put, place_at, place, make_dir_at, make_dir, make_link_at, make_link, take_away, remove_dir, remove_by, remove_under, remove_from, remove, touch_dir, touch_bytes, touch_file, touch_by, touch_at, touch}
+use Rattle.em_view.specs.Rows.{blocks, size_of}
+use Rattle.em_view.specs.Names.{names_size}
 use Rattle.em_view.specs.Rows as rows
 use Rattle.em_view.specs.Steps.{Steps, and_then, below, own, within, refuse}
 use Rattle.em_view.specs.Steps as steps
@@ -121,21 +129,110 @@ names_below_burns p = burns_mine p by_own
     by_own (Some n) = by_dir (is_dir n)
     by_own None = then_burns (told_burns p) (λ ns. burns_amend p ns)
 
+-- ---- where a path leads
+
+link_below_burns : (p : List ℕ) → Burns (link_below p)
+unfolding link_below
+link_below_burns p = burns_mine p by_own
+  where
+    by_own : (m : Option (Option Node)) → Burns (link_by m p)
+    by_own (Some n) = burns_done _
+    by_own None = burns_ask _ _
+
+passed_by_burns : (dir p : List ℕ) (m : Option Met) → Burns (passed_by dir p m)
+passed_by_burns dir p (Some m) = burns_done _
+passed_by_burns dir p None = then_burns (link_below_burns p) (λ text. burns_done _)
+
+under_burns : (above : List ℕ → Action DeskNo (Option Met)) → ((q : List ℕ) → Burns (above q)) → (p : List ℕ) (o : Option (List ℕ)) → Burns (passed_under above p o)
+under_burns above h p None = burns_done _
+under_burns above h p (Some dir) = then_burns (h dir) (λ m. passed_by_burns dir p m)
+
+passed_burns : (left : ℕ) (p : List ℕ) → Burns (passed left p)
+passed_burns zero p = burns_done _
+passed_burns (suc left) p = under_burns (passed left) (passed_burns left) p (parent_text p)
+
+pass_burns : (last : Bool) (p : List ℕ) → Burns (pass last p)
+pass_burns true p = passed_burns levels p
+pass_burns false p = by_parent (parent_text p)
+  where
+    by_parent : (o : Option (List ℕ)) → Burns (pass_above o)
+    by_parent None = burns_done _
+    by_parent (Some dir) = passed_burns levels dir
+
+lead_burns : (follow : Met → Action DeskNo Led) (n : ℕ) (p : List ℕ) → ((m : Met) → Burns (follow m)) → (o : Option Met) → Burns (lead_by follow n p o)
+lead_burns follow n p h None = burns_done _
+lead_burns follow n p h (Some m) = h m
+
+on_burns : (next : List ℕ → Action DeskNo Led) (n : ℕ) → ((q : List ℕ) → Burns (next q)) → (o : Option (List ℕ)) → Burns (lead_on next n o)
+on_burns next n h None = burns_done _
+on_burns next n h (Some q) = h q
+
+from_burns : (last : Bool) (left n : ℕ) (p : List ℕ) → Burns (resolve_from last left n p)
+from_burns last zero n p = then_burns (pass_burns last p) (λ m. lead_burns (too_many n) n p (λ x. burns_done _) m)
+from_burns last (suc left) n p = then_burns (pass_burns last p) (λ m. lead_burns (λ x. lead_on (resolve_from last left (suc n)) n (onward p x)) n p (λ x. on_burns (resolve_from last left (suc n)) n (from_burns last left (suc n)) (onward p x)) m)
+
+resolve_burns : (last : Bool) (p : List ℕ) → Burns (resolve last p)
+unfolding resolve
+resolve_burns last p = from_burns last most 0 p
+
+target_burns : (last : Bool) (p : List ℕ) → Burns (target last p)
+unfolding target
+target_burns last p = then_burns (resolve_burns last p) (λ f. then_burns (by_way f.way) (λ q. burns_done _))
+  where
+    by_way : (y : Way) → Burns (target_by y)
+    by_way (To q) = burns_done _
+    by_way TooMany = burns_fail _
+    by_way Bad = burns_fail _
+
+-- ---- reading and changing
+
+reading_burns : {A : Type 0} (last : Bool) (p : List ℕ) (to : Way → Action DeskNo A) (cost : A → ℕ → ℕ) → ((y : Way) → Burns (to y)) → let m : Action DeskNo A = (spend 1 >>= λ u. resolve last p >>= λ f. to f.way >>= λ a. spend (cost a f.followed) >>= λ v. done a) in Burns m
+reading_burns last p to cost h = then_burns (burns_spend 1) (λ u. then_burns (resolve_burns last p) (λ f. then_burns (h f.way) (λ a. then_burns (burns_spend _) (λ v. burns_done _))))
+
 pub kind_burns : (p : List ℕ) → Burns (kind_at p)
 unfolding kind_at
-kind_burns p = then_burns (burns_spend 1) (λ u. kind_below_burns p)
+kind_burns p = reading_burns true p kind_to (λ k n. n) by_way
+  where
+    by_way : (y : Way) → Burns (kind_to y)
+    by_way (To q) = kind_below_burns q
+    by_way TooMany = burns_done _
+    by_way Bad = burns_done _
 
 pub stamp_burns : (p : List ℕ) → Burns (stamp_at p)
 unfolding stamp_at
-stamp_burns p = then_burns (burns_spend 1) (λ u. stamp_below_burns p)
+stamp_burns p = reading_burns true p stamp_to (λ k n. n) by_way
+  where
+    by_way : (y : Way) → Burns (stamp_to y)
+    by_way (To q) = stamp_below_burns q
+    by_way TooMany = burns_done _
+    by_way Bad = burns_done _
 
 pub content_burns : (p : List ℕ) → Burns (content p)
 unfolding content
-content_burns p = then_burns (burns_spend 1) (λ u. then_burns (content_below_burns p) (λ body. then_burns (burns_spend _) (λ v. burns_done _)))
+content_burns p = reading_burns true p content_to (λ body n. blocks (size_of body) + n) by_way
+  where
+    by_way : (y : Way) → Burns (content_to y)
+    by_way (To q) = content_below_burns q
+    by_way TooMany = burns_done _
+    by_way Bad = burns_done _
 
 pub names_burns : (p : List ℕ) → Burns (names p)
 unfolding names
-names_burns p = then_burns (burns_spend 1) (λ u. then_burns (names_below_burns p) (λ ns. then_burns (burns_spend _) (λ v. burns_done _)))
+names_burns p = reading_burns true p names_to (λ ns n. blocks (names_size ns) + n) by_way
+  where
+    by_way : (y : Way) → Burns (names_to y)
+    by_way (To q) = names_below_burns q
+    by_way TooMany = burns_done _
+    by_way Bad = burns_done _
+
+pub link_burns : (p : List ℕ) → Burns (link_at p)
+unfolding link_at
+link_burns p = reading_burns false p link_to (λ text n. blocks (size_of text) + n) by_way
+  where
+    by_way : (y : Way) → Burns (link_to y)
+    by_way (To q) = link_below_burns q
+    by_way TooMany = burns_done _
+    by_way Bad = burns_done _
 
 burns_number : Burns number
 unfolding number
@@ -161,47 +258,60 @@ look_burns p = then_burns (kind_below_burns p) (λ k. by_parent (parent_text p) 
     by_parent None k = burns_done _
     by_parent (Some q) k = then_burns (kind_below_burns q) (λ above. burns_done _)
 
+changing_burns : {A : Type 0} (last : Bool) (p : List ℕ) (at : List ℕ → ℕ → Action DeskNo A) → ((q : List ℕ) (n : ℕ) → Burns (at q n)) → Burns (ready >>= (λ r. target last p >>= (λ t. at t.0 t.1)))
+changing_burns last p at h = then_burns burns_ready (λ r. then_burns (target_burns last p) (λ t. h t.0 t.1))
+
 pub put_burns : (p bytes : List ℕ) → Burns (put p bytes)
-unfolding put
-put_burns p bytes = then_burns burns_ready (λ r. then_burns (look_burns p) (λ spot. then_burns (burns_refuse _) (λ f. then_burns (burns_pay _) (λ u. then_burns burns_number (λ n. burns_change _ _ _)))))
+unfolding put put_at
+put_burns p bytes = changing_burns true p (λ q n. put_at q n bytes) (λ q n. then_burns (look_burns q) (λ spot. then_burns (burns_refuse _) (λ f. then_burns (burns_pay _) (λ u. then_burns burns_number (λ n. burns_change _ _ _)))))
 
 pub place_burns : (p bytes : List ℕ) (stamp : ℕ) → Burns (place p bytes stamp)
-unfolding place
-place_burns p bytes stamp = then_burns burns_ready (λ r. then_burns (look_burns p) (λ spot. then_burns (burns_refuse _) (λ f. then_burns (burns_pay _) (λ u. burns_change _ _ _))))
+unfolding place place_at
+place_burns p bytes stamp = changing_burns false p (λ q n. place_at q n bytes stamp) (λ q n. then_burns (look_burns q) (λ spot. then_burns (burns_refuse _) (λ f. then_burns (burns_pay _) (λ u. burns_change _ _ _))))
 
 pub make_burns : (p : List ℕ) → Burns (make_dir p)
-unfolding make_dir
-make_burns p = then_burns burns_ready (λ r. then_burns (look_burns p) (λ spot. then_burns (burns_refuse _) (λ f. then_burns (burns_pay 0) (λ u. then_burns burns_number (λ n. burns_change _ _ _)))))
+unfolding make_dir make_dir_at
+make_burns p = changing_burns false p make_dir_at (λ q n. then_burns (look_burns q) (λ spot. then_burns (burns_refuse _) (λ f. then_burns (burns_pay _) (λ u. then_burns burns_number (λ n. burns_change _ _ _)))))
 
-take_burns : (p above : List ℕ) → Burns (take_away p above)
+pub make_link_burns : (p text : List ℕ) → Burns (make_link p text)
+unfolding make_link make_link_at
+make_link_burns p text = changing_burns false p (λ q n. make_link_at q n text) (λ q n. then_burns (look_burns q) (λ spot. then_burns (burns_refuse _) (λ f. then_burns (burns_pay _) (λ u. then_burns burns_number (λ n. burns_change _ _ _)))))
+
+take_burns : (p above : List ℕ) (n : ℕ) → Burns (take_away p above n)
 unfolding take_away
-take_burns p above = then_burns (burns_pay 0) (λ u. burns_change _ _ _)
+take_burns p above n = then_burns (burns_pay n) (λ u. burns_change _ _ _)
 
 pub remove_burns : (p : List ℕ) → Burns (remove p)
 unfolding remove remove_dir
-remove_burns p = then_burns burns_ready (λ r. by_parent (parent_text p))
+remove_burns p = then_burns burns_ready (λ r. by_root (parent_text p))
   where
-    by_kind : (k : Kind) (above : List ℕ) → Burns (remove_by k p above)
-    by_kind kind.Absent above = burns_fail _
-    by_kind kind.File above = take_burns p above
-    by_kind kind.Dir above = then_burns (names_below_burns p) (λ ns. then_burns (burns_refuse _) (λ f. take_burns p above))
+    by_kind : (k : Kind) (q above : List ℕ) (n : ℕ) → Burns (remove_by k q above n)
+    by_kind kind.Absent q above n = burns_fail _
+    by_kind kind.File q above n = take_burns q above n
+    by_kind kind.Link q above n = take_burns q above n
+    by_kind kind.Dir q above n = then_burns (names_below_burns q) (λ ns. then_burns (burns_refuse _) (λ f. take_burns q above n))
 
-    by_parent : (above : Option (List ℕ)) → Burns (remove_under above p)
-    by_parent None = burns_fail _
-    by_parent (Some above) = then_burns (kind_below_burns p) (λ k. by_kind k above)
+    by_parent : (above : Option (List ℕ)) (q : List ℕ) (n : ℕ) → Burns (remove_under above q n)
+    by_parent None q n = burns_fail _
+    by_parent (Some above) q n = then_burns (kind_below_burns q) (λ k. by_kind k q above n)
+
+    by_root : (above : Option (List ℕ)) → Burns (remove_from above p)
+    by_root None = burns_fail _
+    by_root (Some above) = then_burns (target_burns false p) (λ t. by_parent (parent_text t.0) t.0 t.1)
 
 pub touch_burns : (p : List ℕ) → Burns (touch p)
-unfolding touch touch_dir touch_file
-touch_burns p = then_burns burns_ready (λ r. then_burns (kind_below_burns p) by_kind)
+unfolding touch touch_at touch_dir touch_file
+touch_burns p = changing_burns true p touch_at (λ q n. then_burns (kind_below_burns q) (λ k. by_kind k q n))
   where
-    by_bytes : (body : Option (List ℕ)) → Burns (touch_bytes body p)
-    by_bytes None = burns_fail _
-    by_bytes (Some bytes) = then_burns (burns_pay 0) (λ u. then_burns burns_number (λ n. burns_change _ _ _))
+    by_bytes : (body : Option (List ℕ)) (q : List ℕ) (n : ℕ) → Burns (touch_bytes body q n)
+    by_bytes None q n = burns_fail _
+    by_bytes (Some bytes) q n = then_burns (burns_pay n) (λ u. then_burns burns_number (λ k. burns_change _ _ _))
 
-    by_kind : (k : Kind) → Burns (touch_by k p)
-    by_kind kind.Absent = burns_fail _
-    by_kind kind.Dir = then_burns (burns_pay 0) (λ u. then_burns burns_number (λ n. burns_change _ _ _))
-    by_kind kind.File = then_burns (content_below_burns p) by_bytes
+    by_kind : (k : Kind) (q : List ℕ) (n : ℕ) → Burns (touch_by k q n)
+    by_kind kind.Absent q n = burns_fail _
+    by_kind kind.Link q n = burns_fail _
+    by_kind kind.Dir q n = then_burns (burns_pay n) (λ u. then_burns burns_number (λ k. burns_change _ _ _))
+    by_kind kind.File q n = then_burns (content_below_burns q) (λ body. by_bytes body q n)
 
 -- ---- steps
 

@@ -25,7 +25,7 @@ use Rattle.em_exec.specs.Words.{Deeper}
 use Rattle.em_exec.specs.Running.{redirect_one, redirects, if_some, body_of, has_no_end, handing, passed_on, within_streams, routed, compound_of}
 use Rattle.em_shell_laws.specs.Ends.{Ends, Leaves, Comes, HasEnd}
 use Rattle.em_shell_laws.specs.Pipes.{said_on, beside}
-use Rattle.em_shell_laws.specs.Redirections.{Empties, Finds, into, Holds}
+use Rattle.em_shell_laws.specs.Redirections.{Empties, Finds, into, HasNoLinks, Holds}
 use Rattle.em_shell_laws.proofs.Going.{Outcome, then_on, nothing_more}
 use Rattle.em_shell_laws.proofs.Redirecting.{writes, appends, alone, into_handed, into_texts}
 use Rattle.em_shell_laws.proofs.Writing.{behind, behind_old}
@@ -139,15 +139,15 @@ module _ (deeper : Deeper) (scene : Scene) (o : Oracle) (c : Compound) (r : Redi
       was_told ended has o left_here left_here y (append f text o x) (ap (jumping ended has o left_here left_here y) (sym file) ∙ sym whole ∙ e)
 
 pub write : (deeper : Deeper) (scene : Scene) (o : Oracle) (c : Compound) (r : Redirect) (f : Opened) (h t k : Here) (w v x y : Workspace) (ended : Result (Unit {0}) Jump) → Empties deeper scene o r h w f t v
-    → Comes o (body_of deeper (within_streams (into around f) scene) c) (unwritten t) v ended k x → HasEnd ended → Holds x f.path []
+    → Comes o (body_of deeper (within_streams (into around f) scene) c) (unwritten t) v ended k x → HasEnd ended → HasNoLinks o x → Holds x f.path []
     → Comes o (compound_of deeper scene c (r ∷ [])) h w ended (record k { pieces = t.pieces ++ map (λ p. piece 2 p.text) (beside 1 k.pieces) }) y → Holds y f.path (said_on 1 k.pieces)
-write deeper scene o c r f h t k w v x y ended empties comes has holds e =
-    behind o f [] (passed f k.pieces o (record k { pieces = t.pieces }) x) x y (said_on 1 k.pieces) holds
+write deeper scene o c r f h t k w v x y ended empties comes has none holds e =
+    behind o f [] (passed f k.pieces o (record k { pieces = t.pieces }) x) x y none (said_on 1 k.pieces) holds
     (was_appended deeper scene o c r f h t k w v x y ended (writes deeper scene o r around f h t w v empties) comes has e)
 
 pub append_old : (deeper : Deeper) (scene : Scene) (o : Oracle) (c : Compound) (r : Redirect) (f : Opened) (old : List ℕ) (h t k : Here) (w v x u y : Workspace) (ended : Result (Unit {0}) Jump) → Finds deeper scene o r h w f t v
-    → Comes o (body_of deeper (within_streams (into around f) scene) c) (unwritten t) v ended k x → HasEnd ended → content f.path o x ≡ (Ok (Some old), u) → said_on 1 k.pieces ≢ []
+    → Comes o (body_of deeper (within_streams (into around f) scene) c) (unwritten t) v ended k x → HasEnd ended → HasNoLinks o x → content f.path o x ≡ (Ok (Some old), u) → said_on 1 k.pieces ≢ []
     → Comes o (compound_of deeper scene c (r ∷ [])) h w ended (record k { pieces = t.pieces ++ map (λ p. piece 2 p.text) (beside 1 k.pieces) }) y → Holds y f.path (old ++ said_on 1 k.pieces)
-append_old deeper scene o c r f old h t k w v x u y ended finds comes has was some e =
-    behind_old o f old (passed f k.pieces o (record k { pieces = t.pieces }) x) x y (said_on 1 k.pieces) u was some
+append_old deeper scene o c r f old h t k w v x u y ended finds comes has none was some e =
+    behind_old o f old (passed f k.pieces o (record k { pieces = t.pieces }) x) x y none (said_on 1 k.pieces) u was some
     (was_appended deeper scene o c r f h t k w v x y ended (appends deeper scene o r around f h t w v finds) comes has e)

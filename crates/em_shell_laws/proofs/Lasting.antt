@@ -156,6 +156,7 @@ file_burns cwd Append word p = then_burns (burns_named word (kind_burns p)) by_k
     by_kind : (k : Kind) → Burns (added_by word p k)
     by_kind kind.Absent = emptied_burns word p
     by_kind kind.File = burns_done _
+    by_kind kind.Link = burns_done _
     by_kind kind.Dir = burns_fail _
 file_burns cwd Read word p = then_burns (read_burns cwd word) (λ bytes. burns_done _)
 file_burns cwd Duplicate word p = burns_done _

@@ -6,6 +6,7 @@ mod Wording
 mod Joining
 mod Piping
 mod Looping
+mod Staying
 mod Writing
 mod Redirecting
 mod Compounding

@@ -29,7 +29,7 @@ use Rattle.em_exec.specs.Words.{Deeper, whole}
 use Rattle.em_exec.specs.Running.{redirect_one, redirects, if_open}
 use Rattle.em_shell_laws.specs.Ends.{Ends}
 use Rattle.em_shell_laws.specs.Pipes.{is_on, said, said_on, beside}
-use Rattle.em_shell_laws.specs.Redirections.{Is, Says, Empties, Finds, IsTwoToOne, into, both_into, apart_into, Holds}
+use Rattle.em_shell_laws.specs.Redirections.{Is, Says, Empties, Finds, IsTwoToOne, into, both_into, apart_into, HasNoLinks, Holds}
 use Rattle.em_shell_laws.proofs.Going.{Outcome, then_on}
 use Rattle.em_shell_laws.proofs.Writing.{put_holds, looking_keeps}
 use Rattle.em_shell_laws.proofs.Wording.{literal_whole}
@@ -92,8 +92,8 @@ module _ (deeper : Deeper) (scene : Scene) (o : Oracle) where
     pub apart : Ends o (redirects deeper scene (q ∷ r ∷ []) s) h w (Some (apart_into s f)) t v
     apart = two q r s (record s { errors = s.output }) (apart_into s f) h h t w w v (doubles q s h w doubled) (writes r (record s { errors = s.output }) f h t w v empties)
 
-  pub write : (r : Redirect) (s : Streams) (f : Opened) (h t : Here) (w v : Workspace) → Empties deeper scene o r h w f t v → Ends o (redirect_one deeper scene r s) h w (Some (into s f)) t v × Holds v f.path []
-  write r s f h t w v is = (writes r s f h t w v is, put_holds f.path [] o is.between v is.puts)
+  pub write : (r : Redirect) (s : Streams) (f : Opened) (h t : Here) (w v : Workspace) (empties : Empties deeper scene o r h w f t v) → Ends o (redirect_one deeper scene r s) h w (Some (into s f)) t v × (HasNoLinks o empties.between → Holds v f.path [])
+  write r s f h t w v is = (writes r s f h t w v is, λ none. put_holds f.path [] o is.between v none is.puts)
 
   pub append : (r : Redirect) (s : Streams) (f : Opened) (h t : Here) (w v : Workspace) (found : Finds deeper scene o r h w f t v) → Ends o (redirect_one deeper scene r s) h w (Some (into s f)) t v × (v.changes ≡ found.between.changes)
   append r s f h t w v is = (appends r s f h t w v is, looking_keeps f.path o is.between v _ is.finds)

@@ -18,13 +18,14 @@ use Rattle.em_utility.specs.declared.operand.OperandNo.{OperandNo}
 use Rattle.em_utility.specs.Options.{is_in, read_options}
 use Rattle.em_utility.specs.Operands.{Tries, Runs, at}
 use Rattle.em_fileutil.specs.Spots.{there, ending, levels}
-use Rattle.em_fileutil.specs.Making.{make_by, make_missing, make_under, make_all, remove_directory_by, remove_directory, touch_by, touch_operand}
-use Rattle.em_fileutil.specs.Removing.{remove_child, remove_tree, remove_by, remove_node, remove_beneath}
-use Rattle.em_fileutil.specs.Copying.{Deeper, copy_file, move_file, copy_child, leave_source, copy_tree, copy_as_file, recurs, copy_by, copy_node, copy_beneath, target_at, place_of}
+use Rattle.em_fileutil.specs.Making.{make_by, make_missing, make_under, make_all, remove_directory_by, remove_other_directory, remove_directory_past, remove_directory, touch_by, touch_operand}
+use Rattle.em_fileutil.specs.Removing.{remove_child, remove_tree, remove_by, remove_other, remove_past, remove_node, remove_beneath}
+use Rattle.em_fileutil.specs.Linking.{clear_by, clear_other, clear_past, clear, clear_if, link_operand, link_by, link_path, read_link}
+use Rattle.em_fileutil.specs.Copying.{Deeper, copy_file, move_file, copy_child, leave_source, copy_tree, copy_as_file, recurs, copy_by, copy_node, copy_link, copy_past, copy_linked, copy_beneath, copy_top, target_at, place_of}
 use Rattle.em_fileutil.specs.Listing.{list_directory, list_by, list_operand}
 use Rattle.em_fileutil.specs.Acts.{copy_operand, act_on, act_for}
 use Rattle.em_fileutil.specs.Table.{Row, table, is_named, utility_of}
-use Rattle.em_fileutil.specs.Utilities.{for_each, some, front, copy_all, or_here, run, utility_by, utility_for, utility}
+use Rattle.em_fileutil.specs.Utilities.{for_each, some, front, copy_all, or_here, extra, link_two, link, read_one, run, utility_by, utility_for, utility}
 use Rattle.em_lineutil.specs.declared.test.Unary.{Unary}
 use Rattle.em_lineutil.specs.declared.test.Unary.TheVariants as unary
 use Rattle.em_lineutil.specs.declared.test.Binary.{Binary}
@@ -39,11 +40,12 @@ use Rattle.em_textutil.specs.declared.name.Utility.TheVariants as by_text
 use Rattle.em_textutil.specs.declared.plan.Plan.{Plan}
 use Rattle.em_textutil.specs.declared.plan.Plan.TheVariants.{Read, Wrong}
 use Rattle.em_textutil.specs.Sources.{found, is_input, found_in, sources, read_all}
-use Rattle.em_textutil.specs.Expressions.{kind_by, stamp_by, content_by, path_of, says_kind, says_bytes, says_unary, says_stamps, says_binary, says, word_at, test_words}
+use Rattle.em_textutil.specs.Expressions.{kind_by, stamp_by, content_by, path_of, says_kind, says_bytes, says_link, says_unary, says_stamps, says_binary, says, word_at, test_words}
+use Rattle.em_textutil.specs.Expressions as expression
 use Rattle.em_textutil.specs.Plans.{files_of}
 use Rattle.em_textutil.specs.Utilities.{is_dashed, carried, with_options, reads, lacks_end, bracketed}
 use Rattle.em_textutil.specs.Utilities as texts
-use Rattle.em_shell_laws.proofs.Burning.{Burns, BurnsAll, then_burns, burns_done, burns_fail, burns_lift, burns_by, burns_gives, kind_burns, stamp_burns, content_burns, names_burns, put_burns, place_burns, make_burns, remove_burns, touch_burns, read_burns, all_then, all_done, all_refuse, all_own, all_within, all_by, all_at, all_caught, all_each, burns_command}
+use Rattle.em_shell_laws.proofs.Burning.{Burns, BurnsAll, then_burns, burns_done, burns_fail, burns_lift, burns_by, burns_gives, kind_burns, stamp_burns, content_burns, names_burns, put_burns, place_burns, make_burns, link_burns, make_link_burns, remove_burns, touch_burns, read_burns, all_then, all_done, all_refuse, all_own, all_within, all_by, all_at, all_caught, all_each, burns_command}
 
 -- types that their crate keeps to itself, by functions that take them
 abbrev DomainOf : {X Y : Type 0} → (X → Y) → Type 0
@@ -84,6 +86,7 @@ missing_burns name p = all_then (all_at name (kind_burns p)) by_kind
     by_kind kind.Absent = all_at name (make_burns p)
     by_kind kind.File = all_refuse _
     by_kind kind.Dir = all_done tt
+    by_kind kind.Link = all_done tt
 
 under_burns : (parent : Option (List ℕ)) (above : List ℕ → Tries) → ((q : List ℕ) → BurnsAll (above q)) → (name p : List ℕ) → BurnsAll (make_under parent above name p)
 under_burns None above h name p = all_done tt
@@ -97,13 +100,18 @@ directory_burns : (parents : Bool) (name p : List ℕ) → BurnsAll (cond parent
 directory_burns parents name p = all_by parents (all_burns levels name p) (all_at name (make_burns p))
 
 rmdir_burns : (o : Operand) → BurnsAll (remove_directory o)
-unfolding remove_directory
-rmdir_burns o = all_then (all_at o.name (kind_burns o.path)) by_kind
+unfolding remove_directory remove_other_directory
+rmdir_burns o = all_then (all_at o.name (link_burns o.path)) by_link
   where
     by_kind : (k : Kind) → BurnsAll (remove_directory_by o k)
     by_kind kind.Absent = all_at o.name (remove_burns o.path)
     by_kind kind.File = all_refuse _
+    by_kind kind.Link = all_refuse _
     by_kind kind.Dir = all_at o.name (remove_burns o.path)
+
+    by_link : (l : Option (List ℕ)) → BurnsAll (remove_directory_past o l)
+    by_link (Some text) = all_refuse _
+    by_link None = all_then (all_at o.name (kind_burns o.path)) by_kind
 
 touched_burns : (create : Bool) (o : Operand) → BurnsAll (touch_operand create o)
 unfolding touch_operand
@@ -113,6 +121,7 @@ touched_burns create o = all_then (all_at o.name (kind_burns o.path)) by_kind
     by_kind kind.Absent = all_by create (all_at o.name (put_burns o.path [])) (all_done tt)
     by_kind kind.File = all_at o.name (touch_burns o.path)
     by_kind kind.Dir = all_at o.name (touch_burns o.path)
+    by_kind kind.Link = all_at o.name (touch_burns o.path)
 
 listed_burns : (how : Listing) (o : Operand) → BurnsAll (list_operand how o)
 unfolding list_operand list_directory
@@ -121,11 +130,12 @@ listed_burns how o = all_then (all_at o.name (kind_burns o.path)) by_kind
     by_kind : (k : Kind) → BurnsAll (list_by how o k)
     by_kind kind.Absent = all_refuse _
     by_kind kind.File = all_own _
+    by_kind kind.Link = all_refuse _
     by_kind kind.Dir = all_by how.itself (all_own _) (all_then (all_there o (names_burns o.path)) (λ inside. all_own _))
 
 node_removed : (deeper : Operand → Tries) (how : Removal) → ((o : Operand) → BurnsAll (deeper o)) → (o : Operand) → BurnsAll (remove_node deeper how o)
-unfolding remove_node remove_tree
-node_removed deeper how h o = all_then (all_at o.name (kind_burns o.path)) by_kind
+unfolding remove_node remove_other remove_tree
+node_removed deeper how h o = all_then (all_at o.name (link_burns o.path)) by_link
   where
     by_child : (c : List ℕ) → BurnsAll (remove_child deeper o c)
     by_child c = all_then (all_own _) h
@@ -133,7 +143,12 @@ node_removed deeper how h o = all_then (all_at o.name (kind_burns o.path)) by_ki
     by_kind : (k : Kind) → BurnsAll (remove_by deeper how o k)
     by_kind kind.Absent = all_own _
     by_kind kind.File = all_at o.name (remove_burns o.path)
+    by_kind kind.Link = all_at o.name (remove_burns o.path)
     by_kind kind.Dir = all_by how.recursive (all_then (all_there o (names_burns o.path)) (λ inside. all_then (all_ending (all_each _ (remove_child deeper o) by_child inside)) (λ u. all_at o.name (remove_burns o.path)))) (all_refuse _)
+
+    by_link : (l : Option (List ℕ)) → BurnsAll (remove_past deeper how o l)
+    by_link (Some text) = all_at o.name (remove_burns o.path)
+    by_link None = all_then (all_at o.name (kind_burns o.path)) by_kind
 
 beneath_removed : (how : Removal) (left : ℕ) (o : Operand) → BurnsAll (remove_beneath how left o)
 beneath_removed how zero o = all_refuse _
@@ -168,17 +183,45 @@ node_copied utility deeper manner h s t = all_then (all_at s.name (kind_burns s.
 
     by_kind : (k : Kind) → BurnsAll (copy_by utility deeper manner s t k)
     by_kind kind.Absent = all_refuse _
+    by_kind kind.Link = all_refuse _
     by_kind kind.File = as_file manner s t
     by_kind kind.Dir = all_by (recurs manner) (all_then (missing_burns t.name t.path) (λ u. all_then (all_there s (names_burns s.path)) (λ inside.
         all_then (all_ending (all_each utility (copy_child deeper s t) by_child inside)) (λ v. source_left manner s)))) (all_refuse _)
 
+cleared : (t : Operand) → BurnsAll (clear t)
+unfolding clear clear_other
+cleared t = all_then (all_at t.name (link_burns t.path)) by_link
+  where
+    by_kind : (k : Kind) → BurnsAll (clear_by t k)
+    by_kind kind.Absent = all_done tt
+    by_kind kind.File = all_at t.name (remove_burns t.path)
+    by_kind kind.Dir = all_done tt
+    by_kind kind.Link = all_done tt
+
+    by_link : (l : Option (List ℕ)) → BurnsAll (clear_past t l)
+    by_link (Some text) = all_at t.name (remove_burns t.path)
+    by_link None = all_then (all_at t.name (kind_burns t.path)) by_kind
+
+linked_copied : (utility : List ℕ) (deeper : Deeper) (manner : Manner) → ((s t : Operand) → BurnsAll (deeper s t)) → (s t : Operand) → BurnsAll (copy_linked utility deeper manner s t)
+unfolding copy_linked copy_link
+linked_copied utility deeper manner h s t = all_then (all_at s.name (link_burns s.path)) by_link
+  where
+    by_link : (l : Option (List ℕ)) → BurnsAll (copy_past utility deeper manner s t l)
+    by_link (Some text) = all_then (cleared t) (λ u. all_then (all_at t.name (make_link_burns t.path text)) (λ v. source_left manner s))
+    by_link None = node_copied utility deeper manner h s t
+
 beneath_copied : (utility : List ℕ) (manner : Manner) (left : ℕ) (s t : Operand) → BurnsAll (copy_beneath utility manner left s t)
 beneath_copied utility manner zero s t = all_refuse _
-beneath_copied utility manner (suc left) s t = node_copied utility (copy_beneath utility manner left) manner (beneath_copied utility manner left) s t
+beneath_copied utility manner (suc left) s t = linked_copied utility (copy_beneath utility manner left) manner (beneath_copied utility manner left) s t
+
+-- a link that an operand is goes or is followed
+top_copied : (utility : List ℕ) (deeper : Deeper) (manner : Manner) (s t : Operand) → BurnsAll (copy_linked utility deeper manner s t) → BurnsAll (copy_node utility deeper manner s t) → BurnsAll (copy_top utility deeper manner s t)
+top_copied utility deeper manner s t linked node = search rules
 
 operand_copied : (utility : List ℕ) (manner : Manner) (to : Target) (o : Operand) → BurnsAll (copy_operand utility manner to o)
 unfolding copy_operand
-operand_copied utility manner to o = all_then (all_own _) (λ t. node_copied utility (copy_beneath utility manner levels) manner (beneath_copied utility manner levels) o t)
+operand_copied utility manner to o = all_then (all_own _) (λ t. (let deeper = copy_beneath utility manner levels in let h = beneath_copied utility manner levels in
+    top_copied utility deeper manner o t (linked_copied utility deeper manner h o t) (node_copied utility deeper manner h o t)))
 
 all_removed : (how : Removal) (o : Operand) → BurnsAll (remove_node (remove_beneath how levels) how o)
 all_removed how o = node_removed (remove_beneath how levels) how (beneath_removed how levels) o
@@ -200,6 +243,32 @@ all_copied : (name : List ℕ) (manner : Manner) (cwd : List ℕ) (os : List (Li
 unfolding copy_all target_at
 all_copied name manner cwd os =
     all_then (all_then (all_own _) (λ o. all_then (all_at o.name (kind_burns o.path)) (λ k. all_own _))) (λ to. all_ending (each_act name _ cwd (front os) (λ o. operand_copied name manner to o)))
+
+-- ---- links
+
+link_made : (cwd : List ℕ) (force : Bool) (text name : List ℕ) → BurnsAll (link_operand cwd force text name)
+unfolding link_operand
+link_made cwd force text name =
+    all_then (all_own _) (λ u. all_then (all_own _) (λ o. all_then (all_at o.name (kind_burns o.path)) (λ k. all_then (all_own _) (λ t. all_then (all_by force (cleared t) (all_done tt)) (λ v. all_at t.name (make_link_burns t.path text))))))
+
+two_linked : (name : List ℕ) (force : Bool) (cwd : List ℕ) (os : List (List ℕ)) → BurnsAll (link_two name force cwd os)
+two_linked name force cwd [] = all_own _
+two_linked name force cwd (text ∷ []) = all_own _
+two_linked name force cwd (text ∷ l ∷ []) = all_caught name (link_made cwd force text l)
+two_linked name force cwd (text ∷ l ∷ o ∷ os) = all_own _
+
+link_read : (cwd name : List ℕ) → BurnsAll (read_link cwd name)
+unfolding read_link
+link_read cwd name = all_then (by_path (link_path cwd name)) (λ l. all_own _)
+  where
+    by_path : (p : Option (List ℕ)) → BurnsAll (link_by name p)
+    by_path None = all_done None
+    by_path (Some p) = all_at name (link_burns p)
+
+one_read : (name cwd : List ℕ) (os : List (List ℕ)) → BurnsAll (read_one name cwd os)
+one_read name cwd [] = all_own _
+one_read name cwd (l ∷ []) = all_caught name (link_read cwd l)
+one_read name cwd (l ∷ o ∷ os) = all_own _
 
 -- a row of the table, whatever its options and operands are
 record Works (r : Row) : Type 0 where
@@ -223,7 +292,10 @@ all_work = (
             record { burns = λ has cwd os. some_act (codes "touch") _ cwd os (touched_burns (not (has 99))) },
             (
               record { burns = λ has cwd os. each_act (codes "ls") _ cwd (or_here os) (λ o. listed_burns _ o) },
-              tt,
+              (
+                record { burns = λ has cwd os. all_by (has 115) (two_linked (codes "ln") (has 102) cwd os) (all_refuse _) },
+                (record { burns = λ has cwd os. one_read (codes "readlink") cwd os }, tt),
+              ),
             ),
           ),
         ),
@@ -256,6 +328,10 @@ stamp_asked : (p : Option (List ℕ)) → Burns (stamp_by p)
 stamp_asked None = burns_done _
 stamp_asked (Some p) = burns_lift of_desk (stamp_burns p)
 
+link_asked : (p : Option (List ℕ)) → Burns (expression.link_by p)
+link_asked None = burns_done _
+link_asked (Some p) = burns_lift of_desk (link_burns p)
+
 content_asked : (p : Option (List ℕ)) → Burns (content_by p)
 content_asked None = burns_done _
 content_asked (Some p) = burns_lift of_desk (content_burns p)
@@ -265,13 +341,14 @@ unfolding says_kind
 kind_says cwd u w = then_burns (kind_asked (path_of cwd w)) (λ k. burns_done _)
 
 unary_says : (cwd : List ℕ) (u : Unary) (w : List ℕ) → Burns (says_unary cwd u w)
-unfolding says_bytes
+unfolding says_bytes says_link
 unary_says cwd unary.Filled w = burns_done _
 unary_says cwd unary.Empty w = burns_done _
 unary_says cwd unary.Exists w = kind_says cwd unary.Exists w
 unary_says cwd unary.IsFile w = kind_says cwd unary.IsFile w
 unary_says cwd unary.IsDir w = kind_says cwd unary.IsDir w
 unary_says cwd unary.HasBytes w = then_burns (content_asked (path_of cwd w)) (λ b. burns_done _)
+unary_says cwd unary.IsLink w = then_burns (link_asked (path_of cwd w)) (λ l. burns_done _)
 
 stamps_say : (cwd : List ℕ) (first : Bool) (a b : List ℕ) → Burns (says_stamps cwd first a b)
 unfolding says_stamps

@@ -3,6 +3,7 @@
 --     Finds ..        `>> word`: a file is there
 --     IsTwoToOne ..   `2>&1`
 --     Holds w p b     the job has put a file with these bytes at the path
+--     HasNoLinks o w  no symbolic link is told of, and the job has made none
 --     into s f        s with stream 1 going to one more file
 --     both_into s f   with both streams going to it
 use Rattle.std.specs.Prelude.{◌≡◌, ◌≢◌, ℕ, List, [], ◌∷◌, ◌++◌, length, codes, Option, Some, None, Result, Ok}
@@ -10,6 +11,7 @@ use Rattle.std.specs.FinMap.{get}
 use Rattle.em_tree.specs.declared.node.Kind.TheVariants as kind
 use Rattle.em_tree.specs.declared.node.Node.TheVariants as node
 use Rattle.em_view.specs.Actions.{Oracle, Workspace}
+use Rattle.em_view.specs.Bare.{TellsNone, AreBare}
 use Rattle.em_view.specs.Rows.{kind_at, put}
 use Rattle.em_utility.specs.Operands.{located}
 use Rattle.em_syntax.specs.declared.tree.Redirect.{Redirect, out-Redirect}
@@ -60,6 +62,9 @@ both_into s f = record s { output = File (length s.files); errors = File (length
 -- stream 2 goes where stream 1 went
 abbrev pub apart_into : Streams → Opened → Streams
 apart_into s f = record s { output = File (length s.files); errors = s.output; files = s.files ++ f ∷ [] }
+
+abbrev pub HasNoLinks : Oracle → Workspace → Type 0
+HasNoLinks o w = TellsNone o × AreBare w.changes
 
 abbrev pub Holds : Workspace → List ℕ → List ℕ → Type 0
 Holds w p bytes = (stamp : ℕ) × (get w.changes p ≡ Some (Some (node.File bytes stamp)))

@@ -46,6 +46,7 @@ ghost use Rattle.em_shell_laws.specs.Redirections.{
   into,
   both_into,
   apart_into,
+  HasNoLinks,
   Holds,
 };
 
@@ -75,20 +76,22 @@ pub fn law_order()
 
 /// `> f` puts an empty file there, `>> f` leaves a file as it is. What is written to the file then
 /// stands behind what it holds: so `>> f` leaves the old content with it behind, and `> f` it alone
-/// where nothing else was written there. This is where no line about a refusal was written.
+/// where nothing else was written there. This is where no line about a refusal was written, and no
+/// symbolic link is told of or made.
 pub fn law_file()
     ensures write { (deeper : Deeper) (scene : Scene) (o : Oracle) (r : Redirect) (s : Streams)
-        (f : Opened) (h t : Here) (w v : Workspace) → Empties deeper scene o r h w f t v
-        → Ends o (redirect_one deeper scene r s) h w (Some (into s f)) t v × Holds v f.path [] }
+        (f : Opened) (h t : Here) (w v : Workspace) (empties : Empties deeper scene o r h w f t v)
+        → Ends o (redirect_one deeper scene r s) h w (Some (into s f)) t v
+        × (HasNoLinks o empties.between → Holds v f.path []) }
     ensures append { (deeper : Deeper) (scene : Scene) (o : Oracle) (r : Redirect) (s : Streams)
         (f : Opened) (h t : Here) (w v : Workspace) (found : Finds deeper scene o r h w f t v)
         → Ends o (redirect_one deeper scene r s) h w (Some (into s f)) t v
         × (v.changes ≡ found.between.changes) }
     ensures behind { (o : Oracle) (f : Opened) (old text : List ℕ) (h : Here) (w v : Workspace)
-        → Holds w f.path old → Ends o (appended f text) h w tt h v
+        → HasNoLinks o w → Holds w f.path old → Ends o (appended f text) h w tt h v
         → Holds v f.path (old ++ text) }
     ensures behind_old { (o : Oracle) (f : Opened) (old text : List ℕ) (h : Here)
-        (w u v : Workspace) → content f.path o w ≡ (Ok (Some old), u) → text ≢ []
+        (w u v : Workspace) → HasNoLinks o w → content f.path o w ≡ (Ok (Some old), u) → text ≢ []
         → Ends o (appended f text) h w tt h v → Holds v f.path (old ++ text) }
     ensures read { (o : Oracle) (p bytes : List ℕ) (w : Workspace) → Holds w p bytes
         → content_below p o w ≡ (Ok (Some bytes), w) }
@@ -96,7 +99,8 @@ pub fn law_file()
 
 /// However a compound command ends, by `exit`, `break` or `continue` too, what it wrote till then
 /// goes where its redirections say, and then it ends so. So `{ .. } > f` leaves in f what it wrote
-/// on stream 1 where it left f alone, and the rest goes on. Only what has no end reaches no file.
+/// on stream 1 where it left f alone and no symbolic link is told of or made, and the rest goes on.
+/// Only what has no end reaches no file.
 pub fn law_compound()
     ensures delivered { (deeper : Deeper) (scene : Scene) (o : Oracle) (c : Compound)
         (rs : List Redirect) (s : Streams) (h t k z : Here) (w v x y : Workspace)
@@ -117,7 +121,7 @@ pub fn law_compound()
         → Empties deeper scene o r h w f t v
         → Comes o (running.body_of deeper (within_streams (into around f) scene) c) (unwritten t) v
         ended k x
-        → HasEnd ended → Holds x f.path []
+        → HasEnd ended → HasNoLinks o x → Holds x f.path []
         → Comes o (compound_of deeper scene c (r ∷ [])) h w ended
         (record k { pieces = t.pieces ++ map (λ p. piece 2 p.text) (beside 1 k.pieces) }) y
         → Holds y f.path (said_on 1 k.pieces) }
@@ -126,7 +130,8 @@ pub fn law_compound()
         (ended : Result (Unit {0}) Jump) → Finds deeper scene o r h w f t v
         → Comes o (running.body_of deeper (within_streams (into around f) scene) c) (unwritten t) v
         ended k x
-        → HasEnd ended → content f.path o x ≡ (Ok (Some old), u) → said_on 1 k.pieces ≢ []
+        → HasEnd ended → HasNoLinks o x → content f.path o x ≡ (Ok (Some old), u)
+        → said_on 1 k.pieces ≢ []
         → Comes o (compound_of deeper scene c (r ∷ [])) h w ended
         (record k { pieces = t.pieces ++ map (λ p. piece 2 p.text) (beside 1 k.pieces) }) y
         → Holds y f.path (old ++ said_on 1 k.pieces) }

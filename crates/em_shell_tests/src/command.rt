@@ -448,7 +448,7 @@ fn over_states(alloc: Global, states: Vec<State>, script: &str) -> Result<Text, 
 /// `f` is a file when it is looked at and read, and is a directory then.
 #[test]
 fn an_append_that_is_refused_is_told_around(rt: HostRuntime) -> Result<(), Fail> {
-    let states = states(rt.alloc(), &["b/f", "b/f", "d/f"])?;
+    let states = states(rt.alloc(), &["b/f", "b/f", "b/f", "b/f", "d/f"])?;
     let given = over_states(rt.alloc(), states, "echo a 2>/dev/null >>f")?;
     assert!(rt; given.bytes() == b"<emake: sh: f: is a directory\n>1;".as_slice());
     Ok(())

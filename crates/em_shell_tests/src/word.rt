@@ -1,4 +1,4 @@
-//! What is expected is a text: each turn, then each question as a letter (K kind, N names) and its
+//! What is expected is a text: each turn, then each question as a letter (L link, K kind, N names) and its
 //! path, `|` and the units used. A turn is `name=value;`, `(n)` for an output, the fields in
 //! brackets, a pattern with `'` before each quoted byte, or `!` and a fault.
 ghost use Rattle.std.specs.Prelude.{◌≡◌, true, IfOk};
@@ -167,6 +167,7 @@ fn say_fault(text: &mut Text, fault: &WordFault) {
 
 fn say_question(text: &mut Text, question: &Question) {
     let (letter, path): (&[u8], &[u8]) = match question {
+        Question::Link(path) => (b" L", path.text()),
         Question::Kind(path) => (b" K", path.text()),
         Question::Names(path) => (b" N", path.text()),
         _ => (b" ?", b""),
@@ -383,7 +384,13 @@ static TEXTS: [Plain; 20] = [
     ("*.h", false, Mode::Fields, 100, "[*.h] N/|2"),
     (".*", false, Mode::Fields, 100, "[.c] N/|2"),
     ("*/", false, Mode::Fields, 100, "[a.c][b.c][d] N/|2"),
-    ("d//x*", false, Mode::Fields, 100, "[d/x1] K/d N/d|3"),
+    (
+        "d//x*",
+        false,
+        Mode::Fields,
+        100,
+        "[d/x1] L/d K/d L/d N/d|3",
+    ),
     ("./*.c", false, Mode::Fields, 100, "[./a.c][./b.c] K/ N/|3"),
     (
         "../*.c",
@@ -577,7 +584,8 @@ fn over_states(alloc: Global, states: Vec<State>, word: &Word) -> Result<Text, F
 /// What is told of `d/*/k`, where `d` is listed and then isn't there.
 fn without_d(alloc: Global) -> Result<Text, Fail> {
     let word = word(alloc, &[Part::Bytes(false, "d/*/k")])?;
-    let states = states(alloc, &["d/d f/d/x", "d/d f/d/x", ""])?;
+    let with_d = "d/d f/d/x";
+    let states = states(alloc, &[with_d, with_d, with_d, with_d, ""])?;
     over_states(alloc, states, &word)
 }
 
@@ -585,6 +593,7 @@ fn without_d(alloc: Global) -> Result<Text, Fail> {
 #[test]
 fn a_view_may_change_its_mind(rt: HostRuntime) -> Result<(), Fail> {
     let given = without_d(rt.alloc())?;
-    assert!(rt; given.bytes() == b"[d/*/k] K/d N/d K/d/x/k|4".as_slice());
+    let wanted = "[d/*/k] L/d K/d L/d N/d L/d L/d/x L/d/x/k K/d/x/k|4";
+    assert!(rt; given.bytes() == wanted.as_bytes());
     Ok(())
 }

@@ -25,6 +25,7 @@ fn show_question(log: &mut String, question: &Question) -> Result<(), AllocError
         Question::Stamp(path) => show_path(log, "stamp of ", path),
         Question::Content(path) => show_path(log, "content of ", path),
         Question::Names(path) => show_path(log, "names of ", path),
+        Question::Link(path) => show_path(log, "link of ", path),
         Question::Outcome(job) => write!(log, "outcome of {job}"),
     }
 }
@@ -50,6 +51,8 @@ pub fn show_answer(log: &mut String, answer: &Answer) -> Result<(), AllocError> 
         Answer::Content(None) => log.push_str("no content"),
         Answer::Names(Some(names)) => show_names(log, names.names()),
         Answer::Names(None) => log.push_str("no names"),
+        Answer::Link(Some(text)) => show_bytes(log, text.bytes()),
+        Answer::Link(None) => log.push_str("no link"),
         Answer::Outcome(Some(outcome)) => show_outcome(log, outcome),
         Answer::Outcome(None) => log.push_str("no outcome"),
     }

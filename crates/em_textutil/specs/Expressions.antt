@@ -1,7 +1,7 @@
 -- `test`: what an expression says of words and of a tree.
 --     says form ws       what it says: that it holds or not, that a word is no number, or that it is no expression
 --     answer n v         what is written, and the status; n tells whether it is negated
-use Rattle.std.specs.Prelude.{ℕ, nat_eq, nat_lt, slice_get, unwrap_or, Bool, true, false, not, List, [], ◌∷◌, length, codes, Option, Some, None, Result, Ok, Err, if◌then◌else◌, ℤ}
+use Rattle.std.specs.Prelude.{ℕ, nat_eq, nat_lt, slice_get, unwrap_or, Bool, true, false, not, is_some, List, [], ◌∷◌, length, codes, Option, Some, None, Result, Ok, Err, if◌then◌else◌, ℤ}
 use Rattle.std.specs.Cmp.Lexicographic.{pointwise}
 use Rattle.em_base.specs.declared.construct.Construct.{Construct}
 use Rattle.em_base.specs.declared.construct.Construct.TheVariants.{Letter}
@@ -13,7 +13,7 @@ use Rattle.em_view.specs.declared.done.Done.{Done}
 use Rattle.em_view.specs.declared.done.ExecNo.{ExecNo}
 use Rattle.em_view.specs.declared.done.ExecNo.TheVariants.{Refused}
 use Rattle.em_view.specs.Actions.{Action, ◌>>=◌, done, fail, lift}
-use Rattle.em_view.specs.Rows.{kind_at, stamp_at, content}
+use Rattle.em_view.specs.Rows.{kind_at, stamp_at, content, link_at}
 use Rattle.em_view.specs.Ends.{of_desk}
 use Rattle.em_lineutil.specs.declared.test.Unary.{Unary}
 use Rattle.em_lineutil.specs.declared.test.Unary.TheVariants as unary
@@ -50,12 +50,17 @@ abbrev pub content_by : Option (List ℕ) → Action ExecNo (Option (List ℕ))
 content_by None = done None
 content_by (Some p) = lift of_desk (content p)
 
+abbrev pub link_by : Option (List ℕ) → Action ExecNo (Option (List ℕ))
+link_by None = done None
+link_by (Some p) = lift of_desk (link_at p)
+
 -- ---- operators
 
 -- the kind is what the operator asks for
 abbrev pub is_of : Unary → Kind → Bool
 is_of unary.Exists kind.File = true
 is_of unary.Exists kind.Dir = true
+is_of unary.Exists kind.Link = true
 is_of unary.IsFile kind.File = true
 is_of unary.IsDir kind.Dir = true
 is_of _ _ = false
@@ -77,6 +82,11 @@ says_bytes cwd w = do
   b ← content_by (path_of cwd w)
   done (Is (has_bytes b))
 
+unfoldable pub says_link : List ℕ → List ℕ → Action ExecNo Verdict
+says_link cwd w = do
+  l ← link_by (path_of cwd w)
+  done (Is (is_some l))
+
 abbrev pub says_unary : List ℕ → Unary → List ℕ → Action ExecNo Verdict
 says_unary cwd unary.Filled w = done (Is (is_filled w))
 says_unary cwd unary.Empty w = done (Is (not (is_filled w)))
@@ -84,6 +94,7 @@ says_unary cwd unary.Exists w = says_kind cwd unary.Exists w
 says_unary cwd unary.IsFile w = says_kind cwd unary.IsFile w
 says_unary cwd unary.IsDir w = says_kind cwd unary.IsDir w
 says_unary cwd unary.HasBytes w = says_bytes cwd w
+says_unary cwd unary.IsLink w = says_link cwd w
 
 -- the first word that is no number is named
 abbrev pub numbers_say : Relation → Option ℤ → Option ℤ → List ℕ → List ℕ → Verdict

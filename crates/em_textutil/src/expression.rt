@@ -4,12 +4,12 @@ ghost use Rattle.em_view.specs.Performs.{Performs};
 ghost use Rattle.em_view.specs.Ends.{is_want};
 ghost use Rattle.em_lineutil.specs.Formats.{number_of};
 ghost use Rattle.em_textutil.specs.Expressions as expressions;
-ghost use Rattle.em_textutil.specs.Expressions.{path_of, kind_by, stamp_by, content_by, has_bytes, is_filled, word_at, is_above, says_kind, says_bytes, says_unary, numbers_say, says_stamps, says_binary, says, truth, answer, test_words};
+ghost use Rattle.em_textutil.specs.Expressions.{path_of, kind_by, stamp_by, content_by, link_by, has_bytes, is_filled, word_at, is_above, says_kind, says_bytes, says_link, says_unary, numbers_say, says_stamps, says_binary, says, truth, answer, test_words};
 
 use em_base::{Construct, NoMemory, Text};
 use em_lineutil::{Binary, Form, Relation, Unary, form_of, is_related, number, stripped};
 use em_path::{Path, PathNo};
-use em_tree::{Body, Kind};
+use em_tree::{Body, Kind, LinkText};
 use em_utility::{Reason, begun, fail, write};
 use em_view::{Desk, Done, ExecNo, View};
 use std::alloc::Global;
@@ -60,6 +60,15 @@ fn content_by<V: View>(path: Option<Path>, desk: &mut Desk<V>) -> Result<Option<
     match path {
         None => Ok(None),
         Some(path) => Ok(desk.content(&path)?),
+    }
+}
+
+fn link_by<V: View>(path: Option<Path>, desk: &mut Desk<V>) -> Result<Option<LinkText>, ExecNo>
+    ensures { Performs is_want V.tells desk.old desk.new result (link_by path) }
+{
+    match path {
+        None => Ok(None),
+        Some(path) => Ok(desk.link(&path)?),
     }
 }
 
@@ -127,6 +136,19 @@ fn says_bytes<V: View>(
     Ok(Verdict::Is(has_bytes(body)))
 }
 
+fn says_link<V: View>(
+    alloc: Global,
+    cwd: &Path,
+    word: &[u8],
+    desk: &mut Desk<V>,
+) -> Result<Verdict, ExecNo>
+    ensures { Performs is_want V.tells desk.old desk.new result (says_link cwd.now word.now) }
+{
+    let path = path_of(alloc, cwd, word)?;
+    let link = link_by(path, desk)?;
+    Ok(Verdict::Is(link.is_some()))
+}
+
 fn says_unary<V: View>(
     alloc: Global,
     cwd: &Path,
@@ -144,6 +166,7 @@ fn says_unary<V: View>(
         Unary::IsFile => says_kind(alloc, cwd, Unary::IsFile, word, desk),
         Unary::IsDir => says_kind(alloc, cwd, Unary::IsDir, word, desk),
         Unary::HasBytes => says_bytes(alloc, cwd, word, desk),
+        Unary::IsLink => says_link(alloc, cwd, word, desk),
     }
 }
 

@@ -9,13 +9,13 @@ use Rattle.std.proofs.lemmas.Map.Lookups.{btree_set_from_contains}
 use Rattle.em_path.specs.Paths.{IsPath, root_text, parent_text}
 use Rattle.em_tree.specs.declared.node.Kind.TheVariants as kind
 use Rattle.em_tree.specs.declared.node.Node.{Node}
-use Rattle.em_tree.specs.declared.node.Node.TheVariants.{File, Dir}
+use Rattle.em_tree.specs.declared.node.Node.TheVariants.{File, Dir, Link}
 use Rattle.em_tree.specs.declared.outcome.Outcome.{Outcome}
 use Rattle.em_tree.specs.declared.state.State.{State}
 use Rattle.em_tree.specs.declared.question.Question.{Question}
 use Rattle.em_tree.specs.declared.question.Question.TheVariants as ask
 use Rattle.em_tree.specs.declared.question.Answer.TheVariants as told
-use Rattle.em_tree.specs.Trees.{Table, Changes, IsTree, kind_of, stamp_of, content_of, changed, laid_over}
+use Rattle.em_tree.specs.Trees.{Table, Changes, IsTree, kind_of, stamp_of, content_of, link_of, changed, laid_over}
 use Rattle.em_tree.specs.Index.{is_parent}
 use Rattle.em_tree.specs.Names.{children_of}
 use Rattle.em_tree.specs.Answers.{answer}
@@ -48,16 +48,24 @@ same_children s t p e =
     by_case k true h = e k (parent_said (parent_text k) p h)
     by_case k false h = refl
 
-node_from : (m n : Option Node) → told.Kind (kind_of m) ≡ told.Kind (kind_of n) → told.Stamp (stamp_of m) ≡ told.Stamp (stamp_of n) → told.Content (content_of m) ≡ told.Content (content_of n) → m ≡ n
-node_from None None k s c = refl
-node_from None (Some (File b v)) k s c = cc
-node_from None (Some (Dir v)) k s c = cc
-node_from (Some (File a u)) None k s c = cc
-node_from (Some (File a u)) (Some (File b v)) k s c = cc
-node_from (Some (File a u)) (Some (Dir v)) k s c = cc
-node_from (Some (Dir u)) None k s c = cc
-node_from (Some (Dir u)) (Some (File b v)) k s c = cc
-node_from (Some (Dir u)) (Some (Dir v)) k s c = cc
+node_from : (m n : Option Node) → told.Kind (kind_of m) ≡ told.Kind (kind_of n) → told.Stamp (stamp_of m) ≡ told.Stamp (stamp_of n)
+    → told.Content (content_of m) ≡ told.Content (content_of n) → told.Link (link_of m) ≡ told.Link (link_of n) → m ≡ n
+node_from None None k s c l = refl
+node_from None (Some (File b v)) k s c l = cc
+node_from None (Some (Dir v)) k s c l = cc
+node_from None (Some (Link b v)) k s c l = cc
+node_from (Some (File a u)) None k s c l = cc
+node_from (Some (File a u)) (Some (File b v)) k s c l = cc
+node_from (Some (File a u)) (Some (Dir v)) k s c l = cc
+node_from (Some (File a u)) (Some (Link b v)) k s c l = cc
+node_from (Some (Dir u)) None k s c l = cc
+node_from (Some (Dir u)) (Some (File b v)) k s c l = cc
+node_from (Some (Dir u)) (Some (Dir v)) k s c l = cc
+node_from (Some (Dir u)) (Some (Link b v)) k s c l = cc
+node_from (Some (Link a u)) None k s c l = cc
+node_from (Some (Link a u)) (Some (File b v)) k s c l = cc
+node_from (Some (Link a u)) (Some (Dir v)) k s c l = cc
+node_from (Some (Link a u)) (Some (Link b v)) k s c l = cc
 
 lists_from : {X : Type 0} (xs ys : List X) → ((k : ℕ) → slice_get xs k ≡ slice_get ys k) → xs ≡ ys
 lists_from [] [] e = refl
@@ -70,7 +78,7 @@ said a b e = cc
 
 pub same_state : (s t : State) → ((q : Question) → answer s q ≡ answer t q) → s ≡ t
 same_state s t e =
-    let trees : s.tree ≡ t.tree = same_table s.tree t.tree (λ p. node_from (get s.tree p) (get t.tree p) (e (ask.Kind p)) (e (ask.Stamp p)) (e (ask.Content p))) in
+    let trees : s.tree ≡ t.tree = same_table s.tree t.tree (λ p. node_from (get s.tree p) (get t.tree p) (e (ask.Kind p)) (e (ask.Stamp p)) (e (ask.Content p)) (e (ask.Link p))) in
     let outcomes : s.outcomes ≡ t.outcomes = lists_from s.outcomes t.outcomes (λ k. said (slice_get s.outcomes k) (slice_get t.outcomes k) (e (ask.Outcome k))) in
     λ i. record { tree = trees i; outcomes = outcomes i }
 

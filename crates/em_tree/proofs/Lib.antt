@@ -5,3 +5,5 @@ pub mod Laying
 pub mod Naming
 pub mod Lawful
 pub mod Pairs
+pub mod Flagging
+pub mod Resolving

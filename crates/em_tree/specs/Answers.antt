@@ -14,16 +14,18 @@ use Rattle.em_tree.specs.declared.question.Question.TheVariants as ask
 use Rattle.em_tree.specs.declared.question.Answer.{Answer}
 use Rattle.em_tree.specs.declared.question.Answer.TheVariants as told
 use Rattle.em_tree.specs.declared.question.Entry.{Entry}
-use Rattle.em_tree.specs.Trees.{Table, kind_of, stamp_of, content_of}
+use Rattle.em_tree.specs.Trees.{Table, kind_of, stamp_of, content_of, link_of}
 use Rattle.em_tree.specs.Names.{names_of}
 
 -- The table need not be a tree. Where a path is absent its stamp is none; a content is that of a
--- file, names are those of a directory, and an outcome is that of a job that has one, else none.
+-- file, names are those of a directory, a text is that of a link, and an outcome is that of a job
+-- that has one, else none. No link is followed.
 abbrev pub answer_on : Table → (ℕ → Option Outcome) → Question → Answer
 answer_on t outcomes (ask.Kind p) = told.Kind (kind_of (get t p))
 answer_on t outcomes (ask.Stamp p) = told.Stamp (stamp_of (get t p))
 answer_on t outcomes (ask.Content p) = told.Content (content_of (get t p))
 answer_on t outcomes (ask.Names p) = told.Names (names_of t p)
+answer_on t outcomes (ask.Link p) = told.Link (link_of (get t p))
 answer_on t outcomes (ask.Outcome k) = told.Outcome (outcomes k)
 
 abbrev pub answer : State → Question → Answer
@@ -51,11 +53,12 @@ holds_text ended.NoRule = false
 holds_text ended.Skipped = false
 holds_text ended.Spent = false
 
--- bytes, names, or an outcome with a text
+-- bytes, names, the text of a link, or an outcome with a text
 abbrev pub holds_memory : Answer → Bool
 holds_memory (told.Kind kind) = false
 holds_memory (told.Stamp stamp) = false
 holds_memory (told.Content body) = is_some body
 holds_memory (told.Names names) = is_some names
+holds_memory (told.Link text) = is_some text
 holds_memory (told.Outcome None) = false
 holds_memory (told.Outcome (Some outcome)) = holds_text outcome

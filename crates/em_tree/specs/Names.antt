@@ -28,6 +28,7 @@ abbrev pub in_dir : Kind → List (List ℕ) → Option (List (List ℕ))
 in_dir kind.Absent ns = None
 in_dir kind.File ns = None
 in_dir kind.Dir ns = Some ns
+in_dir kind.Link ns = None
 
 abbrev pub names_of : Table → List ℕ → Option (List (List ℕ))
 names_of t p = in_dir (kind_of (get t p)) (filter_map last_of (children_of t p))

@@ -1,6 +1,6 @@
 -- Tables and trees of nodes.
 --     Table, Changes        finite maps from path texts, to nodes and to what paths become, in byte order of the texts
---     kind_of, stamp_of, content_of      what stands at a path
+--     kind_of, stamp_of, content_of, link_of      what stands at a path; no link is followed
 --     IsTree t              the root is a directory, and so is the parent of every other path
 --     base_of t             the greatest stamp
 --     laid_over d t         t with each path that d names as d says
@@ -11,7 +11,7 @@ use Rattle.std.specs.FinMap.{FinMap, get, insert, remove, entries, values}
 use Rattle.em_tree.specs.declared.node.Kind.{Kind}
 use Rattle.em_tree.specs.declared.node.Kind.TheVariants as kind
 use Rattle.em_tree.specs.declared.node.Node.{Node}
-use Rattle.em_tree.specs.declared.node.Node.TheVariants.{File, Dir}
+use Rattle.em_tree.specs.declared.node.Node.TheVariants.{File, Dir, Link}
 use Rattle.em_path.specs.Paths.{IsPath, root_text, parent_text}
 
 abbrev pub Table : Type 0
@@ -25,10 +25,12 @@ abbrev pub kind_of : Option Node → Kind
 kind_of None = kind.Absent
 kind_of (Some (File body stamp)) = kind.File
 kind_of (Some (Dir stamp)) = kind.Dir
+kind_of (Some (Link text stamp)) = kind.Link
 
 abbrev pub stamp_in : Node → ℕ
 stamp_in (File body stamp) = stamp
 stamp_in (Dir stamp) = stamp
+stamp_in (Link text stamp) = stamp
 
 abbrev pub stamp_of : Option Node → Option ℕ
 stamp_of None = None
@@ -38,6 +40,13 @@ abbrev pub content_of : Option Node → Option (List ℕ)
 content_of None = None
 content_of (Some (File body stamp)) = Some body
 content_of (Some (Dir stamp)) = None
+content_of (Some (Link text stamp)) = None
+
+abbrev pub link_of : Option Node → Option (List ℕ)
+link_of None = None
+link_of (Some (File body stamp)) = None
+link_of (Some (Dir stamp)) = None
+link_of (Some (Link text stamp)) = Some text
 
 pub record IsTree (t : Table) : Type 0 where
   pub root : kind_of (get t root_text) ≡ kind.Dir

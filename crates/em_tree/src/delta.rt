@@ -1,7 +1,8 @@
 //! Changes of a tree.
-ghost use Rattle.std.specs.Prelude.{◌≡◌, ◌≢◌, ◌⊎◌, [], unwrap_or, IfOk, OnOk, OnErr, length, slice_get, option_copied, option_map, Some, None};
+ghost use Rattle.std.specs.Prelude.{◌≡◌, ◌≢◌, ◌⊎◌, [], unwrap_or, IfOk, OnOk, OnErr, length, slice_get, option_copied, option_map, Some, None, is_some};
 ghost use Rattle.std.specs.FinMap as map;
 ghost use Rattle.em_tree.specs.Names.{children_of};
+ghost use Rattle.em_tree.specs.Trees.{link_of};
 ghost use Rattle.em_tree.specs.contracts.node.NodePartialEq.TheImpl as nodes;
 ghost use Rattle.em_tree.specs.contracts.node.NodeEq.TheImpl.Laws as node_eq_laws;
 ghost use Rattle.std.specs.Prelude.{nat_eq, ◌&&◌};
@@ -11,7 +12,7 @@ ghost use Rattle.std.specs.Cmp.Lexicographic.{pointwise, nat_list_eq_equiv, list
 
 use crate::index::{Children, Place, put, take_out};
 use crate::map::PathMap;
-use crate::node::Node;
+use crate::node::{Node, raised};
 use em_base::NoMemory;
 use em_path::Path;
 use std::alloc::Global;
@@ -20,12 +21,13 @@ use std::collections::{BTreeMap, btree_set};
 use std::marker::Model;
 
 /// What paths become: a node, or absent. Contracts see the finite map; an index beside it has the
-/// named paths right under each directory.
+/// named paths right under each directory, and a flag is up where one may become a symbolic link.
 #[derive(Drop)]
 pub struct Delta {
     alloc: Global,
     named: PathMap<Option<Node>>,
     children: Children,
+    pub(crate) linked: bool,
 }
 
 impl Model for Delta {
@@ -36,6 +38,7 @@ impl Model for Delta {
     ghost use Rattle.em_tree.specs.contracts.node.Node as node;
     ghost use Rattle.em_tree.specs.Trees.{Changes};
     ghost use Rattle.em_tree.specs.Index.{IsIndex};
+    ghost use Rattle.em_tree.specs.Flags.{IsMark};
 
     ghost Value = { Changes };
 
@@ -43,7 +46,17 @@ impl Model for Delta {
 
     ghost view = { λ d. d.named };
 
-    ghost invariant = { λ d. IsIndex d.children d.named };
+    ghost invariant = { λ d. IsIndex d.children d.named × IsMark d.linked d.named };
+}
+
+/// Whether a path becomes a symbolic link.
+fn is_link(n: &Option<Node>) -> bool
+    ensures { result ≡ is_some (link_of n.now) }
+{
+    match n {
+        Some(n) => n.is_link(),
+        None => false,
+    }
 }
 
 impl Delta {
@@ -55,6 +68,7 @@ impl Delta {
             alloc,
             named: PathMap::new(alloc),
             children: BTreeMap::new(alloc),
+            linked: false,
         }
     }
 
@@ -103,6 +117,8 @@ impl Delta {
         ensures err { OnErr result (self.new ≡ self.old) }
         ensures absent { OnErr result (map.get self.old p ≡ None) }
     {
+        let linked = raised(self.linked, is_link(&n));
+        self.linked = linked;
         put(&mut self.named, &mut self.children, self.alloc, p, n)
     }
 
@@ -152,6 +168,7 @@ impl Delta {
             alloc: self.alloc,
             named: self.named.clone()?,
             children: self.children.clone()?,
+            linked: self.linked,
         })
     }
 }

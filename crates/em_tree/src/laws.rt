@@ -1,5 +1,5 @@
 //! Laws of the definitions: each function's contract is the law, and its body is empty.
-ghost use Rattle.std.specs.Prelude.{◌≡◌, ℕ, List, Option, None, Some, IsSome};
+ghost use Rattle.std.specs.Prelude.{◌≡◌, ◌≤◌, ℕ, Bool, List, Option, None, Some, IsSome};
 ghost use Rattle.std.specs.FinMap as map;
 ghost use Rattle.em_path.specs.Paths.{IsPath, parent_text};
 ghost use Rattle.em_tree.specs.declared.node.Kind.TheVariants as kind;
@@ -10,6 +10,8 @@ ghost use Rattle.em_tree.specs.declared.question.Question.{Question};
 ghost use Rattle.em_tree.specs.declared.question.Question.TheVariants as ask;
 ghost use Rattle.em_tree.specs.Trees.{Table, Changes, IsTree, kind_of, laid_over};
 ghost use Rattle.em_tree.specs.Answers.{answer, answer_on};
+ghost use Rattle.em_tree.specs.declared.way.Way.TheVariants.{To};
+ghost use Rattle.em_tree.specs.Resolving.{Links, led, way_in};
 
 /// A path that a delta names becomes what it says.
 pub fn law_named_paths()
@@ -38,6 +40,8 @@ pub fn law_one_path()
     ensures content { (s t : Table) (a b : ℕ → Option Outcome) (p : List ℕ)
         → map.get s p ≡ map.get t p
         → answer_on s a (ask.Content p) ≡ answer_on t b (ask.Content p) }
+    ensures link { (s t : Table) (a b : ℕ → Option Outcome) (p : List ℕ) → map.get s p ≡ map.get t p
+        → answer_on s a (ask.Link p) ≡ answer_on t b (ask.Link p) }
     ensures outcome { (s t : Table) (a b : ℕ → Option Outcome) (k : ℕ) → a k ≡ b k
         → answer_on s a (ask.Outcome k) ≡ answer_on t b (ask.Outcome k) }
 {}
@@ -74,4 +78,16 @@ pub fn law_put_root()
 pub fn law_remove()
     ensures { (t : Table) (p above : List ℕ) → IsTree t → parent_text p ≡ Some above
         → ((k : List ℕ) → parent_text k ≡ Some p → map.get t k ≡ None) → IsTree (map.remove t p) }
+{}
+
+/// A table without links leads each path to itself; at most 40 links are followed.
+pub fn law_led()
+    ensures itself { (ls : Links) → ((q : List ℕ) → ls q ≡ None) → (last : Bool) (p : List ℕ)
+        → led ls last p ≡ record { way = To p; followed = 0 } }
+    ensures few { (ls : Links) (last : Bool) (p : List ℕ) → (led ls last p).followed ≤ 40 }
+{}
+
+/// A path behind the links leads to itself.
+pub fn law_way_twice()
+    ensures { (t : Table) (p q : List ℕ) → way_in t p ≡ Some q → way_in t q ≡ Some q }
 {}

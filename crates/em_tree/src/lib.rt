@@ -1,10 +1,11 @@
-//! Trees of files and directories.
+//! Trees of files, directories and symbolic links.
 #![tactic(auto)]
 
 mod delta;
 mod index;
 pub mod laws;
 mod lay;
+mod link;
 mod map;
 mod names;
 mod node;
@@ -12,11 +13,14 @@ mod outcome;
 mod question;
 mod state;
 mod tree;
+mod way;
 
 pub use delta::Delta;
+pub use link::LinkText;
 pub use names::NameList;
 pub use node::{Body, Kind, Node};
 pub use outcome::{Outcome, Outcomes};
 pub use question::{Answer, Entry, Question};
 pub use state::State;
 pub use tree::Tree;
+pub use way::{LEVELS, Led, MOST, Met, Way, dir_of, onward};

@@ -1,10 +1,11 @@
 //! What stands at a path.
-ghost use Rattle.std.specs.Prelude.{◌≡◌, IfOk, OnErr, nat_eq, Some};
+ghost use Rattle.std.specs.Prelude.{◌≡◌, ◌≢◌, IfOk, OnErr, nat_eq, Some, option_copied, is_some, ◌||◌};
 ghost use Rattle.em_tree.specs.declared.node.Kind.TheVariants as kind;
-ghost use Rattle.em_tree.specs.Trees.{kind_of, stamp_in};
+ghost use Rattle.em_tree.specs.Trees.{kind_of, stamp_in, link_of};
 ghost use Rattle.std.specs.Cmp.Lexicographic.{pointwise, nat_list_eq_equiv};
 ghost use Rattle.std.specs.Cmp.{partial_equiv_from_equiv};
 
+use crate::link::LinkText;
 use bytes::Bytes;
 use em_base::NoMemory;
 use std::alloc::{AllocError, Global};
@@ -16,6 +17,8 @@ pub enum Kind {
     Absent,
     File,
     Dir,
+    /// A symbolic link, whatever it leads to.
+    Link,
 }
 
 /// The bytes of a file. Contracts see the list of its bytes; a copy shares them.
@@ -88,22 +91,31 @@ impl Eq for Body {
     ghost laws = { nat_list_eq_equiv };
 }
 
-/// A file with its bytes, or a directory. The stamp is the number of the change that made or
-/// touched it.
+/// A file with its bytes, a directory, or a symbolic link with its text. The stamp is the number of
+/// the change that made or touched it.
 #[derive(Debug, Drop, PartialEq, Eq)]
 pub enum Node {
     File { body: Body, stamp: u64 },
     Dir { stamp: u64 },
+    Link { text: LinkText, stamp: u64 },
+}
+
+/// The flag, raised where more says so.
+pub(crate) fn raised(linked: bool, more: bool) -> bool
+    ensures { result ≡ (linked || more) }
+{
+    linked || more
 }
 
 impl Node {
-    /// File or directory.
+    /// File, directory or link.
     pub fn kind(&self) -> Kind
         ensures { result ≡ kind_of (Some self.now) }
     {
         match self {
             Node::File { .. } => Kind::File,
             Node::Dir { .. } => Kind::Dir,
+            Node::Link { .. } => Kind::Link,
         }
     }
 
@@ -112,14 +124,31 @@ impl Node {
         ensures { result ≡ stamp_in self.now }
     {
         match self {
-            Node::File { stamp, .. } | Node::Dir { stamp } => *stamp,
+            Node::File { stamp, .. } | Node::Dir { stamp } | Node::Link { stamp, .. } => *stamp,
         }
     }
 
-    /// An equal node, over the same bytes. A directory always comes.
+    /// What a link says; `None` of another node.
+    pub fn link(&self) -> Option<&LinkText>
+        ensures { option_copied result ≡ link_of (Some self.now) }
+    {
+        match self {
+            Node::Link { text, .. } => Some(text),
+            _ => None,
+        }
+    }
+
+    pub(crate) fn is_link(&self) -> bool
+        ensures { result ≡ is_some (link_of (Some self.now)) }
+    {
+        self.link().is_some()
+    }
+
+    /// An equal node, over the same bytes of a file; those of a link are copied. A directory always
+    /// comes.
     pub fn copy(&self) -> Result<Node, NoMemory>
         ensures ok { IfOk result (λ n. n ≡ self.now) }
-        ensures err { OnErr result (kind_of (Some self.now) ≡ kind.File) }
+        ensures err { OnErr result (kind_of (Some self.now) ≢ kind.Dir) }
     {
         Ok(match self {
             Node::File { body, stamp } => Node::File {
@@ -127,6 +156,10 @@ impl Node {
                 stamp: *stamp,
             },
             Node::Dir { stamp } => Node::Dir { stamp: *stamp },
+            Node::Link { text, stamp } => Node::Link {
+                text: text.copy()?,
+                stamp: *stamp,
+            },
         })
     }
 }
@@ -141,6 +174,10 @@ impl Clone for Node {
                 stamp: *stamp,
             },
             Node::Dir { stamp } => Node::Dir { stamp: *stamp },
+            Node::Link { text, stamp } => Node::Link {
+                text: text.clone()?,
+                stamp: *stamp,
+            },
         })
     }
 }

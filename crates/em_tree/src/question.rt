@@ -2,6 +2,7 @@
 ghost use Rattle.std.specs.Prelude.{◌≡◌, IfOk, OnErr, IsTrue};
 ghost use Rattle.em_tree.specs.Answers.{holds_memory};
 
+use crate::link::LinkText;
 use crate::names::NameList;
 use crate::node::{Body, Kind};
 use crate::outcome::Outcome;
@@ -20,6 +21,8 @@ pub enum Question {
     Content(Path),
     /// Which names has the directory?
     Names(Path),
+    /// What says the symbolic link?
+    Link(Path),
     /// How did the job end?
     Outcome(u32),
 }
@@ -34,6 +37,7 @@ impl Question {
             Question::Stamp(p) => Question::Stamp(p.copy()?),
             Question::Content(p) => Question::Content(p.copy()?),
             Question::Names(p) => Question::Names(p.copy()?),
+            Question::Link(p) => Question::Link(p.copy()?),
             Question::Outcome(k) => Question::Outcome(*k),
         })
     }
@@ -49,6 +53,8 @@ pub enum Answer {
     Content(Option<Body>),
     /// `None` unless the path is a directory.
     Names(Option<NameList>),
+    /// `None` unless the path is a link.
+    Link(Option<LinkText>),
     /// `None` where the job has none.
     Outcome(Option<Outcome>),
 }
@@ -73,6 +79,8 @@ impl Answer {
             Answer::Content(None) => Answer::Content(None),
             Answer::Names(Some(names)) => Answer::Names(Some(names.copy(alloc)?)),
             Answer::Names(None) => Answer::Names(None),
+            Answer::Link(Some(text)) => Answer::Link(Some(text.copy()?)),
+            Answer::Link(None) => Answer::Link(None),
             Answer::Outcome(Some(outcome)) => Answer::Outcome(Some(outcome.copy(alloc)?)),
             Answer::Outcome(None) => Answer::Outcome(None),
         })

@@ -29,6 +29,10 @@ impl State {
                 None => None,
             }),
             Question::Names(p) => Answer::Names(self.tree.names(alloc, p)?),
+            Question::Link(p) => Answer::Link(match self.tree.link(p) {
+                Some(text) => Some(text.copy()?),
+                None => None,
+            }),
             Question::Outcome(k) => Answer::Outcome(match self.outcomes.get(*k as usize) {
                 Some(outcome) => Some(outcome.copy(alloc)?),
                 None => None,
@@ -45,6 +49,7 @@ impl State {
             (Question::Stamp(p), Answer::Stamp(stamp)) => self.tree.stamp(p) == *stamp,
             (Question::Content(p), Answer::Content(body)) => self.tree.content(p) == body.as_ref(),
             (Question::Names(p), Answer::Names(names)) => self.tree.has_names(p, names),
+            (Question::Link(p), Answer::Link(text)) => self.tree.link(p) == text.as_ref(),
             (Question::Outcome(k), Answer::Outcome(outcome)) => {
                 self.outcomes.get(*k as usize) == outcome.as_ref()
             }

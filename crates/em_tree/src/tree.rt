@@ -3,7 +3,7 @@ ghost use Rattle.std.specs.Prelude.{◌≡◌, ◌≤◌, [], ◌∷◌, IfOk, O
 ghost use Rattle.em_tree.specs.Names.{children_of, names_of};
 ghost use Rattle.std.specs.FinMap as map;
 ghost use Rattle.em_path.specs.Paths.{root_text};
-ghost use Rattle.em_tree.specs.Trees.{IsTree, kind_of, stamp_of, content_of, base_of, laid_over};
+ghost use Rattle.em_tree.specs.Trees.{IsTree, kind_of, stamp_of, content_of, link_of, base_of, laid_over};
 ghost use Rattle.em_tree.specs.declared.node.Node.TheVariants as node;
 ghost use Rattle.em_tree.specs.contracts.node.NodePartialEq.TheImpl as nodes;
 ghost use Rattle.em_tree.specs.contracts.node.NodePartialEq.TheImpl.Laws as node_laws;
@@ -15,9 +15,10 @@ ghost use Rattle.std.specs.Cmp.Lexicographic.{pointwise, nat_list_eq_equiv, list
 use crate::delta::Delta;
 use crate::index::{Children, Place, put, put_absent, put_new};
 use crate::lay::lay_on;
+use crate::link::LinkText;
 use crate::map::PathMap;
 use crate::names::{NameList, collect_names, same_names};
-use crate::node::{Body, Kind, Node};
+use crate::node::{Body, Kind, Node, raised};
 use em_base::NoMemory;
 use em_path::Path;
 use std::alloc::Global;
@@ -27,12 +28,13 @@ use std::marker::Model;
 
 /// A finite map from paths to nodes in which the root is a directory and the parent of every other
 /// path is one. Its nodes stand in byte order of their paths, and an index beside them has the
-/// paths right under each directory.
+/// paths right under each directory. A flag beside them is up where a symbolic link may be.
 #[derive(Drop)]
 pub struct Tree {
-    alloc: Global,
+    pub(crate) alloc: Global,
     nodes: PathMap<Node>,
     children: Children,
+    pub(crate) linked: bool,
 }
 
 impl Model for Tree {
@@ -42,6 +44,7 @@ impl Model for Tree {
     ghost use Rattle.em_tree.specs.contracts.node.Node as node;
     ghost use Rattle.em_tree.specs.Trees.{Table, IsTree};
     ghost use Rattle.em_tree.specs.Index.{IsIndex};
+    ghost use Rattle.em_tree.specs.Flags.{IsFlag};
 
     ghost Value = { Table };
 
@@ -49,7 +52,7 @@ impl Model for Tree {
 
     ghost view = { λ t. t.nodes };
 
-    ghost invariant = { λ t. IsTree t.nodes × IsIndex t.children t.nodes };
+    ghost invariant = { λ t. IsTree t.nodes × (IsIndex t.children t.nodes × IsFlag t.linked t.nodes) };
 }
 
 impl Tree {
@@ -71,6 +74,7 @@ impl Tree {
             alloc,
             nodes,
             children,
+            linked: false,
         })
     }
 
@@ -108,6 +112,21 @@ impl Tree {
         match self.get(p) {
             Some(Node::File { body, .. }) => Some(body),
             _ => None,
+        }
+    }
+
+    /// What the symbolic link at a path says; `None` where the path is none. It costs a search, and
+    /// nothing in a tree without links.
+    pub fn link(&self, p: &Path) -> Option<&LinkText>
+        ensures link { option_copied result ≡ link_of (map.get self.now p.now) }
+        ensures tree { IsTree self.now }
+    {
+        if !self.linked {
+            return None;
+        }
+        match self.get(p) {
+            Some(n) => n.link(),
+            None => None,
         }
     }
 
@@ -192,6 +211,8 @@ impl Tree {
         ensures err { OnErr result (self.new ≡ self.old) }
         ensures absent { OnErr result (map.get self.old p ≡ None) }
     {
+        let linked = raised(self.linked, n.is_link());
+        self.linked = linked;
         put(&mut self.nodes, &mut self.children, self.alloc, p, n)
     }
 
@@ -203,6 +224,8 @@ impl Tree {
         ensures ok { OnOk result (self.new ≡ map.insert self.old p n) }
         ensures err { OnErr result (self.new ≡ self.old) }
     {
+        let linked = raised(self.linked, n.is_link());
+        self.linked = linked;
         put_absent(&mut self.nodes, &mut self.children, self.alloc, p, n)
     }
 
@@ -213,6 +236,8 @@ impl Tree {
         ensures ok { OnOk result (self.new ≡ laid_over d.now self.old) }
         ensures err { OnErr result (self.new ≡ self.old) }
     {
+        let linked = raised(self.linked, d.linked);
+        self.linked = linked;
         lay_on(&mut self.nodes, &mut self.children, self.alloc, d)
     }
 
@@ -224,6 +249,7 @@ impl Tree {
             alloc: self.alloc,
             nodes: self.nodes.clone()?,
             children: self.children.clone()?,
+            linked: self.linked,
         })
     }
 }

@@ -17,6 +17,8 @@ file_text file.Exists = codes "exists"
 file_text file.NotEmpty = codes "not empty"
 file_text file.TooBig = codes "too big"
 file_text file.Root = codes "root"
+file_text file.TooManyLinks = codes "too many links"
+file_text file.LinkPath = codes "bad path"
 
 abbrev pub reason_text : Reason → List ℕ
 reason_text (File f) = file_text f

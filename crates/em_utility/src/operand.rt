@@ -110,7 +110,7 @@ fn unread(kind: Kind) -> Reason
 {
     match kind {
         Kind::Dir => Reason::File(FileNo::IsDir),
-        Kind::Absent | Kind::File => Reason::File(FileNo::Absent),
+        Kind::Absent | Kind::File | Kind::Link => Reason::File(FileNo::Absent),
     }
 }
 

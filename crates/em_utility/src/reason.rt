@@ -32,6 +32,8 @@ fn file_text(no: FileNo) -> &'static [u8]
         FileNo::NotEmpty => b"not empty",
         FileNo::TooBig => b"too big",
         FileNo::Root => b"root",
+        FileNo::TooManyLinks => b"too many links",
+        FileNo::LinkPath => b"bad path",
     }
 }
 

@@ -1,8 +1,8 @@
 //! Commands over a small tree. A script is commands with `;` between them, each of words with a
 //! blank between them. Its transcript has for each command its status, and each piece that it wrote
 //! behind the number of its stream; `-` for what is no file utility, `!` and the letter for an
-//! option that is refused, `$` for spent fuel; and then `;`.
-use super::shows::{show_done, words};
+//! option that is refused, `!` and the name for a command that is, `$` for spent fuel; and then `;`.
+use super::shows::{add_all, show_done, words};
 use super::trees::{Item, state};
 use em_base::{Construct, Fuel, NoMemory, Text};
 use em_fileutil::utility;
@@ -18,6 +18,7 @@ mod tables;
 fn show_no(no: &ExecNo, log: &mut Text) -> Result<(), NoMemory> {
     match no {
         ExecNo::Refused(Construct::Letter(_, letter)) => log.add(&[b'!', *letter]),
+        ExecNo::Refused(Construct::Command(name)) => add_all(log, &[b"!", name.bytes()]),
         ExecNo::Spent => log.add(b"$"),
         _ => log.add(b"?"),
     }
@@ -98,6 +99,7 @@ fn question_letter(question: &Question) -> &'static [u8] {
         Question::Stamp(_) => b"S",
         Question::Content(_) => b"C",
         Question::Names(_) => b"N",
+        Question::Link(_) => b"L",
         Question::Outcome(_) => b"O",
     }
 }
@@ -108,6 +110,7 @@ fn path_of(question: &Question) -> &[u8] {
         Question::Stamp(path) => path.text(),
         Question::Content(path) => path.text(),
         Question::Names(path) => path.text(),
+        Question::Link(path) => path.text(),
         Question::Outcome(_) => b"",
     }
 }
@@ -156,25 +159,59 @@ fn asked(alloc: Global, script: &str, units: u64) -> Result<Text, Fail> {
 }
 
 /// A script, its units, and what it writes and asks.
-static ASKED: [(&str, u64, &str); 2] = [
+static ASKED: [(&str, u64, &str); 11] = [
     // the target's kind, the source's kind and bytes, and what `put` asks: 1 + 1 + 2 + 2 units
     (
         "cp b a",
         6,
-        "0;K/a=absent K/b=file C/b K/a=absent K/=directory ",
+        "0;L/a K/a=absent L/b K/b=file L/b C/b L/a K/a=absent K/=directory ",
     ),
     (
         "cp b a",
         5,
-        "$;K/a=absent K/b=file C/b K/a=absent K/=directory ",
+        "$;L/a K/a=absent L/b K/b=file L/b C/b L/a K/a=absent K/=directory ",
     ),
+    // the link and then the kind; `remove` follows nothing
+    ("rm b", 3, "0;L/b L/b K/b=file K/b=file "),
+    ("rm b", 2, "$;L/b L/b K/b=file "),
+    (
+        "rmdir b",
+        2,
+        "12emake: rmdir: b: not a directory\n;L/b L/b K/b=file ",
+    ),
+    // the target's kind, then the source's link, kind, bytes and stamp, and what `place` and
+    // `remove` ask: 1 + 1 + 1 + 2 + 1 + 2 + 1 units
+    (
+        "mv b a",
+        9,
+        concat!(
+            "0;L/a K/a=absent L/b L/b K/b=file L/b C/b L/b S/b K/a=absent K/=directory ",
+            "K/b=file "
+        ),
+    ),
+    (
+        "mv b a",
+        8,
+        "$;L/a K/a=absent L/b L/b K/b=file L/b C/b L/b S/b K/a=absent K/=directory ",
+    ),
+    // `make_link` takes the block of the text: 1 + 2 units
+    ("ln -s b l", 3, "0;L/l K/l=absent K/l=absent K/=directory "),
+    ("ln -s b l", 2, "$;L/l K/l=absent K/l=absent K/=directory "),
+    // with `-f` the link and the kind of the place, too; what own changes name isn't asked, and the
+    // text that is read takes its block: 1 + 1 + 1 + 2 + 2 units
+    (
+        "ln -sf b l;readlink l",
+        7,
+        "0;01b\n;L/l K/l=absent L/l L/l K/l=absent K/l=absent K/=directory ",
+    ),
+    ("readlink b", 1, "1;L/b "),
 ];
 
 #[test]
-fn cp_asks_for_the_target_then_for_the_source(rt: HostRuntime) -> Result<(), Fail> {
+fn commands_ask_in_this_order(rt: HostRuntime) -> Result<(), Fail> {
     for (script, units, wanted) in &ASKED {
         let given = asked(rt.alloc(), script, *units)?;
-        assert!(rt; given.bytes() == wanted.as_bytes());
+        assert!(rt; given.bytes() == wanted.as_bytes(), "{script}");
     }
     Ok(())
 }
@@ -199,18 +236,18 @@ fn a_file_that_is_moved_keeps_its_stamp(rt: HostRuntime) -> Result<(), Fail> {
     Ok(())
 }
 
-/// A directory `d`, with `x` in it or not: `x` is there when `d` is listed, and is gone then.
-static REMOVED: [&[Item]; 3] = [
-    &[(b"/d", None, 1), (b"/d/x", Some(b""), 1)],
-    &[(b"/d", None, 1), (b"/d/x", Some(b""), 1)],
-    &[(b"/d", None, 1)],
-];
+/// A directory `d` with `x` in it.
+static WITH_X: [Item; 2] = [(b"/d", None, 1), (b"/d/x", Some(b""), 1)];
 
+static WITHOUT_X: [Item; 1] = [(b"/d", None, 1)];
+
+/// `x` is there until `d` is listed, which is the fifth question, and is gone then.
 fn states(alloc: Global) -> Result<Vec<State>, Fail> {
     let mut states = Vec::new(alloc);
-    for items in &REMOVED {
-        states.push(state(alloc, items)?)?;
+    for _ in 0..5 {
+        states.push(state(alloc, WITH_X.as_slice())?)?;
     }
+    states.push(state(alloc, WITHOUT_X.as_slice())?)?;
     Ok(states)
 }
 

@@ -220,3 +220,59 @@ fn commands_are_refused(rt: HostRuntime) -> Result<(), Fail> {
     }
     Ok(())
 }
+
+/// Commands over the tree with the links `k` to `f`, `n` to nothing and `m` to `d`.
+static LINKED: [(&str, &str); 17] = [
+    ("test -L k", "0"),
+    ("test -h n", "0"),
+    ("test -L m", "0"),
+    ("[ -L k ]", "0"),
+    ("test ! -h k", "1"),
+    ("test -L f", "1"),
+    ("test -h d", "1"),
+    ("test -L no", "1"),
+    ("test -L ~", "1"),
+    ("test -L", "0"),
+    ("test -e k", "0"),
+    ("test -e n", "1"),
+    ("test -f k", "0"),
+    ("test -f m", "1"),
+    ("test -d m", "0"),
+    ("cat k", "b\na\na\n0"),
+    ("cat n", "<emake: cat: n: absent\n>1"),
+];
+
+static LINKS: [&str; 3] = ["ln -s f k", "ln -s no n", "ln -s d m"];
+
+fn link<V: View>(alloc: Global, command: &str, desk: &mut Desk<V>) -> Result<(), Fail> {
+    let words = words(alloc, command)?;
+    em_fileutil::utility(alloc, &words, b"", &Path::root(), desk)?;
+    Ok(())
+}
+
+fn link_all<V: View>(alloc: Global, desk: &mut Desk<V>) -> Result<(), Fail> {
+    for command in &LINKS {
+        link(alloc, command, desk)?;
+    }
+    Ok(())
+}
+
+/// What a command comes to over the tree with the links.
+fn linked(alloc: Global, command: &str) -> Result<Text, Fail> {
+    let state = state(alloc, ITEMS.as_slice())?;
+    let mut desk = Desk::new(alloc, PlainView::new(&state), 1, 0, Fuel::new(1000));
+    link_all(alloc, &mut desk)?;
+    let words = words(alloc, command)?;
+    let mut log = Text::new(alloc);
+    run(alloc, &words, b"", &mut desk, &mut log)?;
+    Ok(log)
+}
+
+#[test]
+fn test_looks_at_links(rt: HostRuntime) -> Result<(), Fail> {
+    for (command, wanted) in &LINKED {
+        let given = linked(rt.alloc(), command)?;
+        assert!(rt; given.bytes() == wanted.as_bytes(), "{command}");
+    }
+    Ok(())
+}

@@ -163,13 +163,15 @@ fn each_fault_is_written_and_the_next_operand_is_read(rt: HostRuntime) -> Result
     Ok(())
 }
 
-static REASONS: [Reason; 10] = [
+static REASONS: [Reason; 12] = [
     Reason::File(FileNo::NoParent),
     Reason::File(FileNo::NotDir),
     Reason::File(FileNo::Exists),
     Reason::File(FileNo::NotEmpty),
     Reason::File(FileNo::TooBig),
     Reason::File(FileNo::Root),
+    Reason::File(FileNo::TooManyLinks),
+    Reason::File(FileNo::LinkPath),
     Reason::SameFile,
     Reason::NotANumber,
     Reason::MissingOperand,
@@ -200,6 +202,8 @@ fn each_reason_has_its_words_and_its_status(rt: HostRuntime) -> Result<(), Fail>
         "12emake: u: o: not empty\n",
         "12emake: u: o: too big\n",
         "12emake: u: o: root\n",
+        "12emake: u: o: too many links\n",
+        "12emake: u: o: bad path\n",
         "12emake: u: o: same file\n",
         "22emake: u: o: not a number\n",
         "22emake: u: o: missing operand\n",

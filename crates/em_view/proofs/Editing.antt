@@ -7,7 +7,7 @@ use Rattle.em_path.specs.Paths.{parent_text, last_of}
 use Rattle.em_tree.specs.declared.node.Kind.{Kind}
 use Rattle.em_tree.specs.declared.node.Kind.TheVariants as kind
 use Rattle.em_tree.specs.declared.node.Node.{Node}
-use Rattle.em_tree.specs.declared.node.Node.TheVariants.{File, Dir}
+use Rattle.em_tree.specs.declared.node.Node.TheVariants.{File, Dir, Link}
 use Rattle.em_tree.specs.declared.question.Entry.{Entry}
 use Rattle.em_tree.specs.declared.state.State.{State}
 use Rattle.em_tree.specs.Names.{names_of, in_dir, children_of}
@@ -22,15 +22,11 @@ use Rattle.em_view.specs.Names.{with_own}
 use Rattle.em_view.specs.Rows.{is_memory, kind_below, told_names, made_names, other_names, amend, names_by, names_below, names_refusal, becomes}
 use Rattle.em_view.proofs.Asking.{agreed}
 use Rattle.em_view.proofs.Looking.{on_snapshot, seen_kind}
-use Rattle.em_view.proofs.Fitting.{tree_touch, tree_remove, no_child, file_has_no_child}
+use Rattle.em_view.proofs.Fitting.{tree_touch, tree_remove, no_child, bare_but_dir}
 
-is_there : (n : Option Node) → kind_of n ≡ kind.File → IsSome n
-is_there None e = absurd (cc)
-is_there (Some x) e = refl
-
-is_there_dir : (n : Option Node) → kind_of n ≡ kind.Dir → IsSome n
-is_there_dir None e = absurd (cc)
-is_there_dir (Some x) e = refl
+is_there : (n : Option Node) (k : Kind) → kind_of n ≡ k → (kind.Absent ≡ k → ⊥) → IsSome n
+is_there None k e there = absurd (there e)
+is_there (Some x) k e there = refl
 
 -- ---- the names of a directory on a state
 
@@ -48,6 +44,7 @@ names_are s w p None e = other_is s w p e
 names_are s w p (Some None) e = absurd (cc)
 names_are s w p (Some (Some (File body stamp))) e = absurd (cc)
 names_are s w p (Some (Some (Dir stamp))) e = made_is s w p
+names_are s w p (Some (Some (Link text stamp))) e = absurd (cc)
 
 seen_names : (s : State) (w : Workspace) (p : List ℕ) → kind_of (get (laid_over w.changes s.tree) p) ≡ kind.Dir → (names_below p (snapshot s) w).0 ≡ Ok (Some (with_own w.changes p (unwrap_or (names_of s.tree p) [])))
 unfolding names_below mine ◌>>=◌
@@ -75,8 +72,11 @@ module _ {V : Type 0} where
   pub remove_fits : (d : DeskState V) (p q : List ℕ) (n : ℕ) → Fits d.usage d.work.changes → parent_text p ≡ Some q → MayGo d p → Fits d.usage (becomes p None (Some q) n d.work.changes)
   remove_fits d p q n fits up h s tree all = let go = h s tree all in tree_remove s.tree d.work.changes p q n (fits s tree all) up go.0 go.1
 
-  pub file_goes : (d : DeskState V) (p : List ℕ) → Fits d.usage d.work.changes → IsSeen d p kind.File → MayGo d p
-  file_goes d p fits h s tree all = let t = laid_over d.work.changes s.tree in (is_there (get t p) (h s tree all), file_has_no_child t p (fits s tree all) (h s tree all))
+  -- a file goes, and a link
+  pub other_goes : (d : DeskState V) (p : List ℕ) (k : Kind) → (kind.Absent ≡ k → ⊥) → (kind.Dir ≡ k → ⊥) → Fits d.usage d.work.changes → IsSeen d p k → MayGo d p
+  other_goes d p k there other fits h s tree all =
+      let t = laid_over d.work.changes s.tree in
+      (is_there (get t p) k (h s tree all) there, bare_but_dir t p (fits s tree all) (λ e. other (sym e ∙ h s tree all)))
 
   pub dir_goes : {tells : V → Told} (d e : DeskState V) (p : List ℕ) (ns : Option (List (List ℕ))) → Fits d.usage d.work.changes → NamesPaths d.work.changes → IsSeen d p kind.Dir → e.work.changes ≡ d.work.changes
       → Performs is_memory tells d e (Ok ns) (names_below p) → names_refusal ns ≡ None → MayGo e p
@@ -89,4 +89,4 @@ module _ {V : Type 0} where
       let is : ns ≡ Some left = cc in
       let none = empty_list left (subst (λ (x : Option (List (List ℕ))). names_refusal x ≡ None) is empty) in
       subst (λ (c : Changes). IsSome (get (laid_over c s.tree) p) × ((q : List ℕ) → parent_text q ≡ Some p → get (laid_over c s.tree) q ≡ None)) (sym still)
-      (is_there_dir (get t p) dir, no_child s.tree d.work.changes p tree (fits s tree on.1) paths none)
+      (is_there (get t p) kind.Dir dir (λ e. cc), no_child s.tree d.work.changes p tree (fits s tree on.1) paths none)

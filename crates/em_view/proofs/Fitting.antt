@@ -4,7 +4,7 @@
 --     tree_touch            a node becomes one of its own kind
 --     tree_remove           a path goes under which nothing stands, and its directory is stamped
 --     no_child              where no names are left under own changes, nothing stands under the path
---     file_has_no_child     nothing stands under a file
+--     bare_but_dir          nothing stands under what is no directory
 --     not_above             a text is not its own parent
 --     paths_becomes         changes of paths stay changes of paths
 use Rattle.std.proofs.Common.{◌≡◌, ◌≢◌, ◌<◌, ℕ, Bool, true, false, cond, ◌||◌, true≢false, List, [], ◌∷◌, ◌++◌, Option, Some, None, length, take, length-append, ◌⊎◌, inl, inr, refl, sym, ap, subst, ◌∙◌, arith}
@@ -26,7 +26,7 @@ use Rattle.em_path.proofs.Spelling.{behind, parts, path_text-parts, path_text-pu
 use Rattle.em_tree.specs.declared.node.Kind.{Kind}
 use Rattle.em_tree.specs.declared.node.Kind.TheVariants as kind
 use Rattle.em_tree.specs.declared.node.Node.{Node}
-use Rattle.em_tree.specs.declared.node.Node.TheVariants.{File, Dir}
+use Rattle.em_tree.specs.declared.node.Node.TheVariants.{File, Dir, Link}
 use Rattle.em_tree.specs.Trees.{Table, Changes, IsTree, kind_of, changed, laid_over}
 use Rattle.em_tree.specs.Index.{is_parent, is_text}
 use Rattle.em_tree.specs.Names.{children_of, in_dir, names_of}
@@ -34,7 +34,7 @@ use Rattle.em_tree.proofs.Maps.{order}
 use Rattle.em_tree.proofs.Tables.{same_key}
 use Rattle.em_tree.proofs.Naming.{any_child, parent_said}
 use Rattle.em_tree.proofs.Laying.{over, get-changed, same_table}
-use Rattle.em_tree.proofs.Lawful.{get-laid_over, IsTree-put, IsTree-remove, bare_file}
+use Rattle.em_tree.proofs.Lawful.{get-laid_over, IsTree-put, IsTree-remove}
 use Rattle.em_view.specs.Rows.{becomes}
 use Rattle.em_view.specs.Names.{amended, amended_all, with_own}
 
@@ -158,6 +158,7 @@ same_kinds s t e h = record {
     there : (a b : Option Node) → kind_of a ≡ kind_of b → IsSome a → IsSome b
     there (Some (File body stamp)) None e i = cc
     there (Some (Dir stamp)) None e i = cc
+    there (Some (Link text stamp)) None e i = cc
     there None b e i = cc
     there a (Some n) e i = refl
 
@@ -201,8 +202,12 @@ tree_remove t d p q n h up has bare = tree_stamped t d p q None n (IsTree-remove
     stays true e = absurd (not_above p q up (sym (same_key q p e)))
     stays false e = h.parents p q has up
 
-pub file_has_no_child : (t : Table) (p : List ℕ) → IsTree t → kind_of (get t p) ≡ kind.File → (k : List ℕ) → parent_text k ≡ Some p → get t k ≡ None
-file_has_no_child t p h file = bare_file t p h (sym file)
+pub bare_but_dir : (t : Table) (p : List ℕ) → IsTree t → (kind_of (get t p) ≡ kind.Dir → ⊥) → (k : List ℕ) → parent_text k ≡ Some p → get t k ≡ None
+bare_but_dir t p h other k up = by_case (get t k) refl
+  where
+    by_case : (o : Option Node) → get t k ≡ o → get t k ≡ None
+    by_case None e = e
+    by_case (Some n) e = absurd (other (h.parents k p (ap is_some e) up))
 
 -- ---- the names of a directory under own changes
 

@@ -7,3 +7,6 @@ pub mod Fitting
 pub mod Looking
 pub mod Editing
 pub mod Doing
+pub mod Levels
+pub mod Walking
+pub mod Leading

@@ -90,12 +90,14 @@ stands_dir : (t : Table) (q : List ℕ) (k : Kind) → kind_of (get t q) ≡ k �
 stands_dir t q kind.Absent e f h = absurd (cc)
 stands_dir t q kind.File e f h = absurd (cc)
 stands_dir t q kind.Dir e f h = record { dir = q; is = refl; stands = e }
+stands_dir t q kind.Link e f h = absurd (cc)
 
 may_put : (t : Table) (o : Option (List ℕ)) (k : Kind) (size : ℕ) → put_refusal k (option_map (kind_in t) o) size ≡ None → Under t o × (k ≡ kind.Dir → ⊥)
 may_put t None k size h = absurd (cc)
 may_put t (Some q) kind.Dir size h = absurd (cc)
 may_put t (Some q) kind.Absent size h = (stands_dir t q (kind_of (get t q)) refl (size_refusal size) h, λ e. cc)
 may_put t (Some q) kind.File size h = (stands_dir t q (kind_of (get t q)) refl (size_refusal size) h, λ e. cc)
+may_put t (Some q) kind.Link size h = (stands_dir t q (kind_of (get t q)) refl (size_refusal size) h, λ e. cc)
 
 no_more : (f : Option FileNo) → f ≡ None → or_else f None ≡ None
 no_more None e = refl
@@ -105,8 +107,10 @@ may_make : (t : Table) (o : Option (List ℕ)) (k : Kind) → dir_refusal k (opt
 may_make t None kind.Absent h = absurd (cc)
 may_make t None kind.File h = absurd (cc)
 may_make t None kind.Dir h = absurd (cc)
+may_make t None kind.Link h = absurd (cc)
 may_make t (Some q) kind.Dir h = absurd (cc)
 may_make t (Some q) kind.File h = absurd (cc)
+may_make t (Some q) kind.Link h = absurd (cc)
 may_make t (Some q) kind.Absent h = (stands_dir t q (kind_of (get t q)) refl None (no_more (above_refusal (kind_of (get t q))) h), λ e. cc)
 
 -- ---- what the change leaves
@@ -119,6 +123,7 @@ pub stamped_above : (above parent : Option (List ℕ)) (k : Kind) → above ≡ 
 stamped_above above parent kind.Absent e = inr e
 stamped_above above parent kind.File e = inl refl
 stamped_above above parent kind.Dir e = inl refl
+stamped_above above parent kind.Link e = inl refl
 
 fits_in : (t : Table) (d : Changes) (p : List ℕ) (node : Node) (n : ℕ) (above : Option (List ℕ)) → IsTree (laid_over d t) → IsPath p → Under (laid_over d t) (parent_text p) → (kind_of (get (laid_over d t) p) ≡ kind.Dir → ⊥)
     → IsAbove above (parent_text p) → IsTree (laid_over (becomes p (Some node) above n d) t)

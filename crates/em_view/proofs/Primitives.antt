@@ -60,5 +60,12 @@ capped_cost fuel size most h e = by_case (nat_lt (2 ^ 64 - 1) size) refl
     by_case true l = let above : 2 ^ 64 - 1 < size = ltb-true _ _ l in let is : most ≡ 2 ^ 64 - 1 = omega arith in inr (omega arith, omega arith)
     by_case false l = let below : size ≤ 2 ^ 64 - 1 = ltb-false _ _ l in let is : most ≡ size = omega arith in inl (ap blocks is)
 
+-- the same with so many more
+pub capped_more : (fuel size most n : ℕ) → fuel ≤ 10000000 → most ≡ min size (2 ^ 64 - 1) → (blocks most + n ≡ blocks size + n) ⊎ ((fuel < blocks most + n) × (fuel < blocks size + n))
+capped_more fuel size most n h e = elim (capped_cost fuel size most h e) [
+  | inl same ↦ inl (ap (λ k. k + n) same)
+  | inr above ↦ inr (let a = above.0 in let b = above.1 in (omega arith, omega arith))
+]
+
 pub sound_changed : (greatest given fuel count : ℕ) (us : List Entry) (d e : Changes) → IsSound greatest given fuel count us d → count + 1 + fuel ≤ given → Fits us e → NamesPaths e → IsSound greatest given fuel (count + 1) us e
 sound_changed greatest given fuel count us d e h room fits paths = record { base = h.base; small = h.small; room = room; fits = fits; paths = paths }

@@ -3,11 +3,13 @@ pub mod Actions
 pub mod Performs
 pub mod Codes
 pub mod Names
+pub mod Walking
 pub mod Rows
 pub mod Ends
 pub mod Held
 pub mod Asking
 pub mod Steps
 pub mod Do
+pub mod Bare
 pub mod Serial
 pub mod Examples

@@ -12,7 +12,7 @@ use Rattle.em_tree.specs.declared.question.Answer.TheVariants as answer
 use Rattle.em_tree.specs.declared.node.Kind.{Kind}
 use Rattle.em_tree.specs.declared.node.Kind.TheVariants as kind
 use Rattle.em_tree.specs.declared.node.Node.{Node}
-use Rattle.em_tree.specs.declared.node.Node.TheVariants.{File, Dir}
+use Rattle.em_tree.specs.declared.node.Node.TheVariants.{File, Dir, Link}
 use Rattle.em_tree.specs.declared.outcome.Outcome.{Outcome}
 use Rattle.em_tree.specs.Trees.{Changes, kind_of, stamp_of, content_of}
 use Rattle.em_view.specs.declared.no.FileNo.{FileNo}
@@ -22,6 +22,9 @@ use Rattle.em_view.specs.declared.no.DeskNo.TheVariants as no
 use Rattle.em_view.specs.Actions.{Workspace, Action, ◌>>=◌, done, fail, mine, ask, ready, spend}
 use Rattle.em_view.specs.Performs.{DeskState, Told, Performs}
 use Rattle.em_view.specs.Names.{with_own, names_size}
+use Rattle.em_tree.specs.declared.way.Way.{Way}
+use Rattle.em_tree.specs.declared.way.Way.TheVariants.{To}
+use Rattle.em_view.specs.Walking.{link_below, resolve, target}
 
 -- the one error that may come freely
 abbrev pub is_memory : DeskNo → Bool
@@ -131,35 +134,73 @@ names_below p = do
   own ← mine p
   names_by own p
 
--- ---- reading
+-- ---- reading: a unit, the way through the links, the question, and a unit for each link that was
+-- ---- followed. Where the way leads nowhere nothing is there
+
+abbrev pub kind_to : Way → Action DeskNo Kind
+kind_to (To q) = kind_below q
+kind_to _ = done kind.Absent
 
 unfoldable pub kind_at : List ℕ → Action DeskNo Kind
 kind_at p = do
   u ← spend 1
-  kind_below p
+  f ← resolve true p
+  k ← kind_to f.way
+  v ← spend f.followed
+  done k
+
+abbrev pub stamp_to : Way → Action DeskNo (Option ℕ)
+stamp_to (To q) = stamp_below q
+stamp_to _ = done None
 
 unfoldable pub stamp_at : List ℕ → Action DeskNo (Option ℕ)
 stamp_at p = do
   u ← spend 1
-  stamp_below p
+  f ← resolve true p
+  stamp ← stamp_to f.way
+  v ← spend f.followed
+  done stamp
 
 abbrev pub size_of : Option (List ℕ) → ℕ
 size_of None = 0
 size_of (Some bytes) = length bytes
 
+abbrev pub content_to : Way → Action DeskNo (Option (List ℕ))
+content_to (To q) = content_below q
+content_to _ = done None
+
 unfoldable pub content : List ℕ → Action DeskNo (Option (List ℕ))
 content p = do
   u ← spend 1
-  body ← content_below p
-  v ← spend (blocks (size_of body))
+  f ← resolve true p
+  body ← content_to f.way
+  v ← spend (blocks (size_of body) + f.followed)
   done body
+
+abbrev pub names_to : Way → Action DeskNo (Option (List (List ℕ)))
+names_to (To q) = names_below q
+names_to _ = done None
 
 unfoldable pub names : List ℕ → Action DeskNo (Option (List (List ℕ)))
 names p = do
   u ← spend 1
-  ns ← names_below p
-  v ← spend (blocks (names_size ns))
+  f ← resolve true p
+  ns ← names_to f.way
+  v ← spend (blocks (names_size ns) + f.followed)
   done ns
+
+abbrev pub link_to : Way → Action DeskNo (Option (List ℕ))
+link_to (To q) = link_below q
+link_to _ = done None
+
+-- the link at the path itself isn't followed
+unfoldable pub link_at : List ℕ → Action DeskNo (Option (List ℕ))
+link_at p = do
+  u ← spend 1
+  f ← resolve false p
+  text ← link_to f.way
+  v ← spend (blocks (size_of text) + f.followed)
+  done text
 
 unfoldable pub outcome : ℕ → Action DeskNo (Option Outcome)
 outcome j = do
@@ -217,6 +258,7 @@ abbrev pub above_refusal : Kind → Option FileNo
 above_refusal kind.Absent = Some file.NoParent
 above_refusal kind.File = Some file.NotDir
 above_refusal kind.Dir = None
+above_refusal kind.Link = Some file.NotDir
 
 -- the first refusal, else the second
 abbrev pub or_else : Option FileNo → Option FileNo → Option FileNo
@@ -242,32 +284,64 @@ abbrev pub stamped : Kind → Option (List ℕ) → Option (List ℕ)
 stamped kind.Absent above = above
 stamped _ above = None
 
+-- each change: where its path leads, by how many links, and then the change there, for which these
+-- links are paid too. The last component is followed where bytes are written or a stamp is set
+
+unfoldable pub put_at : List ℕ → ℕ → List ℕ → Action DeskNo (Unit {0})
+put_at q n bytes = do
+  spot ← look q
+  f ← refuse (put_refusal spot.0 spot.1 (length bytes))
+  u ← pay (blocks (length bytes) + n)
+  k ← number
+  change q (Some (File bytes k)) (stamped spot.0 (parent_text q))
+
 unfoldable pub put : List ℕ → List ℕ → Action DeskNo (Unit {0})
 put p bytes = do
   r ← ready
-  spot ← look p
-  f ← refuse (put_refusal spot.0 spot.1 (length bytes))
-  u ← pay (blocks (length bytes))
-  n ← number
-  change p (Some (File bytes n)) (stamped spot.0 (parent_text p))
+  t ← target true p
+  put_at t.0 t.1 bytes
 
 -- as `put`, but with this stamp, and the directory always gets the number of the change
+unfoldable pub place_at : List ℕ → ℕ → List ℕ → ℕ → Action DeskNo (Unit {0})
+place_at q n bytes stamp = do
+  spot ← look q
+  f ← refuse (put_refusal spot.0 spot.1 (length bytes))
+  u ← pay (blocks (length bytes) + n)
+  change q (Some (File bytes stamp)) (parent_text q)
+
 unfoldable pub place : List ℕ → List ℕ → ℕ → Action DeskNo (Unit {0})
 place p bytes stamp = do
   r ← ready
-  spot ← look p
-  f ← refuse (put_refusal spot.0 spot.1 (length bytes))
-  u ← pay (blocks (length bytes))
-  change p (Some (File bytes stamp)) (parent_text p)
+  t ← target false p
+  place_at t.0 t.1 bytes stamp
+
+unfoldable pub make_dir_at : List ℕ → ℕ → Action DeskNo (Unit {0})
+make_dir_at q n = do
+  spot ← look q
+  f ← refuse (dir_refusal spot.0 spot.1)
+  u ← pay n
+  k ← number
+  change q (Some (Dir k)) (parent_text q)
 
 unfoldable pub make_dir : List ℕ → Action DeskNo (Unit {0})
 make_dir p = do
   r ← ready
-  spot ← look p
+  t ← target false p
+  make_dir_at t.0 t.1
+
+unfoldable pub make_link_at : List ℕ → ℕ → List ℕ → Action DeskNo (Unit {0})
+make_link_at q n text = do
+  spot ← look q
   f ← refuse (dir_refusal spot.0 spot.1)
-  u ← pay 0
-  n ← number
-  change p (Some (Dir n)) (parent_text p)
+  u ← pay (blocks (length text) + n)
+  k ← number
+  change q (Some (Link text k)) (parent_text q)
+
+unfoldable pub make_link : List ℕ → List ℕ → Action DeskNo (Unit {0})
+make_link p text = do
+  r ← ready
+  t ← target false p
+  make_link_at t.0 t.1 text
 
 -- ---- removing and touching
 
@@ -275,60 +349,75 @@ abbrev pub names_refusal : Option (List (List ℕ)) → Option FileNo
 names_refusal (Some (n ∷ ns)) = Some file.NotEmpty
 names_refusal _ = None
 
-unfoldable pub take_away : List ℕ → List ℕ → Action DeskNo (Unit {0})
-take_away p above = do
-  u ← pay 0
-  change p None (Some above)
+unfoldable pub take_away : List ℕ → List ℕ → ℕ → Action DeskNo (Unit {0})
+take_away q above n = do
+  u ← pay n
+  change q None (Some above)
 
-unfoldable pub remove_dir : List ℕ → List ℕ → Action DeskNo (Unit {0})
-remove_dir p above = do
-  ns ← names_below p
+unfoldable pub remove_dir : List ℕ → List ℕ → ℕ → Action DeskNo (Unit {0})
+remove_dir q above n = do
+  ns ← names_below q
   f ← refuse (names_refusal ns)
-  take_away p above
+  take_away q above n
 
-abbrev pub remove_by : Kind → List ℕ → List ℕ → Action DeskNo (Unit {0})
-remove_by kind.Absent p above = fail (no.File file.Absent)
-remove_by kind.File p above = take_away p above
-remove_by kind.Dir p above = remove_dir p above
+-- a link goes as a file does
+abbrev pub remove_by : Kind → List ℕ → List ℕ → ℕ → Action DeskNo (Unit {0})
+remove_by kind.Absent q above n = fail (no.File file.Absent)
+remove_by kind.File q above n = take_away q above n
+remove_by kind.Dir q above n = remove_dir q above n
+remove_by kind.Link q above n = take_away q above n
+
+abbrev pub remove_under : Option (List ℕ) → List ℕ → ℕ → Action DeskNo (Unit {0})
+remove_under None q n = fail (no.File file.Root)
+remove_under (Some above) q n = do
+  k ← kind_below q
+  remove_by k q above n
 
 -- the root is refused before anything is asked
-abbrev pub remove_under : Option (List ℕ) → List ℕ → Action DeskNo (Unit {0})
-remove_under None p = fail (no.File file.Root)
-remove_under (Some above) p = do
-  k ← kind_below p
-  remove_by k p above
+abbrev pub remove_from : Option (List ℕ) → List ℕ → Action DeskNo (Unit {0})
+remove_from None p = fail (no.File file.Root)
+remove_from (Some above) p = do
+  t ← target false p
+  remove_under (parent_text t.0) t.0 t.1
 
 unfoldable pub remove : List ℕ → Action DeskNo (Unit {0})
 remove p = do
   r ← ready
-  remove_under (parent_text p) p
+  remove_from (parent_text p) p
 
-unfoldable pub touch_dir : List ℕ → Action DeskNo (Unit {0})
-touch_dir p = do
-  u ← pay 0
-  n ← number
-  change p (Some (Dir n)) None
+unfoldable pub touch_dir : List ℕ → ℕ → Action DeskNo (Unit {0})
+touch_dir q n = do
+  u ← pay n
+  k ← number
+  change q (Some (Dir k)) None
 
-abbrev pub touch_bytes : Option (List ℕ) → List ℕ → Action DeskNo (Unit {0})
-touch_bytes None p = fail (no.File file.Absent)
-touch_bytes (Some bytes) p = do
-  u ← pay 0
-  n ← number
-  change p (Some (File bytes n)) None
+abbrev pub touch_bytes : Option (List ℕ) → List ℕ → ℕ → Action DeskNo (Unit {0})
+touch_bytes None q n = fail (no.File file.Absent)
+touch_bytes (Some bytes) q n = do
+  u ← pay n
+  k ← number
+  change q (Some (File bytes k)) None
 
-unfoldable pub touch_file : List ℕ → Action DeskNo (Unit {0})
-touch_file p = do
-  body ← content_below p
-  touch_bytes body p
+unfoldable pub touch_file : List ℕ → ℕ → Action DeskNo (Unit {0})
+touch_file q n = do
+  body ← content_below q
+  touch_bytes body q n
 
-abbrev pub touch_by : Kind → List ℕ → Action DeskNo (Unit {0})
-touch_by kind.Absent p = fail (no.File file.Absent)
-touch_by kind.Dir p = touch_dir p
-touch_by kind.File p = touch_file p
+-- a path behind the links that is told to be a link is no file
+abbrev pub touch_by : Kind → List ℕ → ℕ → Action DeskNo (Unit {0})
+touch_by kind.Absent q n = fail (no.File file.Absent)
+touch_by kind.Dir q n = touch_dir q n
+touch_by kind.File q n = touch_file q n
+touch_by kind.Link q n = fail (no.File file.Absent)
+
+unfoldable pub touch_at : List ℕ → ℕ → Action DeskNo (Unit {0})
+touch_at q n = do
+  k ← kind_below q
+  touch_by k q n
 
 -- the same node, with the number of the change
 unfoldable pub touch : List ℕ → Action DeskNo (Unit {0})
 touch p = do
   r ← ready
-  k ← kind_below p
-  touch_by k p
+  t ← target true p
+  touch_at t.0 t.1

@@ -13,6 +13,7 @@ IsAnswerTo (question.Kind p) (answer.Kind k) = Unit {0}
 IsAnswerTo (question.Stamp p) (answer.Stamp s) = Unit {0}
 IsAnswerTo (question.Content p) (answer.Content b) = Unit {0}
 IsAnswerTo (question.Names p) (answer.Names ns) = Unit {0}
+IsAnswerTo (question.Link p) (answer.Link text) = Unit {0}
 IsAnswerTo (question.Outcome j) (answer.Outcome o) = Unit {0}
 IsAnswerTo _ _ = ⊥
 

@@ -4,7 +4,7 @@ ghost use Rattle.em_view.specs.Rows.{blocks, size_of};
 ghost use Rattle.em_view.specs.Names.{names_size};
 
 use em_base::Text;
-use em_tree::{Body, NameList};
+use em_tree::{Body, LinkText, NameList};
 
 /// How many blocks of 256 bytes so many bytes take.
 pub fn blocks(bytes: u64) -> u64
@@ -18,6 +18,15 @@ pub(crate) fn body_size(body: &Option<Body>) -> u64
 {
     match body {
         Some(body) => body.bytes().len() as u64,
+        None => 0,
+    }
+}
+
+pub(crate) fn text_size(text: &Option<LinkText>) -> u64
+    ensures { result ≡ size_of text.now }
+{
+    match text {
+        Some(text) => text.bytes().len() as u64,
         None => 0,
     }
 }

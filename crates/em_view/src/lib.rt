@@ -7,11 +7,13 @@ mod desk;
 mod done;
 mod edit;
 mod effect;
+pub mod laws;
 mod names;
 mod no;
 mod read;
 mod refuse;
 mod view;
+mod walk;
 mod write;
 
 pub use cost::blocks;

@@ -25,6 +25,12 @@ pub enum FileNo {
     TooBig,
     #[error("root")]
     Root,
+    /// More than 40 would be followed.
+    #[error("too many links")]
+    TooManyLinks,
+    /// What a link says leads to no path.
+    #[error("bad path")]
+    LinkPath,
 }
 
 /// Why a desk's call gives nothing.

@@ -16,6 +16,7 @@ fn above_refusal(kind: Kind) -> Option<FileNo>
         Kind::Absent => Some(FileNo::NoParent),
         Kind::File => Some(FileNo::NotDir),
         Kind::Dir => None,
+        Kind::Link => Some(FileNo::NotDir),
     }
 }
 

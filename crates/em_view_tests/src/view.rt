@@ -1,30 +1,36 @@
 //! Desks over small trees. A state is a text of words like `f4/d/x`: d a directory, f a file of 2
-//! bytes and g one of 300, then the stamp and the path; the root is always there, with stamp 1, and
-//! job 0 has ended. A call is a word of a letter and a path: k kind, s stamp, c content, n names, o
-//! outcome of job 0, O of job 1, m make_dir, r remove, t touch, p put of 1 byte, P put of 300, l
-//! place of 1 byte with stamp 7; or of a digit and a path, for spend. What is expected stands in
-//! one text: results | usage | units left + units used | changes. A file is shown as its bytes and
-//! its stamp, as `1b101`, a directory as `d101`. A job's first change has number 101.
-ghost use Rattle.std.specs.Prelude.{◌≡◌, Some};
+//! bytes and g one of 300, then the stamp and the path; `l5/l>d/x` is a link and what it says, L
+//! one that says 64 components and X one that says 1,023 bytes. The root is always there, with
+//! stamp 1, and job 0 has ended. A call is a word of a letter and a path: k kind, s stamp, c
+//! content, n names, i link, o outcome of job 0, O of job 1, m make_dir, r remove, t touch, p put
+//! of 1 byte, P put of 300, l place of 1 byte with stamp 7; `y/l>d/x` is make_link; or a digit and
+//! a path, for spend. What is expected stands in one text: results | usage | units left + units
+//! used | changes. A file is shown as its bytes and its stamp, as `1b101`, a directory as `d101`, a
+//! link as `l101>d/x`, or by how many bytes it says where these are more than 20. A job's first
+//! change has number 101.
+ghost use Rattle.std.specs.Prelude.{◌≡◌, IsTrue, Some};
 ghost use Rattle.std.specs.FinMap as map;
 ghost use Rattle.em_path.specs.Paths.{IsPath, parent_text};
 ghost use Rattle.em_tree.specs.declared.node.Kind.TheVariants as kind;
+ghost use Rattle.em_tree.specs.LinkTexts.{IsLinkText};
 ghost use Rattle.em_tree.specs.Trees.{IsTree, kind_of};
 
 use super::common::{file, path, show_bytes};
 use em_base::{Fuel, NoMemory, Text};
 use em_path::Path;
 use em_tree::{
-    Answer, Delta, Entry, Kind, NameList, Node, Outcome, Outcomes, Question, State, Tree,
+    Answer, Delta, Entry, Kind, LinkText, NameList, Node, Outcome, Outcomes, Question, State, Tree,
 };
 use em_view::{Desk, DeskNo, FileNo, PlainView, ScriptView, View, blocks};
 use std::alloc::{AllocError, Global};
 use std::test::Fail;
 
 mod calls;
+mod links;
 mod rows;
 mod scripts;
 mod shapes;
+mod walks;
 
 /// The calls, the units that there are for them, and what is expected.
 type Row = (&'static str, u16, &'static str);
@@ -61,19 +67,61 @@ fn add(alloc: Global, tree: &mut Tree, path: Path, node: Node) -> Result<(), NoM
     }
 }
 
-fn node(alloc: Global, letter: u8, stamp: u64) -> Result<Node, NoMemory> {
+/// Whether a link may say this.
+fn is_link_text(text: &[u8]) -> bool
+    ensures { IsTrue result → IsLinkText text.now }
+{
+    !text.is_empty() && text.len() <= 1024 && text.iter().all(|b| *b != 0 && *b != b'\n')
+}
+
+/// A link that says this; a directory where no link may say it, which no row expects.
+fn link(alloc: Global, text: &[u8], stamp: u64) -> Result<Node, NoMemory> {
+    if !is_link_text(text) {
+        return Ok(Node::Dir { stamp });
+    }
+    let text = LinkText::new(Text::from_slice(alloc, text)?);
+    Ok(Node::Link { text, stamp })
+}
+
+/// A link that says so many components.
+fn deep_link(alloc: Global, components: usize, stamp: u64) -> Result<Node, NoMemory> {
+    let mut text = Text::from_slice(alloc, b"a")?;
+    for _ in 1..components {
+        text.add(b"/a")?;
+    }
+    link(alloc, text.bytes(), stamp)
+}
+
+/// A link that says one component of so many bytes.
+fn long_link(alloc: Global, size: usize, stamp: u64) -> Result<Node, NoMemory> {
+    link(alloc, bytes(alloc, size)?.bytes(), stamp)
+}
+
+fn node(alloc: Global, letter: u8, stamp: u64, text: &[u8]) -> Result<Node, NoMemory> {
     match letter {
         b'd' => Ok(Node::Dir { stamp }),
         b'g' => file(alloc, &[b'x'; 300], stamp),
+        b'l' => link(alloc, text, stamp),
+        b'L' => deep_link(alloc, 64, stamp),
+        b'X' => long_link(alloc, 1023, stamp),
         _ => file(alloc, b"ab", stamp),
+    }
+}
+
+/// A word, and what a link says in it.
+fn parts(word: &str) -> (&[u8], &[u8]) {
+    match word.split_once('>') {
+        Some((front, text)) => (front.as_bytes(), text.as_bytes()),
+        None => (word.as_bytes(), b""),
     }
 }
 
 /// Adds what a word names.
 fn add_word(alloc: Global, tree: &mut Tree, word: &str) -> Result<(), NoMemory> {
-    if let [letter, digit @ b'0'..=b'9', text @ ..] = word.as_bytes() {
-        let path = path(alloc, text)?;
-        let node = node(alloc, *letter, u64::from(*digit - b'0'))?;
+    let (front, text) = parts(word);
+    if let [letter, digit @ b'0'..=b'9', place @ ..] = front {
+        let path = path(alloc, place)?;
+        let node = node(alloc, *letter, u64::from(*digit - b'0'), text)?;
         return add(alloc, tree, path, node);
     }
     Ok(())
@@ -119,6 +167,7 @@ fn read<V: View>(desk: &mut Desk<V>, letter: u8, path: &Path) -> Result<Answer, 
         b's' => Answer::Stamp(desk.stamp(path)?),
         b'c' => Answer::Content(desk.content(path)?),
         b'n' => Answer::Names(desk.names(path)?),
+        b'i' => Answer::Link(desk.link(path)?),
         b'O' => Answer::Outcome(desk.outcome(1)?),
         _ => Answer::Outcome(desk.outcome(0)?),
     })
@@ -141,9 +190,19 @@ fn write_file<V: View>(
     }
 }
 
-fn change<V: View>(desk: &mut Desk<V>, letter: u8, path: &Path) -> Result<(), DeskNo> {
+/// Makes a link; a text that no link may say is refused, which no row expects.
+fn make_link<V: View>(desk: &mut Desk<V>, path: &Path, text: &[u8]) -> Result<(), DeskNo> {
+    if is_link_text(text) {
+        desk.make_link(path, text)
+    } else {
+        Err(DeskNo::Spent)
+    }
+}
+
+fn change<V: View>(desk: &mut Desk<V>, letter: u8, path: &Path, text: &[u8]) -> Result<(), DeskNo> {
     match letter {
         b'm' => desk.make_dir(path),
+        b'y' => make_link(desk, path, text),
         b'r' => desk.remove(path),
         b't' => desk.touch(path),
         b'P' => write_file(desk, letter, path, &[b'x'; 300]),
@@ -166,6 +225,15 @@ fn show_names(log: &mut String, names: &NameList) -> Result<(), AllocError> {
     log.push_str("]")
 }
 
+fn show_text(log: &mut String, text: &LinkText) -> Result<(), AllocError> {
+    let text = text.bytes();
+    if text.len() <= 20 {
+        return show_bytes(log, text);
+    }
+    let size = text.len();
+    write!(log, "{size}b")
+}
+
 fn show_answer(log: &mut String, answer: &Answer) -> Result<(), AllocError> {
     match answer {
         Answer::Kind(kind) => write!(log, "{kind:?}"),
@@ -175,6 +243,7 @@ fn show_answer(log: &mut String, answer: &Answer) -> Result<(), AllocError> {
             write!(log, "{size}b")
         }
         Answer::Names(Some(names)) => show_names(log, names),
+        Answer::Link(Some(text)) => show_text(log, text),
         Answer::Outcome(Some(outcome)) => write!(log, "{outcome:?}"),
         _ => log.push_str("-"),
     }
@@ -193,6 +262,7 @@ fn show_question(log: &mut String, question: &Question) -> Result<(), AllocError
         Question::Stamp(path) => ('S', path),
         Question::Content(path) => ('C', path),
         Question::Names(path) => ('N', path),
+        Question::Link(path) => ('L', path),
         Question::Outcome(job) => return write!(log, "O{job}"),
     };
     log.push(letter)?;
@@ -206,6 +276,10 @@ fn show_node(log: &mut String, node: &Option<Node>) -> Result<(), AllocError> {
         Some(Node::File { body, stamp }) => {
             let size = body.bytes().len();
             write!(log, "{size}b{stamp}")
+        }
+        Some(Node::Link { text, stamp }) => {
+            write!(log, "l{stamp}>")?;
+            show_text(log, text)
         }
     }
 }
@@ -249,11 +323,12 @@ fn step<V: View>(
     desk: &mut Desk<V>,
     letter: u8,
     path: &Path,
+    text: &[u8],
     log: &mut String,
 ) -> Result<(), AllocError> {
     match letter {
-        b'k' | b's' | b'c' | b'n' | b'o' | b'O' => show_read(log, read(desk, letter, path)),
-        _ => show_done(log, change(desk, letter, path)),
+        b'k' | b's' | b'c' | b'n' | b'i' | b'o' | b'O' => show_read(log, read(desk, letter, path)),
+        _ => show_done(log, change(desk, letter, path, text)),
     }
 }
 
@@ -264,9 +339,10 @@ fn step_word<V: View>(
     word: &str,
     log: &mut String,
 ) -> Result<(), NoMemory> {
-    if let [letter, text @ ..] = word.as_bytes() {
-        let path = path(alloc, text)?;
-        step(desk, *letter, &path, log)?;
+    let (front, text) = parts(word);
+    if let [letter, place @ ..] = front {
+        let path = path(alloc, place)?;
+        step(desk, *letter, &path, text, log)?;
     }
     Ok(())
 }
@@ -498,7 +574,7 @@ fn blocks_have_256_bytes(rt: HostRuntime) {
     }
 }
 
-static REFUSALS: [FileNo; 8] = [
+static REFUSALS: [FileNo; 10] = [
     FileNo::Absent,
     FileNo::NoParent,
     FileNo::NotDir,
@@ -507,7 +583,12 @@ static REFUSALS: [FileNo; 8] = [
     FileNo::NotEmpty,
     FileNo::TooBig,
     FileNo::Root,
+    FileNo::TooManyLinks,
+    FileNo::LinkPath,
 ];
+
+static IN_WORDS: &str = "absent; no parent; not a directory; is a directory; exists; not empty; \
+    too big; root; too many links; bad path; ";
 
 fn show_refusals(log: &mut String) -> Result<(), AllocError> {
     for no in &REFUSALS {
@@ -521,9 +602,6 @@ fn show_refusals(log: &mut String) -> Result<(), AllocError> {
 fn refusals_are_told_in_words(rt: HostRuntime) -> Result<(), Fail> {
     let mut log = String::new(rt.alloc());
     show_refusals(&mut log)?;
-    assert_eq!(rt;
-        log.as_str(),
-        "absent; no parent; not a directory; is a directory; exists; not empty; too big; root; "
-    );
+    assert_eq!(rt; log.as_str(), IN_WORDS);
     Ok(())
 }

@@ -129,6 +129,27 @@ fn cause_of<S: Spec>(
     })
 }
 
+/// Runs the job again of which this run was found, and says why.
+fn rerun_for<S: Spec, W: Work<S>, G: Gate>(
+    alloc: Global,
+    front: &mut Front<S>,
+    run: &Run<S>,
+    asked: &[Entry],
+    verdict: Verdict,
+    w: &W,
+    gate: &G,
+) -> Result<(Committed, Option<Cause>), NoMemory>
+    requires { IsSome (next_of front.old) }
+    ensures committed { IfOk result (λ r. IfSome (next_of front.old) (λ next.
+        IsCommitted S.makes S.ends_after front.old front.new next r.0)) }
+    ensures cause { IfOk result (λ r. r.1
+        ≡ turns.cause_of front.old.state front.old.deltas run.now asked.now verdict) }
+    ensures err { OnErr result (front.new ≡ front.old) }
+{
+    let cause = cause_of(alloc, front, run, asked, verdict)?;
+    Ok((rerun(alloc, front, w, gate)?, cause))
+}
+
 /// Commits the run where it is what the next job makes of the front's state; else runs the job
 /// again.
 fn turn_run<S: Spec, W: Work<S>, G: Gate>(
@@ -147,12 +168,10 @@ fn turn_run<S: Spec, W: Work<S>, G: Gate>(
     ensures err { OnErr result (front.new ≡ front.old) }
 {
     let verdict = front.check(&run, asked);
-    let cause = cause_of(alloc, front, &run, asked, verdict)?;
-    let committed = match verdict {
-        Verdict::Same => commit_run(alloc, front, run)?,
-        _ => rerun(alloc, front, w, gate)?,
-    };
-    Ok((committed, cause))
+    match verdict {
+        Verdict::Same => Ok((commit_run(alloc, front, run)?, None)),
+        _ => rerun_for(alloc, front, &run, asked, verdict, w, gate),
+    }
 }
 
 /// The committer's work on the next job, of which this was taken: nothing, what a worker gave up,

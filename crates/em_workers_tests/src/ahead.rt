@@ -30,7 +30,7 @@ enum Before {
 static ROWS: [(Before, &str); 4] = [
     (
         Before::Publish,
-        "0 in 2 strange 0: board none, run content of /z is no content; 1 in 1; 2 in 1; \
+        "0 in 2 strange 0: board none, run link of /z is no link; 1 in 1; 2 in 1; \
          /a/a/b/a/b/c",
     ),
     (
@@ -39,14 +39,14 @@ static ROWS: [(Before, &str); 4] = [
     ),
     (
         Before::PublishAt(0),
-        "0 in 2 strange 0: board none, run content of /z is no content; 1 in 1; 2 in 1; \
+        "0 in 2 strange 0: board none, run link of /z is no link; 1 in 1; 2 in 1; \
          /a/a/b/a/b/c",
     ),
     (
-        Before::PublishAt(1),
-        "0 in 2 strange 0: board none, run content of /z is no content; \
-         1 in 2 differ 0: content of /a was no content is /a after 0; \
-         2 in 2 differ 0: content of /b was /b is /a/b after 1; \
+        Before::PublishAt(2),
+        "0 in 2 strange 0: board none, run link of /z is no link; \
+         1 in 2 differ 1: content of /a was no content is /a after 0; \
+         2 in 2 differ 1: content of /b was /b is /a/b after 1; \
          /a/a/b/a/b/c",
     ),
 ];

@@ -39,7 +39,7 @@ fn stale(alloc: Global) -> Result<Option<Taken<Link>>, Fail>
     ensures { IfOk result (λ t. IfSome t IsLent) }
 {
     let run = run_at_root(alloc, &FIVE, 2)?;
-    Ok(run_lent(alloc, run, 3)?)
+    Ok(run_lent(alloc, run, 5)?)
 }
 
 /// A run of job 3 over what the jobs before it leave.
@@ -48,7 +48,7 @@ fn agreeing(alloc: Global) -> Result<Option<Taken<Link>>, Fail>
 {
     let front = front_behind(alloc, &FIVE, 3)?;
     let run = run_of(alloc, &FIVE, 3, front.state())?;
-    Ok(run_lent(alloc, run, 3)?)
+    Ok(run_lent(alloc, run, 5)?)
 }
 
 /// Nothing of job 0, what was given up of job 1, and these of the next two.
@@ -140,7 +140,7 @@ fn all_that_is_lent_is_committed_in_order(rt: HostRuntime) -> Result<(), Fail> {
     commit_five(rt.alloc(), &mut log)?;
     assert_eq!(rt;
         log.as_str(),
-        "0 in 1; 1 in 2 memory; 2 in 2 differ 0: content of /b was no content is /a/b after 1; \
+        "0 in 1; 1 in 2 memory; 2 in 2 differ 1: content of /b was no content is /a/b after 1; \
          3 in 1; 4 in 1; \
          | 0 made / /a; 1 made / /b; 2 made / /c; 3 made / /d; 4 made / /e; \
          stopped /a/a/b/a/b/c/a/b/c/d/a/b/c/d/e"

@@ -28,7 +28,7 @@ enum Step {
 use Step::*;
 
 /// The calls, and what they answer. An ask is one of each kind of question: what `/` is, its stamp,
-/// its content, the names of `/a`, and how job 0 ended.
+/// its content, the names of `/a`, what `/a` says as a link, and how job 0 ended.
 type Row = (&'static [Step], &'static str);
 
 static ROWS: [Row; 3] = [
@@ -49,8 +49,8 @@ static ROWS: [Row; 3] = [
             Next,
         ],
         "no; no; none; none; none; back; phase; phase; given; \
-         Absent, no stamp, no content, 0 names, no outcome; \
-         Absent, no stamp, no content, 0 names, no outcome; \
+         Absent, no stamp, no content, 0 names, no link, no outcome; \
+         Absent, no stamp, no content, 0 names, no link, no outcome; \
          0; ",
     ),
     // Each call in its turn.
@@ -82,9 +82,10 @@ static ROWS: [Row; 3] = [
             Next,
             NextWait,
         ],
-        "0; Dir, stamp 1, no content, no names, no outcome; no; too early; phase; published; \
-         Absent, no stamp, no content, 0 names, no outcome; back; none; \
-         run of 0 with 5 asks; none; settled; phase; \
+        "0; Dir, stamp 1, no content, no names, no link, no outcome; no; too early; phase; \
+         published; \
+         Absent, no stamp, no content, 0 names, no link, no outcome; back; none; \
+         run of 0 with 6 asks; none; settled; phase; \
          yes; none; none; settled; \
          2; published; run of 2 with 0 asks; settled; done; stopped; done; done; ",
     ),
@@ -110,14 +111,14 @@ static ROWS: [Row; 3] = [
     ),
 ];
 
-/// The i-th of five questions, one of each kind.
+/// The i-th of six questions, one of each kind.
 fn question(alloc: Global, i: u8) -> Result<Question, Fail> {
-    let names = path_of(alloc, "/a")?;
     Ok(match i {
         0 => Question::Kind(Path::root()),
         1 => Question::Stamp(Path::root()),
         2 => Question::Content(Path::root()),
-        3 => Question::Names(names),
+        3 => Question::Names(path_of(alloc, "/a")?),
+        4 => Question::Link(path_of(alloc, "/a")?),
         _ => Question::Outcome(0),
     })
 }
@@ -163,7 +164,7 @@ fn ask<R: Wait>(
     job: u32,
     log: &mut String,
 ) -> Result<(), Fail> {
-    for i in 0..5 {
+    for i in 0..6 {
         log.push_str(if i == 0 { "" } else { ", " })?;
         ask_one(rt, alloc, shared, job, i, log)?;
     }

@@ -31,12 +31,12 @@ static ROWS: [(Lent, &str); 5] = [
     (Lent::GivenUp, "0 in 2 memory | /b made 3 / /b"),
     (
         Lent::Stale,
-        "0 in 2 differ 0: content of /a was /a is no content after none | /b made 3 / /b",
+        "0 in 2 differ 1: content of /a was /a is no content after none | /b made 3 / /b",
     ),
     (Lent::Agreeing, "0 in 1 | /b made 3 / /b"),
     (
         Lent::Short,
-        "0 in 2 strange 2: board none, run kind of / is Dir | /b made 3 / /b",
+        "0 in 2 strange 4: board none, run kind of / is Dir | /b made 3 / /b",
     ),
 ];
 
@@ -84,7 +84,7 @@ fn stale(alloc: Global) -> Result<Option<Taken<Link>>, Fail>
 {
     let state = other_state(alloc)?;
     let run = run_of(alloc, &ONE, 0, &state)?;
-    Ok(run_lent(alloc, run, 3)?)
+    Ok(run_lent(alloc, run, 5)?)
 }
 
 /// The run of the first job over a root alone, with so many entries of its usage.
@@ -102,8 +102,8 @@ fn taken_of(alloc: Global, row: Lent) -> Result<Option<Taken<Link>>, Fail>
         Lent::Nothing => Ok(None),
         Lent::GivenUp => Ok(Some(Taken::GivenUp)),
         Lent::Stale => stale(alloc),
-        Lent::Agreeing => agreeing(alloc, &ONE, 3),
-        Lent::Short => agreeing(alloc, &ONE, 2),
+        Lent::Agreeing => agreeing(alloc, &ONE, 5),
+        Lent::Short => agreeing(alloc, &ONE, 4),
     }
 }
 

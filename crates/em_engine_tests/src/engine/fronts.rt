@@ -67,12 +67,12 @@ fn show_found(
     log: &mut String,
 ) -> Result<(), AllocError> {
     let asked = run.usage().items();
-    if asked.len() != 3 {
-        return log.push_str("not three ");
+    if asked.len() != 5 {
+        return log.push_str("not five ");
     }
     show_verdict(verdict(front, run, asked), log)?;
     show_verdict(verdict(front, run, &asked[..2]), log)?;
-    show_verdict(verdict(front, run, &asked[2..]), log)?;
+    show_verdict(verdict(front, run, &asked[1..]), log)?;
     show_verdict(verdict(front, other, asked), log)
 }
 
@@ -190,7 +190,7 @@ fn a_commit_is_seen_by_the_next_job(rt: HostRuntime) -> Result<(), Fail> {
     commit_all(rt.alloc(), &mut log)?;
     assert_eq!(rt;
         log.as_str(),
-        "none none none made differ 0 0 0 none there true 2 3 1"
+        "none none none made differ 1 0 0 none there true 2 3 1"
     );
     Ok(())
 }

@@ -82,6 +82,10 @@ fn make<V: View>(desk: &mut Desk<V>, p: &Path, output: &mut Text) -> Result<Outc
             say(output, b"there")?;
             Ok(Outcome::Upto)
         }
+        Kind::Link => {
+            say(output, b"there")?;
+            Ok(Outcome::Upto)
+        }
     }
 }
 

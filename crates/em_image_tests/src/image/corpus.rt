@@ -398,7 +398,7 @@ pub static PART_10: [(&[u8], &str); 16] = [
     ),
 ];
 
-pub static PART_11: [(&[u8], &str); 15] = [
+pub static PART_11: [(&[u8], &str); 16] = [
     (b"EMTREE 1\nd 12 /\nd 0 /a\nf", "Short at byte 24"),
     (
         b"EMTREE 1\nd 12 /\nd 0 /a\nf 9 1 /a.b\nq\nf 0 2 /a/b\n\n.\n\n.\n",
@@ -455,5 +455,272 @@ pub static PART_11: [(&[u8], &str); 15] = [
     (
         b"EMTREE 1\nd 12 /\nd 0 /a\nf 9 1 /a.b\nq\nf 0 2 /a/b.\n\n.\n",
         "Short at byte 51",
+    ),
+    (b"EMTREE 2\nd 0 /\nl 1 2 /l\nab\n.\n", "ok"),
+];
+
+pub static PART_12: [(&[u8], &str); 16] = [
+    (b"EMTREE \nd 0 /\nl 1 2 /l\nab\n.\n", "Form at byte 7"),
+    (b"EMTREE 2\n.\nl 1 2 /l\nab\nd 0 /\n", "Form at byte 9"),
+    (b"EMTREE 2\nab\nl 1 2 /l\nd 0 /\n.\n", "Form at byte 9"),
+    (b"EMTREE 2\nd 0 /\nl 1 2", "Short at byte 20"),
+    (b"EMREE 2\nd 0 /\nl 1 2 /l\nab\n.\n", "Form at byte 2"),
+    (b"EMTREE 2l\nd 0 /\nl 1 2 /l\nab\n.\n", "Form at byte 8"),
+    (b"EMTREE 2\nd 0 /\nl 1", "Short at byte 18"),
+    (b"MTREE 2\nd 0 /\nl 1 2 /l\nab\n.\n", "Form at byte 0"),
+    (b"EMTREE 2\nd 0 /\nl 1 2 /l\n.\nab\n", "Form at byte 25"),
+    (b"EMTREE 2\nd 0 /\nl 1 2 / \nab\n.\n", "ok"),
+    (b"EMTREE 2\nd 0 /\nl 1 2 /l\n\n.\nab", "Form at byte 24"),
+    (b"EMTREE", "Short at byte 6"),
+    (b"EMbTREE 2\nd 0 /\nl 1 2 /l\nab\n.\n", "Form at byte 2"),
+    (b"EMTREE 2\na 0 /\nl 1 2 /l\nab\n.\n", "Form at byte 9"),
+    (b"EMTREE 2\nd 0 /\nl 1 2 /l\naba.\n", "Form at byte 26"),
+    (b"EMTREE 2\nd 0  /\nl 1 2 /l\nab\n.\n", "Path at byte 13"),
+];
+
+pub static PART_13: [(&[u8], &str); 16] = [
+    (b"EMTREE 2\nd 0 /\nl 1 2 /lab\n.\n", "Form at byte 27"),
+    (b"EMTREE 2", "Short at byte 8"),
+    (b"EMTRfEE 2\nd 0 /\nl 1 2 /l\nab\n.\n", "Form at byte 4"),
+    (b"EMTREE 2\nd 0 /\nl 1 2 //\nab\n.\n", "Path at byte 21"),
+    (b"EMTREE 2\nd 0 /\n 1 2 /l\nab\n.\n", "Form at byte 15"),
+    (b"EMTREE 2\nl 1 2 /l\nd 0 /\nab\n.\n", "Parent at byte 15"),
+    (b"EMTREE 2\nd 0 /\na 1 2 /l\nab\n.\n", "Form at byte 15"),
+    (b"EMTREE 2\nd 0 /\n.\nab\nl 1 2 /l\n", "Form at byte 15"),
+    (b"EMTREE 2\nd 0. /\nl 1 2 /l\nab\n.\n", "Form at byte 12"),
+    (b"EMTREE 2\nd 0 /\nl 1 2 /l\nab..\n", "Form at byte 26"),
+    (b"EMTREE 2\nd.0 /\nl 1 2 /l\nab\n.\n", "Form at byte 10"),
+    (b"EMTREE 2/\nd 0 /\nl 1 2 /l\nab\n.\n", "Form at byte 8"),
+    (b"EMTREE 2\nd 0\n/\nl 1 2 /l\nab\n.\n", "Form at byte 12"),
+    (b"EMTREE 2\nd 0 f/\nl 1 2 /l\nab\n.\n", "Path at byte 13"),
+    (b"EMTREE 23d 0 /\nl 1 2 /l\nab\n.\n", "Form at byte 8"),
+    (b"EMTREE 2\nd 0 /\nl 1 2 /l\nabl.\n", "Form at byte 26"),
+];
+
+pub static PART_14: [(&[u8], &str); 16] = [
+    (b"EMTREE 2\nd 0 ./\nl 1 2 /l\nab\n.\n", "Path at byte 13"),
+    (b"EMTREE 2\nd 0 /\nl 1 2 /l\nb\n.\n", "Form at byte 25"),
+    (b"EMTREE 2\nd 0 /\nl 1 2 /l\na\0b\n.\n", "Form at byte 25"),
+    (b"EMTREE 2\nd 0 /\nl 1 2 /l\na\n\n.\n", "Form at byte 25"),
+    (b"EMTREE 2\nd 0 /\nl ", "Short at byte 17"),
+    (b"E\0TREE 2\nd 0 /\nl 1 2 /l\nab\n.\n", "Form at byte 1"),
+    (b"EMTREE 2\nd 0 /\nab\nl 1 2 /l\n.\n", "Form at byte 15"),
+    (b"EMTREE 2\nd 0 /\n\nab\n.\nl 1 2 /l", "Form at byte 15"),
+    (b"EMTREE 2\nd 0 /\nl 1 2 /lf\nab\n.\n", "ok"),
+    (b"EMTREE 2\nd 0 /\nl 1 2/l\nab\n.\n", "Form at byte 20"),
+    (b"EMTREE 2\nd 0 /\nl1 2 /l\nab\n.\n", "Form at byte 16"),
+    (b"EMTREE 2\nd 0 /\nl 1 2 /l\naab\n.\n", "Form at byte 26"),
+    (
+        b"EMTREE 2\nd 3 /\nd 2 /d\nl 4 4 /d/l\n../d\nf 1 1 /e\nx\n.\n",
+        "ok",
+    ),
+    (
+        b"EMTREE 2\nd 3 /\nd 2 /dl 4 4 /d/l\n../d\nf 1 1 /e\nx\n.\n",
+        "Parent at byte 19",
+    ),
+    (
+        b"EMTREE 2\nd 3 /\n/d 2 /d\nl 4 4 /d/l\n../d\nf 1 1 /e\nx\n.\n",
+        "Form at byte 15",
+    ),
+    (
+        b"EMTREE 2\nd 3 /\nd 2 /d\nl 4 4 /d/l\n../ d\nf 1 1 /e\nx\n.\n",
+        "Form at byte 37",
+    ),
+];
+
+pub static PART_15: [(&[u8], &str); 16] = [
+    (
+        b"EMTREE 2\nd 3 /\nd 2 /d\nl 4 4 /d/l\n../d\nf 1 1 /e\n\0\n.\n",
+        "ok",
+    ),
+    (
+        b"EMTREE 2\nd 3 /\nd 2 /d\nl 4 4 /d/l\n.\nf 1 1 /e\nx\n../d\n",
+        "Form at byte 34",
+    ),
+    (
+        b"EMTREE 2\nd 3 /\nd 2 /d1\nl 4 4 /d/l\n../d\nf 1 1 /e\nx\n.\n",
+        "Order at byte 29",
+    ),
+    (
+        b"EMTREE 2\nd 3 /\nd 2 /d\nx\n../d\nf 1 1 /e\nl 4 4 /d/l\n.\n",
+        "Form at byte 22",
+    ),
+    (b"EMTREE 2\nd 3 /\nd 2 /d\nl 4 4 /d/l\n", "Short at byte 33"),
+    (
+        b"EMTRE 2\nd 3 /\nd 2 /d\nl 4 4 /d/l\n../d\nf 1 1 /e\nx\n.\n",
+        "Form at byte 5",
+    ),
+    (
+        b"EMTREE 2\nd 3 /\n\nd 2 /d\nl 4 4 /d/l\n../d\nf 1 1 /e\nx\n.\n",
+        "Form at byte 15",
+    ),
+    (
+        b"EMTREE 2\nd 3 /\nd 2 /d\nl 4 4 /d/l\n../d\nf 1 1 /e\nx\n\n.",
+        "Form at byte 49",
+    ),
+    (
+        b"E4MTREE 2\nd 3 /\nd 2 /d\nl 4 4 /d/l\n../d\nf 1 1 /e\nx\n.\n",
+        "Form at byte 1",
+    ),
+    (
+        b"EMTREE 2\nd 3 /\nd 2 /d\nl 4 4b/d/l\n../d\nf 1 1 /e\nx\n.\n",
+        "Form at byte 27",
+    ),
+    (b"EMTREE 2\nd 3 /\nd 2 /d\nl 4 4 /d/", "Short at byte 31"),
+    (
+        b"EMTR\nE 2\nd 3 /\nd 2 /d\nl 4 4 /d/l\n../d\nf 1 1 /e\nx\n.\n",
+        "Form at byte 4",
+    ),
+    (b"EMTREE 2\nd 3 /\nd 2 /d\nl 4 4 /", "Short at byte 29"),
+    (
+        b"EMTREE 2\nd 3 /\n../d\nl 4 4 /d/l\nd 2 /d\nf 1 1 /e\nx\n.\n",
+        "Form at byte 15",
+    ),
+    (
+        b"EMTREE 2\n 3 /\nd 2 /d\nl 4 4 /d/l\n../d\nf 1 1 /e\nx\n.\n",
+        "Form at byte 9",
+    ),
+    (
+        b"EMTREE 2\nd 3 /\nd 2 /d\nl 4 4 /d/l\n../d\nf 1 1",
+        "Short at byte 43",
+    ),
+];
+
+pub static PART_16: [(&[u8], &str); 16] = [
+    (
+        b"EMTREE 2\nd 3 /\nd 2 /d\nl 4 4 /d/l\n../d\nf 1 1 /eax\n.\n",
+        "Short at byte 51",
+    ),
+    (
+        b"EMTREE 2\nd 3 /\nd 2 /d\nl 4 4 /d/l\n..1d\nf 1 1 /e\nx\n.\n",
+        "ok",
+    ),
+    (
+        b"EMTREE 2\nd 3 /\nd 2 /d\nl 4 4 /d/l\n../d\nf 1 1 /e\nx\n.4",
+        "Form at byte 50",
+    ),
+    (
+        b"EMTREE 2\nd 3 /\nd 2 /d\nl 4 4 /d/l\n../\nf 1 1 /e\nx\n.\n",
+        "Form at byte 36",
+    ),
+    (
+        b"EMTREE 2\nd 3 /\nd 2 /d\nl 4 4 /d/l\n../d\nf 1l1 /e\nx\n.\n",
+        "Form at byte 41",
+    ),
+    (
+        b"EMTREE 2\nd 3 /\nd 2 /d\nl 4 4 /d/l\n../d\nf  1 /e\nx\n.\n",
+        "Number at byte 40",
+    ),
+    (
+        b"EMTREE 2\nd 3 /\nd 2 /d\nl 4 4 /d/l\n\0../d\nf 1 1 /e\nx\n.\n",
+        "Form at byte 33",
+    ),
+    (
+        b"EMTREE22\nd 3 /\nd 2 /d\nl 4 4 /d/l\n../d\nf 1 1 /e\nx\n.\n",
+        "Form at byte 6",
+    ),
+    (
+        b"EMTREE 2\nd 3 /\nd 2 /d\nl 4 4 /d/l\n ../d\nf 1 1 /e\nx\n.\n",
+        "Form at byte 37",
+    ),
+    (
+        b"EMTREE 2\n../d\nd 2 /d\nl 4 4 /d/l\nd 3 /\nf 1 1 /e\nx\n.\n",
+        "Form at byte 9",
+    ),
+    (
+        b"EMTREE 2\nd 3 /\nd 2 /d\nl 4 4 /d/l\n.l/d\nf 1 1 /e\nx\n.\n",
+        "ok",
+    ),
+    (
+        b"EMTREE 2\nd 3 /\nd 2 /d\nl 4 4 /d/l\nx\nf 1 1 /e\n../d\n.\n",
+        "Form at byte 34",
+    ),
+    (
+        b"EMTREE 2\nd 3 /\nd 2 /d\nl 4 l /d/l\n../d\nf 1 1 /e\nx\n.\n",
+        "Number at byte 26",
+    ),
+    (
+        b"E TREE 2\nd 3 /\nd 2 /d\nl 4 4 /d/l\n../d\nf 1 1 /e\nx\n.\n",
+        "Form at byte 1",
+    ),
+    (
+        b"EMTREE 2\nd 3 /\n.\nl 4 4 /d/l\n../d\nf 1 1 /e\nx\nd 2 /d\n",
+        "Form at byte 15",
+    ),
+    (
+        b"EMTREE 2\nd 3 /\0\nd 2 /d\nl 4 4 /d/l\n../d\nf 1 1 /e\nx\n.\n",
+        "Path at byte 13",
+    ),
+];
+
+pub static PART_17: [(&[u8], &str); 16] = [
+    (
+        b"EMTREE 2\nd 3 /b\nd 2 /d\nl 4 4 /d/l\n../d\nf 1 1 /e\nx\n.\n",
+        "Parent at byte 13",
+    ),
+    (
+        b"EMTREE 2\nd 3 /\nd 2 /d\nl 4 4 /d/l\n../d\nf 1 1 .e\nx\n.\n",
+        "Path at byte 44",
+    ),
+    (
+        b"EMTREE 2\nd 3 /\nd 22/d\nl 4 4 /d/l\n../d\nf 1 1 /e\nx\n.\n",
+        "Form at byte 19",
+    ),
+    (
+        b"EMTREE 2\nd 3 /\nd 2 /d\nl 4 4 /d/\n../d\nf 1 1 /e\nx\n.\n",
+        "Path at byte 28",
+    ),
+    (
+        b"EMTREE 2\nd 3 /\nd 2 d\nl 4 4 /d/l\n../d\nf 1 1 /e\nx\n.\n",
+        "Path at byte 19",
+    ),
+    (
+        b"EMTREE 2\nd 3 /d 2 /d\nl 4 4 /d/l\n../d\nf 1 1 /e\nx\n.\n",
+        "Parent at byte 13",
+    ),
+    (
+        b"EMTREE 2\nd 3 /\nd 2 /d\nl 4 4 /d/l\n../d\nfb1 1 /e\nx\n.\n",
+        "Form at byte 39",
+    ),
+    (b"EMTREE 2\nd ", "Short at byte 11"),
+    (
+        b"EMTREE 2\nl 4 4 /d/l\nd 2 /d\nd 3 /\n../d\nf 1 1 /e\nx\n.\n",
+        "Parent at byte 15",
+    ),
+    (b"EMTREE 2\n", "Short at byte 9"),
+    (
+        b"EMTREE 2\nd 3 /\nx\nl 4 4 /d/l\n../d\nf 1 1 /e\nd 2 /d\n.\n",
+        "Form at byte 15",
+    ),
+    (
+        b"EMTREE 2\nd.3 /\nd 2 /d\nl 4 4 /d/l\n../d\nf 1 1 /e\nx\n.\n",
+        "Form at byte 10",
+    ),
+    (
+        b"EMTREE 2\nd  /\nd 2 /d\nl 4 4 /d/l\n../d\nf 1 1 /e\nx\n.\n",
+        "Number at byte 11",
+    ),
+    (
+        b"EMTREE 2\nd 3 /\nd 2 /d\nl 4 4 /d/l\n../d\nf 1 1 /e\n",
+        "Short at byte 47",
+    ),
+    (
+        b"EMTREE 2\nd 3 /\nd 2 /d\nl 4 4 /d/l\n../d\n.\nx\nf 1 1 /e\n",
+        "Rest at byte 40",
+    ),
+    (
+        b"EMTREE 2\nd 3 /\nd 2 /da\nl 4 4 /d/l\n../d\nf 1 1 /e\nx\n.\n",
+        "Order at byte 29",
+    ),
+];
+
+pub static PART_18: [(&[u8], &str); 2] = [
+    (
+        b"EMTREE2\nd 3 /\nd 2 /d\nl 4 4 /d/l\n../d\nf 1 1 /e\nx\n.\n",
+        "Form at byte 6",
+    ),
+    (
+        b"EMTREf 2\nd 3 /\nd 2 /d\nl 4 4 /d/l\n../d\nf 1 1 /e\nx\n.\n",
+        "Form at byte 5",
     ),
 ];

@@ -1,6 +1,6 @@
 //! What is said, kept, asked and paid. What is expected is the result, `|`, what was said, `|`,
-//! each text for `eval` with `;`, `|`, each question as a letter (K kind, N names) and its path,
-//! `|` and the units used.
+//! each text for `eval` with `;`, `|`, each question as a letter (K kind, N names, L link) and its
+//! path, `|` and the units used.
 use super::{expand_on, set, show, variable, variables};
 use crate::usage::show_usage;
 use em_base::{Fuel, NoMemory, Text};
@@ -117,9 +117,12 @@ fn over_states(alloc: Global, states: Vec<State>, source: &[u8]) -> Result<Text,
 /// A directory with a name, and then none: the second pattern is asked anew.
 #[test]
 fn each_wildcard_is_asked(rt: HostRuntime) -> Result<(), Fail> {
-    let states = states(rt.alloc(), &["d/d f/d/x", "d/d f/d/x", ""])?;
+    let states = states(
+        rt.alloc(),
+        &["d/d f/d/x", "d/d f/d/x", "d/d f/d/x", "d/d f/d/x", ""],
+    )?;
     let given = over_states(rt.alloc(), states, b"$(wildcard d/*) $(wildcard d/*)")?;
-    assert!(rt; given.bytes() == b"d/x ||| K/d N/d K/d|7".as_slice());
+    assert!(rt; given.bytes() == b"d/x ||| L/d K/d L/d N/d L/d K/d|7".as_slice());
     Ok(())
 }
 

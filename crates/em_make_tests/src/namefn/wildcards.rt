@@ -1,5 +1,5 @@
 //! `wildcard` over small trees. What is expected is a text: the result, `|`, each question as a
-//! letter (K kind, N names) and its path, `|`, and the units used.
+//! letter (K kind, N names, L link) and its path, `|`, and the units used.
 use crate::usage::show_usage;
 use em_base::{Fuel, Text};
 use em_namefn::wildcard;
@@ -49,34 +49,40 @@ type Row = (&'static str, &'static str, u64, &'static str);
 static PLAIN: [Row; 25] = [
     ("/", "*.c", 100, "a.c b.c | N/ | 2"),
     ("/", ".*", 100, ".h.c | N/ | 2"),
-    ("/", "d/*", 100, "d/x1 d/x2 | K/d N/d | 3"),
-    ("/", "d/.*", 100, "d/.z | K/d N/d | 3"),
+    ("/", "d/*", 100, "d/x1 d/x2 | L/d K/d L/d N/d | 3"),
+    ("/", "d/.*", 100, "d/.z | L/d K/d L/d N/d | 3"),
     (
         "/",
         "*/x",
         100,
-        "a-b/x a/x | N/ K/a/x K/a-b/x K/a.c/x K/b.c/x K/d/x K/e/x | 8",
+        "a-b/x a/x | N/ L/a L/a/x K/a/x L/a-b L/a-b/x K/a-b/x L/a.c L/a.c/x K/a.c/x \
+         L/b.c L/b.c/x K/b.c/x L/d L/d/x K/d/x L/e L/e/x K/e/x | 8",
     ),
     ("/", "*/", 100, "a a-b a.c b.c d e | N/ | 2"),
-    ("/", "d//x*", 100, "d/x1 d/x2 | K/d N/d | 3"),
+    ("/", "d//x*", 100, "d/x1 d/x2 | L/d K/d L/d N/d | 3"),
     ("/", "/", 100, "/ | | 0"),
     ("/", "/*.c", 100, "/a.c /b.c | N/ | 2"),
-    ("/", "a.c no", 100, "a.c | K/a.c K/no | 2"),
-    ("/", "no/*", 100, " | K/no | 1"),
-    ("/", "a.c/*", 100, " | K/a.c N/a.c | 2"),
-    ("/", "./a.c", 100, "./a.c | K/ K/a.c | 2"),
-    ("/", "d/../*.c", 100, "d/../a.c d/../b.c | K/d K/ N/ | 4"),
+    ("/", "a.c no", 100, "a.c | L/a.c K/a.c L/no K/no | 2"),
+    ("/", "no/*", 100, " | L/no K/no | 1"),
+    ("/", "a.c/*", 100, " | L/a.c K/a.c L/a.c N/a.c | 2"),
+    ("/", "./a.c", 100, "./a.c | K/ L/a.c K/a.c | 2"),
+    (
+        "/",
+        "d/../*.c",
+        100,
+        "d/../a.c d/../b.c | L/d K/d K/ N/ | 4",
+    ),
     ("/", "[ab].c", 100, "a.c b.c | N/ | 2"),
     ("/", "[!a].c", 100, "b.c | N/ | 2"),
-    ("/", "[a.c", 100, " | K/[a.c | 1"),
+    ("/", "[a.c", 100, " | L/[a.c K/[a.c | 1"),
     ("/", "?.c *.c", 100, "a.c b.c a.c b.c | N/ N/ | 4"),
     ("/", "", 100, " | | 0"),
-    ("/d", "x*", 100, "x1 x2 | N/d | 2"),
+    ("/d", "x*", 100, "x1 x2 | L/d N/d | 2"),
     ("/d", "../*.c", 100, "../a.c ../b.c | K/ N/ | 3"),
     ("/", "*.c", 2, "a.c b.c | N/ | 2"),
     ("/", "*.c", 1, "Spent | N/ | 1"),
     ("/", "*.c", 0, "Spent | | 0"),
-    ("/", "e/no", 1, "Spent | K/e | 1"),
+    ("/", "e/no", 1, "Spent | L/e K/e | 1"),
 ];
 
 fn is_plain(alloc: Global, state: &State, row: &Row) -> Result<bool, Fail> {
@@ -107,13 +113,25 @@ type Script = (&'static [&'static str], &'static str, &'static str);
 /// which nothing is left.
 static SCRIPTS: [Script; 4] = [
     (
-        &["d/d f/d/x", "d/d f/d/x", ""],
+        &["d/d f/d/x", "d/d f/d/x", "d/d f/d/x", "d/d f/d/x", ""],
         "d/* d/*",
-        "d/x | K/d N/d K/d | 4",
+        "d/x | L/d K/d L/d N/d L/d K/d | 4",
     ),
-    (&["d/d f/d/x", "", ""], "d/*", " | K/d N/d | 2"),
-    (&["d/d", "f/d", "d/d f/d/x"], "*/*", " | N/ N/d | 3"),
-    (&["f/a", "", "f/a"], "* a a", "a a | N/ K/a K/a | 4"),
+    (
+        &["d/d f/d/x", "d/d f/d/x", "", ""],
+        "d/*",
+        " | L/d K/d L/d N/d | 2",
+    ),
+    (
+        &["d/d", "f/d", "f/d", "d/d f/d/x"],
+        "*/*",
+        " | N/ L/d N/d | 3",
+    ),
+    (
+        &["f/a", "", "", "f/a"],
+        "* a a",
+        "a a | N/ L/a K/a L/a K/a | 4",
+    ),
 ];
 
 fn over_states(alloc: Global, states: Vec<State>, patterns: &str) -> Result<Text, Fail> {

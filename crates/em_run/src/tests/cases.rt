@@ -45,11 +45,11 @@ fn run_crosses<S: Spec + Send + Sync>(run: &Run<S>) {
 type Row = (&'static str, u16, &'static str, char, u64, usize);
 
 const ROWS: [Row; 6] = [
-    ("/a", 20, "made", 'M', 3, 3),
+    ("/a", 20, "made", 'M', 3, 5),
     ("/", 20, "there", 'U', 1, 1),
-    ("/a/b", 20, "made", 'F', 1, 3),
-    ("/a", 2, "made", 'S', 2, 3),
-    ("/a", 1, "made", 'S', 1, 1),
+    ("/a/b", 20, "made", 'F', 1, 7),
+    ("/a", 2, "made", 'S', 2, 5),
+    ("/a", 1, "made", 'S', 1, 2),
     ("/a", 0, "", 'S', 0, 0),
 ];
 
@@ -108,7 +108,7 @@ fn are_parts(parts: &Parts<Mark>, spec: &Mark) -> bool {
     parts.spec == *spec
         && parts.output.bytes() == b"made".as_slice()
         && parts.outcome == Outcome::Made
-        && parts.usage.len() == 3
+        && parts.usage.len() == 5
         && parts.delta.len() == 2
         && parts.fuel == 3
 }

@@ -4,7 +4,7 @@
 /// A script whose commands stand in a loop or not, and its transcript.
 type Case = (bool, &'static str, &'static str);
 
-pub(crate) static SCRIPTS: [Case; 77] = [
+pub(crate) static SCRIPTS: [Case; 85] = [
     (false, "exit 3", "3E;"),
     (false, "false;exit", "1;1E;"),
     (false, "exit 255", "255E;"),
@@ -102,4 +102,20 @@ pub(crate) static SCRIPTS: [Case; 77] = [
     (false, "UNSET", "<line>1E;"),
     (false, "REFUSED", "!emake;"),
     (false, "SPENT", "$;"),
+    (false, "ln f g", "!ln;"),
+    (false, "ln -s f l;cat <l", "0;b\n0;"),
+    (false, "ln -s f l;echo a >l;cat f", "0;0;a\n0;"),
+    (false, "ln -s g l;echo a >>l;cat g", "0;0;a\n0;"),
+    (
+        false,
+        "ln -s l l;echo a >l",
+        "0;<emake: sh: l: too many links\n>1;",
+    ),
+    (
+        false,
+        "ln -s d l;cd l;pwd;ln -s q k;readlink /d/k",
+        "0;0;/l\n0;0;q\n0;",
+    ),
+    (false, "ln -s x l;cd l", "0;<emake: cd: l: absent\n>1;"),
+    (false, "ln -s f l;test -L l;[ -h f ]", "0;0;1;"),
 ];

@@ -1,6 +1,6 @@
 //! Scripts, and what they write by the pages of POSIX.
 
-pub static SCRIPTS: [(&str, &str); 81] = [
+pub static SCRIPTS: [(&str, &str); 133] = [
     ("cat b", "-;"),
     ("", "-;"),
     // cp
@@ -92,4 +92,82 @@ pub static SCRIPTS: [(&str, &str); 81] = [
     ("ls -l", "!l;"),
     ("ls -2", "12emake: ls: -2: absent\n;"),
     ("ls -d", "01.\n;"),
+    // ln, readlink
+    ("ln -s b l;readlink l;ls l", "0;01b\n;01l\n;"),
+    ("ln -s d l;ls l;ls -d l", "0;01x\n;01l\n;"),
+    (
+        "ln -s no l;readlink l;ls l",
+        "0;01no\n;12emake: ls: l: absent\n;",
+    ),
+    ("ln -s q/b d;readlink d/b", "0;01q/b\n;"),
+    ("ln -s b b", "12emake: ln: b: exists\n;"),
+    ("ln -s x d;readlink d/x", "12emake: ln: d/x: exists\n;1;"),
+    ("ln -sf x d;readlink d/x", "0;01x\n;"),
+    ("ln -s -f no b;readlink b;ls", "0;01no\n;01b\nd\ne\n;"),
+    ("ln -sf b l;ln -sf q l;readlink l", "0;0;01q\n;"),
+    ("ln -s d l;ln -s b l;readlink d/b", "0;0;01b\n;"),
+    ("mkdir d/e;ln -sf e d", "0;12emake: ln: d/e: exists\n;"),
+    ("ln -s / e", "12emake: ln: /: bad path\n;"),
+    ("ln -s .. e", "12emake: ln: ..: bad path\n;"),
+    ("ln -s / l;ls -d l/b", "0;01l/b\n;"),
+    ("ln -s b q/l", "12emake: ln: q/l: no parent\n;"),
+    ("ln -s b b/l", "12emake: ln: b/l: not a directory\n;"),
+    ("ln -s  l", "12emake: ln: : bad path\n;"),
+    ("ln -s b ", "12emake: ln: : bad path\n;"),
+    ("ln -s b", "22emake: ln: : missing operand\n;"),
+    ("ln -s", "22emake: ln: : missing operand\n;"),
+    ("ln -s b l k", "22emake: ln: : extra operand\n;"),
+    ("ln b l", "!ln;"),
+    ("ln -f", "!ln;"),
+    ("ln -x b l", "!x;"),
+    ("readlink b", "1;"),
+    ("readlink q", "1;"),
+    ("readlink ", "1;"),
+    ("readlink", "22emake: readlink: : missing operand\n;"),
+    ("readlink b d", "22emake: readlink: : extra operand\n;"),
+    ("readlink -f b", "!f;"),
+    (
+        "ln -s l l;ls l;touch l",
+        "0;12emake: ls: l: absent\n;12emake: touch: l: too many links\n;",
+    ),
+    // links, to the others
+    ("ln -s no l;touch l;ls", "0;0;01b\nd\ne\nl\nno\n;"),
+    ("ln -s no l;mkdir l", "0;12emake: mkdir: l: exists\n;"),
+    ("ln -s d l;mkdir -p l/m;ls d", "0;0;01m\nx\n;"),
+    ("ln -s d l;rm l;ls", "0;0;01b\nd\ne\n;"),
+    ("ln -s d l;rm -r l/;ls;ls d", "0;0;01b\nd\ne\n;01x\n;"),
+    ("ln -s ../e d/l;rm -r d;ls", "0;0;01b\ne\n;"),
+    ("ln -s d l;rm l/x;ls d", "0;0;0;"),
+    (
+        "ln -s e l;rmdir l",
+        "0;12emake: rmdir: l: not a directory\n;",
+    ),
+    (
+        "ln -s b l;mv l k;readlink k;ls",
+        "0;0;01b\n;01b\nd\ne\nk\n;",
+    ),
+    ("ln -s d l;mv l e;readlink e/l;ls d", "0;0;01d\n;01x\n;"),
+    ("ln -s no l;mv l b;readlink b", "0;0;01no\n;"),
+    ("ln -s b l;ln -s q k;mv l k;readlink k", "0;0;0;01b\n;"),
+    (
+        "ln -s b l;mkdir e/l;mv l e",
+        "0;0;12emake: mv: e/l: exists\n;",
+    ),
+    (
+        "ln -s b d/l;mv d g;readlink g/l;ls",
+        "0;0;01b\n;01b\ne\ng\n;",
+    ),
+    ("ln -s d/x l;mv b l;readlink l;ls", "0;0;1;01d\ne\nl\n;"),
+    ("ln -s b l;cp l c;readlink c", "0;0;1;"),
+    ("ln -s d l;cp -r l c;readlink c;ls c", "0;0;1;01x\n;"),
+    ("ln -s b d/l;cp -r d c;readlink c/l", "0;0;01b\n;"),
+    ("ln -s b d/x/l", "12emake: ln: d/x/l: not a directory\n;"),
+    (
+        "ln -s no d/l;mkdir e/d;touch e/d/l;cp -r d e;readlink e/d/l",
+        "0;0;0;0;01no\n;",
+    ),
+    (
+        "ln -s d/y l;cp b l;ls d;readlink l",
+        "0;0;01x\ny\n;01d/y\n;",
+    ),
 ];

@@ -6,32 +6,32 @@ pub static FILES: [Row; 12] = [
     (
         "p/a k/a s/a c/a n/a",
         20,
-        "ok File 101 1b - | K/a=Absent K/=Dir | 13+7 | /=d101 /a=1b101",
+        "ok File 101 1b - | L/a=- K/a=Absent K/=Dir | 13+7 | /=d101 /a=1b101",
     ),
     (
         "p/a p/a",
         20,
-        "ok ok | K/a=Absent K/=Dir | 16+4 | /=d101 /a=1b102",
+        "ok ok | L/a=- K/a=Absent K/=Dir | 16+4 | /=d101 /a=1b102",
     ),
     (
         "p/a m/a",
         20,
-        "ok !Exists | K/a=Absent K/=Dir | 18+2 | /=d101 /a=1b101",
+        "ok !Exists | L/a=- K/a=Absent K/=Dir | 18+2 | /=d101 /a=1b101",
     ),
     (
         "p/a t/a",
         20,
-        "ok ok | K/a=Absent K/=Dir | 17+3 | /=d101 /a=1b102",
+        "ok ok | L/a=- K/a=Absent K/=Dir | 17+3 | /=d101 /a=1b102",
     ),
     (
         "p/a l/a",
         20,
-        "ok ok | K/a=Absent K/=Dir | 16+4 | /=d102 /a=1b7",
+        "ok ok | L/a=- K/a=Absent K/=Dir | 16+4 | /=d102 /a=1b7",
     ),
     (
         "p/a p/a/b",
         20,
-        "ok !NotDir | K/a=Absent K/=Dir K/a/b=Absent | 18+2 | /=d101 /a=1b101",
+        "ok !NotDir | L/a=- K/a=Absent K/=Dir L/a/b=- K/a/b=Absent | 18+2 | /=d101 /a=1b101",
     ),
     (
         "l/a s/a t/a s/a",
@@ -41,17 +41,17 @@ pub static FILES: [Row; 12] = [
     (
         "t/f c/f s/f",
         20,
-        "ok 300b 101 | K/f=File C/f=300b | 15+5 | /f=300b101",
+        "ok 300b 101 | L/f=- K/f=File C/f=300b | 15+5 | /f=300b101",
     ),
     (
         "p/a r/a k/a s/a c/a n/a r/a t/a",
         20,
-        "ok ok Absent - - - !Absent !Absent | K/a=Absent K/=Dir | 13+7 | /=d102 /a=-",
+        "ok ok Absent - - - !Absent !Absent | L/a=- K/a=Absent K/=Dir | 13+7 | /=d102 /a=-",
     ),
     (
         "p/a r/a p/a",
         20,
-        "ok ok ok | K/a=Absent K/=Dir | 15+5 | /=d103 /a=1b103",
+        "ok ok ok | L/a=- K/a=Absent K/=Dir | 15+5 | /=d103 /a=1b103",
     ),
     (
         "r/f k/f s/f c/f n/f p/f",
@@ -75,7 +75,8 @@ pub static DIRECTORIES: [Row; 11] = [
     (
         "m/a m/a/b p/a/b/c n/a n/a/b",
         20,
-        "ok ok ok [b.] [c.] | K/a=Absent K/=Dir K/a/b=Absent K/a/b/c=Absent N/a=- N/a/b=- | 12+8 | /=d101 /a=d102 /a/b=d103 /a/b/c=1b103",
+        "ok ok ok [b.] [c.] | K/a=Absent K/=Dir K/a/b=Absent L/a/b/c=- K/a/b/c=Absent N/a=- \
+        N/a/b=- | 12+8 | /=d101 /a=d102 /a/b=d103 /a/b/c=1b103",
     ),
     (
         "t/ s/ k/ n/ c/",
@@ -100,22 +101,23 @@ pub static DIRECTORIES: [Row; 11] = [
     (
         "r/d/x r/d p/d n/d",
         20,
-        "ok ok ok - | K/d/x=File N/d=[x.] | 15+5 | /=d103 /d=1b103 /d/x=-",
+        "ok ok ok - | L/d=- K/d/x=File N/d=[x.] | 15+5 | /=d103 /d=1b103 /d/x=-",
     ),
     (
         "p/d/a p/d/z m/d/w n/d",
         20,
-        "ok ok ok [a.w.x.z.] | K/d/a=Absent K/d=Dir K/d/z=Absent K/d/w=Absent N/d=[x.] | 13+7 | /d=d103 /d/a=1b101 /d/w=d103 /d/z=1b102",
+        "ok ok ok [a.w.x.z.] | L/d=- L/d/a=- K/d/a=Absent K/d=Dir L/d/z=- K/d/z=Absent \
+        K/d/w=Absent N/d=[x.] | 13+7 | /d=d103 /d/a=1b101 /d/w=d103 /d/z=1b102",
     ),
     (
         "p/d/x n/d",
         20,
-        "ok [x.] | K/d/x=File K/d=Dir N/d=[x.] | 16+4 | /d/x=1b101",
+        "ok [x.] | L/d=- L/d/x=- K/d/x=File K/d=Dir L/d=- N/d=[x.] | 16+4 | /d/x=1b101",
     ),
     (
         "p/ m/ r/ p/a",
         20,
-        "!IsDir !Exists !Root ok | K/=Dir K/=Dir K/a=Absent K/=Dir | 18+2 | /=d101 /a=1b101",
+        "!IsDir !Exists !Root ok | K/=Dir K/=Dir L/a=- K/a=Absent K/=Dir | 18+2 | /=d101 /a=1b101",
     ),
 ];
 
@@ -124,16 +126,17 @@ pub static SPENT: [Row; 3] = [
     (
         "p/a p/b m/c",
         3,
-        "ok !Spent !Spent | K/a=Absent K/=Dir K/b=Absent | 0+3 | /=d101 /a=1b101",
+        "ok !Spent !Spent | L/a=- K/a=Absent K/=Dir L/b=- K/b=Absent | 0+3 | /=d101 /a=1b101",
     ),
     (
         "P/a P/b m/c",
         5,
-        "ok !Spent ok | K/a=Absent K/=Dir K/b=Absent K/c=Absent | 0+5 | /=d102 /a=300b101 /c=d102",
+        "ok !Spent ok | L/a=- K/a=Absent K/=Dir L/b=- K/b=Absent K/c=Absent | 0+5 | /=d102 \
+        /a=300b101 /c=d102",
     ),
     (
         "p/a c/a",
         3,
-        "ok !Spent | K/a=Absent K/=Dir | 0+3 | /=d101 /a=1b101",
+        "ok !Spent | L/a=- K/a=Absent K/=Dir | 0+3 | /=d101 /a=1b101",
     ),
 ];

@@ -35,6 +35,7 @@ fn wait<V: View>(desk: &mut Desk<V>, p: &Path, turns: u32) -> Result<bool, DeskN
         Kind::Absent => wait(desk, p, turns - 1),
         Kind::File => Ok(true),
         Kind::Dir => Ok(true),
+        Kind::Link => Ok(true),
     }
 }
 
@@ -48,6 +49,7 @@ fn known<V: View>(desk: &mut Desk<V>, p: &Path) -> Result<Kind, Option<DeskNo>>
             Kind::Absent => Err(None),
             Kind::File => Ok(Kind::File),
             Kind::Dir => Ok(Kind::Dir),
+            Kind::Link => Ok(Kind::Link),
         },
     }
 }

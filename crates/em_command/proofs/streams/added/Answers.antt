@@ -15,6 +15,10 @@ pub returns-in-File : goal.returns-in-File
 unfolding added
 returns-in-File g c = then _ (named_by _ c.in_ok-named.ensures c.kind.ensures.performs) (rw c.in-File.is finish)
 
+pub returns-in-Link : goal.returns-in-Link
+unfolding added
+returns-in-Link g c = then _ (named_by _ c.in_ok-named.ensures c.kind.ensures.performs) (rw c.in-Link.is finish)
+
 pub returns-in-Dir : goal.returns-in-Dir
 unfolding added
 returns-in-Dir g c = then _ (named_by _ c.in_ok-named.ensures c.kind.ensures.performs) (rw c.in-Dir.is (gave_error c.fault.ensures))

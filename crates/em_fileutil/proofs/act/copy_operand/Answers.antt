@@ -9,4 +9,4 @@ returns-in_err-target g c = leave_s _ c.from_residual.ensures.1 (given_s _ c.in_
 
 pub returns : goal.returns
 unfolding copy_operand
-returns g c = then_s _ (given_s _ c.in_ok-target.ensures) c.copy_node.ensures
+returns g c = then_s _ (given_s _ c.in_ok-target.ensures) c.copy_top.ensures

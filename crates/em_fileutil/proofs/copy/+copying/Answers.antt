@@ -4,8 +4,20 @@ use Rattle.em_view.proofs.Doing.{then_s, leave_s, refused_s}
 use Rattle.em_utility.proofs.Trying.{named_s}
 use Rattle.em_fileutil.proofs.Spotting.{there_s, given_s, ending_ok, ending_err, each_stop, each_more, each_end, yes_s, no_s}
 use Rattle.em_fileutil.proofs.Levels.{copy_level}
-use Rattle.em_fileutil.specs.Copying.{copy_child, copy_tree, recurs, copy_node, copy_beneath}
+use Rattle.em_fileutil.specs.Copying.{copy_child, copy_tree, recurs, copy_node, copy_linked, copy_beneath}
 use Rattle.em_fileutil.proofs.copy.+copying.Goals as goal
+
+pub copy_linked-returns-in_err-text : goal.copy_linked-returns-in_err-text
+unfolding copy_linked
+copy_linked-returns-in_err-text g t c = leave_s _ c.from_residual.ensures.1 (named_s _ c.in_err-text.ensures c.link.ensures.performs)
+
+pub copy_linked-returns-in-Some : goal.copy_linked-returns-in-Some
+unfolding copy_linked
+copy_linked-returns-in-Some g t c = then_s _ (named_s _ c.in_ok-text.ensures c.link.ensures.performs) (rw c.in-Some.is (c.copy_link.ensures c.args.done.now))
+
+pub copy_linked-returns-in-None : goal.copy_linked-returns-in-None
+unfolding copy_linked
+copy_linked-returns-in-None g t c = then_s _ (named_s _ c.in_ok-text.ensures c.link.ensures.performs) (rw c.in-None.is c.copy_node.ensures)
 
 pub copy_node-returns-in_err-tried : goal.copy_node-returns-in_err-tried
 unfolding copy_node
@@ -14,6 +26,10 @@ copy_node-returns-in_err-tried g t c = leave_s _ c.from_residual.ensures.1 (name
 pub copy_node-returns-in-Absent : goal.copy_node-returns-in-Absent
 unfolding copy_node
 copy_node-returns-in-Absent g t c = then_s _ (named_s _ c.in_ok-tried.ensures c.kind.ensures.performs) (rw c.in-Absent.is (refused_s _ c.told.ensures))
+
+pub copy_node-returns-in-Link : goal.copy_node-returns-in-Link
+unfolding copy_node
+copy_node-returns-in-Link g t c = then_s _ (named_s _ c.in_ok-tried.ensures c.kind.ensures.performs) (rw c.in-Link.is (refused_s _ c.told-in-Link.ensures))
 
 pub copy_node-returns-in-File : goal.copy_node-returns-in-File
 unfolding copy_node
@@ -65,4 +81,4 @@ pub copy_child-returns-then-left-eq0 : goal.copy_child-returns-then-left-eq0
 copy_child-returns-then-left-eq0 g t c = then_s _ (given_s _ c.in_ok-from.ensures) (then_s _ (given_s _ c.in_ok-to.ensures) (rw c.if-left-eq0.true (refused_s _ c.fault.ensures)))
 
 pub copy_child-returns : goal.copy_child-returns
-copy_child-returns g t c = then_s _ (given_s _ c.in_ok-from.ensures) (then_s _ (given_s _ c.in_ok-to.ensures) (copy_level c.args.utility.now c.args.manner _ _ c.args.left (omega arith) c.copy_node.ensures))
+copy_child-returns g t c = then_s _ (given_s _ c.in_ok-from.ensures) (then_s _ (given_s _ c.in_ok-to.ensures) (copy_level c.args.utility.now c.args.manner _ _ c.args.left (omega arith) c.copy_linked.ensures))

@@ -12,6 +12,10 @@ pub returns-in-Absent : goal.returns-in-Absent
 unfolding list_operand
 returns-in-Absent g c = then_s _ (named_s _ c.in_ok-tried.ensures c.kind.ensures.performs) (rw c.in-Absent.is (refused_s _ c.told.ensures))
 
+pub returns-in-Link : goal.returns-in-Link
+unfolding list_operand
+returns-in-Link g c = then_s _ (named_s _ c.in_ok-tried.ensures c.kind.ensures.performs) (rw c.in-Link.is (refused_s _ c.told-in-Link.ensures))
+
 pub returns-in-File : goal.returns-in-File
 unfolding list_operand
 returns-in-File g c = then_s _ (named_s _ c.in_ok-tried.ensures c.kind.ensures.performs) (rw c.in-File.is (owned_s _ c.list_itself.ensures))

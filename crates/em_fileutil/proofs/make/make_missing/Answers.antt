@@ -18,3 +18,7 @@ returns-in-File g c = λ d. then_s _ (named_s _ c.in_ok-named.ensures c.kind.ens
 pub returns-in-Dir : goal.returns-in-Dir
 unfolding make_missing
 returns-in-Dir g c = λ d. then_s _ (named_s _ c.in_ok-named.ensures c.kind.ensures.performs) (rw c.in-Dir.is finish_s)
+
+pub returns-in-Link : goal.returns-in-Link
+unfolding make_missing
+returns-in-Link g c = λ d. then_s _ (named_s _ c.in_ok-named.ensures c.kind.ensures.performs) (rw c.in-Link.is finish_s)

@@ -3,18 +3,14 @@ use Rattle.em_utility.proofs.Trying.{named_s}
 use Rattle.em_fileutil.specs.Making.{remove_directory}
 use Rattle.em_fileutil.proofs.make.remove_directory.Goals as goal
 
-pub returns-in_err-tried : goal.returns-in_err-tried
+pub returns-in_err-_text : goal.returns-in_err-_text
 unfolding remove_directory
-returns-in_err-tried g c = λ d. leave_s _ c.from_residual.ensures.1 (named_s _ c.in_err-tried.ensures c.kind.ensures.performs)
+returns-in_err-_text g c = λ d. leave_s _ c.from_residual.ensures.1 (named_s _ c.in_err-_text.ensures c.link.ensures.performs)
 
-pub returns-in-Absent : goal.returns-in-Absent
+pub returns-in-Some : goal.returns-in-Some
 unfolding remove_directory
-returns-in-Absent g c = λ d. then_s _ (named_s _ c.in_ok-tried.ensures c.kind.ensures.performs) (rw c.in-Absent.is (named_s _ c.tried-in-Absent.ensures c.remove.ensures.performs))
+returns-in-Some g c = λ d. then_s _ (named_s _ c.in_ok-_text.ensures c.link.ensures.performs) (rw c.in-Some.is (refused_s _ c.told.ensures))
 
-pub returns-in-File : goal.returns-in-File
+pub returns-in-None : goal.returns-in-None
 unfolding remove_directory
-returns-in-File g c = λ d. then_s _ (named_s _ c.in_ok-tried.ensures c.kind.ensures.performs) (rw c.in-File.is (refused_s _ c.told.ensures))
-
-pub returns-in-Dir : goal.returns-in-Dir
-unfolding remove_directory
-returns-in-Dir g c = λ d. then_s _ (named_s _ c.in_ok-tried.ensures c.kind.ensures.performs) (rw c.in-Dir.is (named_s _ c.tried-in-Dir.ensures c.remove-in-Dir.ensures.performs))
+returns-in-None g c = λ d. then_s _ (named_s _ c.in_ok-_text.ensures c.link.ensures.performs) (rw c.in-None.is (c.remove_other_directory.ensures d))

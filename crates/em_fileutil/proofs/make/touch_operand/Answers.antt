@@ -18,3 +18,7 @@ returns-in-File g c = λ d. then_s _ (named_s _ c.in_ok-tried.ensures c.kind.ens
 pub returns-in-Dir : goal.returns-in-Dir
 unfolding touch_operand
 returns-in-Dir g c = λ d. then_s _ (named_s _ c.in_ok-tried.ensures c.kind.ensures.performs) (rw c.in-Dir.is (named_s _ c.tried-in-Dir.ensures c.touch-in-Dir.ensures.performs))
+
+pub returns-in-Link : goal.returns-in-Link
+unfolding touch_operand
+returns-in-Link g c = λ d. then_s _ (named_s _ c.in_ok-tried.ensures c.kind.ensures.performs) (rw c.in-Link.is (named_s _ c.tried-in-Link.ensures c.touch-in-Link.ensures.performs))

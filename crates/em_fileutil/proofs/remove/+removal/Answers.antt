@@ -5,28 +5,44 @@ use Rattle.em_view.proofs.Doing.{then_s, leave_s, refused_s}
 use Rattle.em_utility.proofs.Trying.{named_s}
 use Rattle.em_fileutil.proofs.Spotting.{there_s, given_s, ending_ok, ending_err, each_stop, each_more, each_end, yes_s, no_s}
 use Rattle.em_fileutil.proofs.Levels.{remove_level}
-use Rattle.em_fileutil.specs.Removing.{remove_child, remove_tree, remove_node, remove_beneath}
+use Rattle.em_fileutil.specs.Removing.{remove_child, remove_tree, remove_other, remove_node, remove_beneath}
 use Rattle.em_fileutil.proofs.remove.+removal.Goals as goal
 
-pub remove_node-returns-in_err-tried : goal.remove_node-returns-in_err-tried
+pub remove_node-returns-in_err-_text : goal.remove_node-returns-in_err-_text
 unfolding remove_node
-remove_node-returns-in_err-tried g t c = leave_s _ c.from_residual.ensures.1 (named_s _ c.in_err-tried.ensures c.kind.ensures.performs)
+remove_node-returns-in_err-_text g t c = leave_s _ c.from_residual.ensures.1 (named_s _ c.in_err-_text.ensures c.link.ensures.performs)
 
-pub remove_node-returns-in-Absent : goal.remove_node-returns-in-Absent
+pub remove_node-returns-in-Some : goal.remove_node-returns-in-Some
 unfolding remove_node
-remove_node-returns-in-Absent g t c = then_s _ (named_s _ c.in_ok-tried.ensures c.kind.ensures.performs) (rw c.in-Absent.is (given_s _ c.absent.ensures))
+remove_node-returns-in-Some g t c = then_s _ (named_s _ c.in_ok-_text.ensures c.link.ensures.performs) (rw c.in-Some.is (named_s _ c.tried-in-Some.ensures c.remove.ensures.performs))
 
-pub remove_node-returns-in-File : goal.remove_node-returns-in-File
+pub remove_node-returns-in-None : goal.remove_node-returns-in-None
 unfolding remove_node
-remove_node-returns-in-File g t c = then_s _ (named_s _ c.in_ok-tried.ensures c.kind.ensures.performs) (rw c.in-File.is (named_s _ c.tried-in-File.ensures c.remove.ensures.performs))
+remove_node-returns-in-None g t c = then_s _ (named_s _ c.in_ok-_text.ensures c.link.ensures.performs) (rw c.in-None.is c.remove_other.ensures)
 
-pub remove_node-returns-then-how : goal.remove_node-returns-then-how
-unfolding remove_node
-remove_node-returns-then-how g t c = then_s _ (named_s _ c.in_ok-tried.ensures c.kind.ensures.performs) (rw c.in-Dir.is (yes_s c.args.how.recursive _ c.if-how.true c.remove_tree.ensures))
+pub remove_other-returns-in_err-tried : goal.remove_other-returns-in_err-tried
+unfolding remove_other
+remove_other-returns-in_err-tried g t c = leave_s _ c.from_residual.ensures.1 (named_s _ c.in_err-tried.ensures c.kind.ensures.performs)
 
-pub remove_node-returns-else-how : goal.remove_node-returns-else-how
-unfolding remove_node
-remove_node-returns-else-how g t c = then_s _ (named_s _ c.in_ok-tried.ensures c.kind.ensures.performs) (rw c.in-Dir.is (no_s c.args.how.recursive _ c.if-how.false (refused_s _ c.told.ensures)))
+pub remove_other-returns-in-Absent : goal.remove_other-returns-in-Absent
+unfolding remove_other
+remove_other-returns-in-Absent g t c = then_s _ (named_s _ c.in_ok-tried.ensures c.kind.ensures.performs) (rw c.in-Absent.is (given_s _ c.absent.ensures))
+
+pub remove_other-returns-in-File : goal.remove_other-returns-in-File
+unfolding remove_other
+remove_other-returns-in-File g t c = then_s _ (named_s _ c.in_ok-tried.ensures c.kind.ensures.performs) (rw c.in-File.is (named_s _ c.tried-in-File.ensures c.remove.ensures.performs))
+
+pub remove_other-returns-in-Link : goal.remove_other-returns-in-Link
+unfolding remove_other
+remove_other-returns-in-Link g t c = then_s _ (named_s _ c.in_ok-tried.ensures c.kind.ensures.performs) (rw c.in-Link.is (named_s _ c.tried-in-Link.ensures c.remove-in-Link.ensures.performs))
+
+pub remove_other-returns-then-how : goal.remove_other-returns-then-how
+unfolding remove_other
+remove_other-returns-then-how g t c = then_s _ (named_s _ c.in_ok-tried.ensures c.kind.ensures.performs) (rw c.in-Dir.is (yes_s c.args.how.recursive _ c.if-how.true c.remove_tree.ensures))
+
+pub remove_other-returns-else-how : goal.remove_other-returns-else-how
+unfolding remove_other
+remove_other-returns-else-how g t c = then_s _ (named_s _ c.in_ok-tried.ensures c.kind.ensures.performs) (rw c.in-Dir.is (no_s c.args.how.recursive _ c.if-how.false (refused_s _ c.told.ensures)))
 
 pub remove_tree-returns-in_err-inside : goal.remove_tree-returns-in_err-inside
 unfolding remove_tree

@@ -7,16 +7,19 @@ use Rattle.em_fileutil.specs.Removing.{remove_child, remove_beneath}
 use Rattle.em_fileutil.proofs.remove.+removal.Given as goal
 
 abbrev pub decreases-remove_node : goal.decreases-remove_node
-decreases-remove_node g l = 4 * l.left + 3
+decreases-remove_node g l = 5 * l.left + 4
+
+abbrev pub decreases-remove_other : goal.decreases-remove_other
+decreases-remove_other g l = 5 * l.left + 3
 
 abbrev pub decreases-remove_tree : goal.decreases-remove_tree
-decreases-remove_tree g l = 4 * l.left + 2
+decreases-remove_tree g l = 5 * l.left + 2
 
 abbrev pub decreases-remove_each : goal.decreases-remove_each
-decreases-remove_each g l = 4 * l.left + 1
+decreases-remove_each g l = 5 * l.left + 1
 
 abbrev pub decreases-remove_child : goal.decreases-remove_child
-decreases-remove_child g l = 4 * l.left
+decreases-remove_child g l = 5 * l.left
 
 -- whatever goes on with the names left goes on with the whole
 abbrev pub invariant-remove_each-loop-name : goal.invariant-remove_each-loop-name

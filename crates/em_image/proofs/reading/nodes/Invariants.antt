@@ -11,7 +11,7 @@ use Rattle.em_image.proofs.reading.nodes.Given as goal
 -- what is still read gives the whole, and the home is a directory of what was read
 abbrev pub invariant-loop : goal.invariant-loop
 invariant-loop l = record {
-  loop : Loop (limits.nodes - l.counter) l.last l.tree (seen l.here) (nodes_at limits (limits.nodes - 1) root_text (map.insert map.empty root_text (node.Dir l.root_stamp)) (seen l.fn.cursor));
+  loop : Loop l.links l.due (limits.nodes - l.counter) l.last l.tree (seen l.here) (nodes_at limits l.links l.links (limits.nodes - 1) root_text (map.insert map.empty root_text (node.Dir l.root_stamp)) (seen l.fn.cursor));
   at : IsAt l.input (seen l.here);
   home : has_dir l.tree (Some l.home) ≡ true;
 }

@@ -5,4 +5,4 @@ use Rattle.em_image.proofs.reading.root.Goals as goal
 pub header-requires : goal.header-requires
 header-requires c =
     let h = seen c.args.cursor in
-    at_ok after c.args.input.now h (mark_at h) (c.in_ok-mark.mark, seen c.in_ok-mark.after) c.requires (mark_reads h) c.in_ok-mark.ensures
+    at_ok after c.args.input.now h (mark_at c.args.links h) (c.in_ok-mark.mark, seen c.in_ok-mark.after) c.requires (mark_reads c.args.links h) c.in_ok-mark.ensures

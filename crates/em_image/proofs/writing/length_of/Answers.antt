@@ -11,16 +11,16 @@ returns-then-count-gt-MAX_NODES-clause-exact c =
 pub returns-then-has_big_file-clause-exact : goal.returns-then-has_big_file-clause-exact
 returns-then-has_big_file-clause-exact c =
     file_broken limits (entries c.args.tree.now) (fits_in _ c.in-Some.field-0.room _ c.in-Some.ensures.text) (few c.args.tree.now c.count.result c.count.ensures.count c.if-count-gt-MAX_NODES.false)
-    (sym c.in-Some.ensures.nodes.0 ∙ c.if-has_big_file.true)
+    (sym c.in-Some.ensures.nodes.1 ∙ c.if-has_big_file.true)
 
 pub returns-then-has_late_stamp-clause-exact : goal.returns-then-has_late_stamp-clause-exact
 returns-then-has_late_stamp-clause-exact c =
     stamp_broken limits (entries c.args.tree.now) (fits_in _ c.in-Some.field-0.room _ c.in-Some.ensures.text) (few c.args.tree.now c.count.result c.count.ensures.count c.if-count-gt-MAX_NODES.false)
-    (sym c.in-Some.ensures.nodes.0 ∙ c.if-has_big_file.false) (sym c.in-Some.ensures.nodes.1 ∙ c.if-has_late_stamp.true)
+    (sym c.in-Some.ensures.nodes.1 ∙ c.if-has_big_file.false) (sym c.in-Some.ensures.nodes.2 ∙ c.if-has_late_stamp.true)
 
 pub returns-clause-exact : goal.returns-clause-exact
 returns-clause-exact c = (
   none_broken limits (entries c.args.tree.now) (fits_in _ c.in-Some.field-0.room _ c.in-Some.ensures.text) (few c.args.tree.now c.count.result c.count.ensures.count c.if-count-gt-MAX_NODES.false)
-      (sym c.in-Some.ensures.nodes.0 ∙ c.if-has_big_file.false) (sym c.in-Some.ensures.nodes.1 ∙ c.if-has_late_stamp.false),
+      (sym c.in-Some.ensures.nodes.1 ∙ c.if-has_big_file.false) (sym c.in-Some.ensures.nodes.2 ∙ c.if-has_late_stamp.false),
   omega (arith, c.in-Some.ensures.text),
 )

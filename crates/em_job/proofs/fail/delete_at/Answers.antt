@@ -19,3 +19,7 @@ returns-in-Ok-Dir g c = then_s _ (below_ok (stops.of_desk c.args.place.now) c.in
 pub returns-in-Err : goal.returns-in-Err
 unfolding delete_at
 returns-in-Err g c = exit_s _ (below_err (stops.of_desk c.args.place.now) (desk_free c.args.place.now) c.of_desk.ensures c.in-Err.ensures.performs)
+
+pub returns-in-Ok-Link : goal.returns-in-Ok-Link
+unfolding delete_at
+returns-in-Ok-Link g c = then_s _ (below_ok (stops.of_desk c.args.place.now) c.in-Ok-Link.ensures.performs) (rw c.in-Ok-Link.field-0-is finish_s)

@@ -6,5 +6,5 @@ returns c = record {
   by_order = λ j befores p said o w e. without_order j p befores said o w e;
   phony = λ j befores p said o w all. phony_stay j p befores said o w all;
   kept = λ j befores p said s w all. all_kept j p s befores said w all;
-  others = λ j befores p said s w q all. others_stay j p s befores said w q all;
+  others = λ j befores p said s w q bare all. others_stay j p s befores said w q bare all;
 }

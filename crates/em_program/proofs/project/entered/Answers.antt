@@ -8,12 +8,12 @@ use Rattle.em_program.proofs.project.entered.Goals as goal
 pub returns-in-Dir-clause-told : goal.returns-in-Dir-clause-told
 returns-in-Dir-clause-told g c =
     let ok = rw c.root.ensures.text at c.in-Ok.ensures.ok in
-    rw (entered_dir _ _ _ ok.0 ok.1 (sym c.in-Dir.ensures.kind)) finish
+    rw (entered_dir _ _ _ ok.0 ok.1 (sym c.in_ok-kind-in-Ok.ensures ∙ c.in-Dir.is)) finish
 
 pub returns-in-Ok-clause-told : goal.returns-in-Ok-clause-told
 returns-in-Ok-clause-told g c =
     let ok = rw c.root.ensures.text at c.in-Ok.ensures.ok in
-    rw (entered_other _ _ _ ok.0 ok.1 (λ dir. c.in_default.not-Dir (c.kind.ensures.kind ∙ dir))) c.no_dir.ensures.told
+    rw (entered_other _ _ _ ok.0 ok.1 (λ dir. c.in_default.not-Dir (c.in_ok-kind-in-Ok.ensures ∙ dir))) c.no_dir.ensures.told
 
 pub returns-in-Ok-clause-path : goal.returns-in-Ok-clause-path
 returns-in-Ok-clause-path g c = if_err (λ (p : List ℕ). read_fault root_text c.args.name.now ≡ None) c.no_dir.result c.no_dir.ensures.ends

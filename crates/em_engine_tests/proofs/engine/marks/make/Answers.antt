@@ -24,3 +24,7 @@ returns-in_ok-say-in-File g c = then_s _ (below_ok itself c.in_ok-kind.ensures.p
 pub returns-in_ok-say-in-Dir : goal.returns-in_ok-say-in-Dir
 unfolding mark
 returns-in_ok-say-in-Dir g c = then_s _ (below_ok itself c.in_ok-kind.ensures.performs) (rw c.in-Dir.is (then_s _ (owned_s (said _) c.in_ok-say-in-Dir.ensures) finish_s))
+
+pub returns-in_ok-say-in-Link : goal.returns-in_ok-say-in-Link
+unfolding mark
+returns-in_ok-say-in-Link g c = then_s _ (below_ok itself c.in_ok-kind.ensures.performs) (rw c.in-Link.is (then_s _ (owned_s (said _) c.in_ok-say-in-Link.ensures) finish_s))

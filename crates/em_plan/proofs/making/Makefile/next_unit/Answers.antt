@@ -7,13 +7,13 @@ use Rattle.em_plan.proofs.making.Makefile.next_unit.Goals as goal
 pub returns-then-is_double : goal.returns-then-is_double
 returns-then-is_double c = subst (λ x. IfOk c.double_at.result (λ o. o ≡ x))
     (sym (next_double c.args.self.now (known_in c.args.marks.now) c.args.name.now (length (numbers_in c.args.marks.now c.args.name.now)) (sym c.is_double.ensures ∙ c.if-is_double.true)))
-    (rw c.numbers-place.ensures at c.double_at.ensures)
+    (rw c.requires at c.double_at.ensures)
 
 pub returns-then-place-gt0 : goal.returns-then-place-gt0
 returns-then-place-gt0 c = sym (next_none c.args.self.now (known_in c.args.marks.now) c.args.name.now (length (numbers_in c.args.marks.now c.args.name.now)) (sym c.is_double.ensures ∙ c.if-is_double.false)
-    (let e = ap length c.numbers-place.ensures in omega (arith, e, c.if-place-gt0.true)))
+    (let e = c.requires in omega (arith, e, c.if-place-gt0.true)))
 
 pub returns : goal.returns
 returns c = ap Some c.in_ok-unit.ensures
     ∙ sym (next_single c.args.self.now (known_in c.args.marks.now) c.args.name.now (length (numbers_in c.args.marks.now c.args.name.now)) (sym c.is_double.ensures ∙ c.if-is_double.false)
-    (let e = ap length c.numbers-place.ensures in omega (arith, e, c.if-place-gt0.false)))
+    (let e = c.requires in omega (arith, e, c.if-place-gt0.false)))

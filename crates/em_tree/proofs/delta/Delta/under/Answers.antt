@@ -6,8 +6,8 @@ use Rattle.em_tree.proofs.delta.Delta.under.Goals as goal
 
 pub returns-in-Some : goal.returns-in-Some
 returns-in-Some c = rw (← c.self.view_is) (c.iter.ensures.rest ∙ children_are c.self.inside.named c.args.p.now c.in-Some.paths.now c.iter.ensures.ordered
-    (λ k. ap (λ (o : Option (BTreeSet (List ℕ))). is_in o k) c.in-Some.ensures.value ∙ c.self.invariant.exact c.args.p.now k))
+    (λ k. ap (λ (o : Option (BTreeSet (List ℕ))). is_in o k) c.in-Some.ensures.value ∙ c.self.invariant.0.exact c.args.p.now k))
 
 pub returns-in-None : goal.returns-in-None
 returns-in-None c = rw (← c.self.view_is) (children_none c.self.inside.named c.args.p.now
-    (λ k. ap (λ (o : Option (BTreeSet (List ℕ))). is_in o k) c.in-None.ensures.value ∙ c.self.invariant.exact c.args.p.now k))
+    (λ k. ap (λ (o : Option (BTreeSet (List ℕ))). is_in o k) c.in-None.ensures.value ∙ c.self.invariant.0.exact c.args.p.now k))

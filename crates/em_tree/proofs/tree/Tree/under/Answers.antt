@@ -6,8 +6,8 @@ use Rattle.em_tree.proofs.tree.Tree.under.Goals as goal
 
 pub returns-in-Some-clause-children : goal.returns-in-Some-clause-children
 returns-in-Some-clause-children c = rw (← c.self.view_is) (c.iter.ensures.rest ∙ children_are c.self.inside.nodes c.args.p.now c.in-Some.paths.now c.iter.ensures.ordered
-    (λ k. ap (λ (o : Option (BTreeSet (List ℕ))). is_in o k) c.in-Some.ensures.value ∙ c.self.invariant.1.exact c.args.p.now k))
+    (λ k. ap (λ (o : Option (BTreeSet (List ℕ))). is_in o k) c.in-Some.ensures.value ∙ c.self.invariant.1.0.exact c.args.p.now k))
 
 pub returns-in-None-clause-children : goal.returns-in-None-clause-children
 returns-in-None-clause-children c = rw (← c.self.view_is) (children_none c.self.inside.nodes c.args.p.now
-    (λ k. ap (λ (o : Option (BTreeSet (List ℕ))). is_in o k) c.in-None.ensures.value ∙ c.self.invariant.1.exact c.args.p.now k))
+    (λ k. ap (λ (o : Option (BTreeSet (List ℕ))). is_in o k) c.in-None.ensures.value ∙ c.self.invariant.1.0.exact c.args.p.now k))

@@ -6,14 +6,20 @@ pub returns-in_err-take-clause-performs : goal.returns-in_err-take-clause-perfor
 unfolding content
 returns-in_err-take-clause-performs g c = leave _ c.from_residual.ensures.1 c.in_err-take.ensures.performs
 
+pub returns-in_err-led-clause-performs : goal.returns-in_err-led-clause-performs
+unfolding content
+returns-in_err-led-clause-performs g c = then _ c.in_ok-take.ensures.performs (leave _ c.from_residual-in_err-led.ensures.1 c.in_err-led.ensures.performs)
+
 pub returns-in_err-body-clause-performs : goal.returns-in_err-body-clause-performs
 unfolding content
-returns-in_err-body-clause-performs g c = then _ c.in_ok-take.ensures.performs (leave _ c.from_residual-in_err-body.ensures.1 c.in_err-body.ensures.performs)
+returns-in_err-body-clause-performs g c = then _ c.in_ok-take.ensures.performs (then _ c.in_ok-led.ensures.performs (leave _ c.from_residual-in_err-body.ensures.1 c.in_err-body.ensures.performs))
 
 pub returns-in_err-take-2-clause-performs : goal.returns-in_err-take-2-clause-performs
 unfolding content
-returns-in_err-take-2-clause-performs g c = then _ c.in_ok-take.ensures.performs (then _ c.in_ok-body.ensures.performs (leave _ c.from_residual-in_err-take-2.ensures.1 (rw (c.blocks-2.ensures, c.body_size.ensures) at c.in_err-take-2.ensures.performs)))
+returns-in_err-take-2-clause-performs g c = then _ c.in_ok-take.ensures.performs (then _ c.in_ok-led.ensures.performs (then _ c.in_ok-body.ensures.performs
+    (leave _ c.from_residual-in_err-take-2.ensures.1 (rw (c.blocks-2.ensures, c.body_size.ensures) at c.in_err-take-2.ensures.performs))))
 
 pub returns-clause-performs : goal.returns-clause-performs
 unfolding content
-returns-clause-performs g c = then _ c.in_ok-take.ensures.performs (then _ c.in_ok-body.ensures.performs (then _ (rw (c.blocks-2.ensures, c.body_size.ensures) at c.in_ok-take-2.ensures.performs) finish))
+returns-clause-performs g c = then _ c.in_ok-take.ensures.performs (then _ c.in_ok-led.ensures.performs (then _ c.in_ok-body.ensures.performs
+    (then _ (rw (c.blocks-2.ensures, c.body_size.ensures) at c.in_ok-take-2.ensures.performs) finish)))

@@ -1,41 +1,19 @@
-use Rattle.std.proofs.Common.{refl, sym, ap, ◌∙◌}
 use Rattle.em_view.specs.Rows.{put}
-use Rattle.em_view.proofs.Performing.{then, exit, leave, finish, refused}
-use Rattle.em_view.proofs.Looking.{put_fits, stamped_above, apart, above_path, applied, numbered, room_paid, sound_still}
-use Rattle.em_view.proofs.Fitting.{paths_becomes}
+use Rattle.em_view.proofs.Performing.{then, leave}
+use Rattle.em_view.proofs.Looking.{sound_still}
 use Rattle.em_view.proofs.desk.Desk.put.Goals as goal
 
 pub returns-in_err-ready-clause-performs : goal.returns-in_err-ready-clause-performs
 unfolding put
 returns-in_err-ready-clause-performs g c = leave _ c.from_residual.ensures.1 c.in_err-ready.ensures.performs
 
-pub returns-in_err-spot-clause-performs : goal.returns-in_err-spot-clause-performs
+pub returns-in_err-target-clause-performs : goal.returns-in_err-target-clause-performs
 unfolding put
-returns-in_err-spot-clause-performs g c = then _ c.in_ok-ready.ensures.performs (leave _ c.from_residual-in_err-spot.ensures.1 c.in_err-spot.ensures.performs)
+returns-in_err-target-clause-performs g c = then _ c.in_ok-ready.ensures.performs (leave _ c.from_residual-in_err-target.ensures.1 c.in_err-target.ensures.performs)
 
-pub returns-in-Some-clause-performs : goal.returns-in-Some-clause-performs
-unfolding put
-returns-in-Some-clause-performs g c = then _ c.in_ok-ready.ensures.performs (then _ c.in_ok-spot.ensures.performs (rw (sym c.in-Some.ensures) (exit _ refused)))
-
-pub returns-in_err-pay-clause-performs : goal.returns-in_err-pay-clause-performs
-unfolding put
-returns-in_err-pay-clause-performs g c = then _ c.in_ok-ready.ensures.performs (then _ c.in_ok-spot.ensures.performs (rw (sym c.in_default.ensures) (then _ finish (leave _ c.from_residual-in_err-pay.ensures.1 (rw c.blocks-2.ensures at c.in_err-pay.ensures.performs)))))
-
-pub change-requires-clause-apart : goal.change-requires-clause-apart
-change-requires-clause-apart g c = rw (c.in_ok-copy.ensures, c.stamped.ensures) (apart c.args.p.now _ (stamped_above _ _ c.in_ok-spot.spot.0 c.in_ok-above.ensures.ok))
-
-pub change-requires-clause-room : goal.change-requires-clause-room
-change-requires-clause-room g c = room_paid c.look.new.self c.pay.new.self _ (sound_still c.ready.new.self c.look.new.self _ c.in_ok-spot.ensures.still c.in_ok-spot.ensures.performs.grows.grew c.in_ok-ready.ensures.sound).room c.in_ok-pay.ensures.ok.0 c.in_ok-pay.ensures.ok.1
-
-pub change-requires-clause-fits : goal.change-requires-clause-fits
-change-requires-clause-fits g c = rw (c.in_ok-copy.ensures, c.stamped.ensures) (put_fits c.ready.new.self c.look.new.self c.pay.new.self c.args.p.now c.in_ok-spot.spot _ c.text-text.ensures.path c.in_ok-ready.ensures.sound.fits
-    c.in_ok-spot.ensures.performs (ap (λ d. d.usage) c.in_ok-pay.ensures.ok.0) (c.in_ok-pay.ensures.still ∙ ap (λ w. w.changes) c.in_ok-spot.ensures.still) (stamped_above _ _ c.in_ok-spot.spot.0 c.in_ok-above.ensures.ok) _ _ _ (sym c.in_default.ensures))
-
-pub change-requires-clause-paths : goal.change-requires-clause-paths
-change-requires-clause-paths g c = rw (c.in_ok-copy.ensures, c.stamped.ensures, c.in_ok-pay.ensures.still, ap (λ w. w.changes) c.in_ok-spot.ensures.still) (paths_becomes c.args.p.now _ _ _ _ c.in_ok-ready.ensures.sound.paths c.text-text.ensures.path (above_path c.in_ok-above.above _ c.in_ok-above.ensures.path (stamped_above _ _ c.in_ok-spot.spot.0 refl)))
+pub put_at-requires-clause-sound : goal.put_at-requires-clause-sound
+put_at-requires-clause-sound g c = sound_still c.ready.new.self c.target.new.self _ c.in_ok-target.ensures.still c.in_ok-target.ensures.performs.grows.grew c.in_ok-ready.ensures.sound
 
 pub returns-clause-performs : goal.returns-clause-performs
 unfolding put
-returns-clause-performs g c =
-    let made = applied {tells = g.V.View.tells} c.pay.new.self c.change.new.self _ _ _ c.change.result c.change.ensures.ok c.change.ensures.err c.change.ensures.only in
-    then _ c.in_ok-ready.ensures.performs (then _ c.in_ok-spot.ensures.performs (rw (sym c.in_default.ensures) (then _ finish (then _ (rw c.blocks-2.ensures at c.in_ok-pay.ensures.performs) (then _ (numbered c.pay.new.self c.number-stamp.result c.number-stamp.ensures) (rw (c.in_ok-copy.ensures, c.in_ok-body.ensures, c.stamped.ensures, c.in_ok-above.ensures.ok) at made))))))
+returns-clause-performs g c = then _ c.in_ok-ready.ensures.performs (then _ c.in_ok-target.ensures.performs c.put_at.ensures.performs)

@@ -17,7 +17,7 @@ pub take_away-requires-clause-sound : goal.take_away-requires-clause-sound
 take_away-requires-clause-sound g c = sound_still c.args.self.now c.names_below.new.self _ c.in_ok-names.ensures.still c.in_ok-names.ensures.performs.grows.grew c.requires.sound
 
 pub take_away-requires-clause-gone : goal.take_away-requires-clause-gone
-take_away-requires-clause-gone g c = dir_goes c.args.self.now c.names_below.new.self c.args.p.now _ c.requires.sound.fits c.requires.sound.paths c.requires.seen (ap (λ w. w.changes) c.in_ok-names.ensures.still) c.in_ok-names.ensures.performs (sym c.in_default.ensures)
+take_away-requires-clause-gone g c = dir_goes c.args.self.now c.names_below.new.self c.args.q.now _ c.requires.sound.fits c.requires.sound.paths c.requires.seen (ap (λ w. w.changes) c.in_ok-names.ensures.still) c.in_ok-names.ensures.performs (sym c.in_default.ensures)
 
 pub returns-clause-performs : goal.returns-clause-performs
 unfolding remove_dir

@@ -1,11 +1,25 @@
 use Rattle.em_view.specs.Rows.{stamp_at}
-use Rattle.em_view.proofs.Performing.{then, leave}
+use Rattle.em_view.proofs.Performing.{then, leave, finish}
 use Rattle.em_view.proofs.desk.Desk.stamp.Goals as goal
 
 pub returns-in_err-take-clause-performs : goal.returns-in_err-take-clause-performs
 unfolding stamp_at
 returns-in_err-take-clause-performs g c = leave _ c.from_residual.ensures.1 c.in_err-take.ensures.performs
 
+pub returns-in_err-led-clause-performs : goal.returns-in_err-led-clause-performs
+unfolding stamp_at
+returns-in_err-led-clause-performs g c = then _ c.in_ok-take.ensures.performs (leave _ c.from_residual-in_err-led.ensures.1 c.in_err-led.ensures.performs)
+
+pub returns-in_err-stamp-clause-performs : goal.returns-in_err-stamp-clause-performs
+unfolding stamp_at
+returns-in_err-stamp-clause-performs g c = then _ c.in_ok-take.ensures.performs (then _ c.in_ok-led.ensures.performs (leave _ c.from_residual-in_err-stamp.ensures.1 c.in_err-stamp.ensures.performs))
+
+pub returns-in_err-take-2-clause-performs : goal.returns-in_err-take-2-clause-performs
+unfolding stamp_at
+returns-in_err-take-2-clause-performs g c = then _ c.in_ok-take.ensures.performs (then _ c.in_ok-led.ensures.performs (then _ c.in_ok-stamp.ensures.performs
+    (leave _ c.from_residual-in_err-take-2.ensures.1 c.in_err-take-2.ensures.performs)))
+
 pub returns-clause-performs : goal.returns-clause-performs
 unfolding stamp_at
-returns-clause-performs g c = then _ c.in_ok-take.ensures.performs c.stamp_below.ensures.performs
+returns-clause-performs g c = then _ c.in_ok-take.ensures.performs (then _ c.in_ok-led.ensures.performs (then _ c.in_ok-stamp.ensures.performs
+    (then _ c.in_ok-take-2.ensures.performs finish)))

@@ -12,13 +12,13 @@ unfolding touch_dir
 returns-in_err-pay-clause-performs g c = leave _ c.from_residual.ensures.1 c.in_err-pay.ensures.performs
 
 pub change-requires-clause-room : goal.change-requires-clause-room
-change-requires-clause-room g c = room_paid c.args.self.now c.pay.new.self 0 c.requires.sound.room c.in_ok-pay.ensures.ok.0 c.in_ok-pay.ensures.ok.1
+change-requires-clause-room g c = room_paid c.args.self.now c.pay.new.self _ c.requires.sound.room c.in_ok-pay.ensures.ok.0 c.in_ok-pay.ensures.ok.1
 
 pub change-requires-clause-fits : goal.change-requires-clause-fits
-change-requires-clause-fits g c = rw (c.in_ok-copy.ensures, ap (λ d. d.usage) c.in_ok-pay.ensures.ok.0, ap (λ d. d.work.changes) c.in_ok-pay.ensures.ok.0) (touch_fits c.args.self.now c.args.p.now _ 0 c.requires.sound.fits c.requires.seen)
+change-requires-clause-fits g c = rw (c.in_ok-copy.ensures, ap (λ d. d.usage) c.in_ok-pay.ensures.ok.0, ap (λ d. d.work.changes) c.in_ok-pay.ensures.ok.0) (touch_fits c.args.self.now c.args.q.now _ 0 c.requires.sound.fits c.requires.seen)
 
 pub change-requires-clause-paths : goal.change-requires-clause-paths
-change-requires-clause-paths g c = rw (c.in_ok-copy.ensures, ap (λ d. d.work.changes) c.in_ok-pay.ensures.ok.0) (paths_becomes c.args.p.now _ None 0 _ c.requires.sound.paths c.requires.path tt)
+change-requires-clause-paths g c = rw (c.in_ok-copy.ensures, ap (λ d. d.work.changes) c.in_ok-pay.ensures.ok.0) (paths_becomes c.args.q.now _ None 0 _ c.requires.sound.paths c.requires.path tt)
 
 pub returns-clause-performs : goal.returns-clause-performs
 unfolding touch_dir

@@ -21,13 +21,13 @@ unfolding touch_file
 returns-in_err-pay-clause-performs g c = then _ c.in_ok-body.ensures.performs (rw c.in-Some.is (leave _ c.from_residual-in_err-pay.ensures.1 c.in_err-pay.ensures.performs))
 
 pub change-requires-clause-room : goal.change-requires-clause-room
-change-requires-clause-room g c = room_paid c.content_below.new.self c.pay.new.self 0 (sound_still c.args.self.now c.content_below.new.self _ c.in_ok-body.ensures.still c.in_ok-body.ensures.performs.grows.grew c.requires.sound).room c.in_ok-pay.ensures.ok.0 c.in_ok-pay.ensures.ok.1
+change-requires-clause-room g c = room_paid c.content_below.new.self c.pay.new.self _ (sound_still c.args.self.now c.content_below.new.self _ c.in_ok-body.ensures.still c.in_ok-body.ensures.performs.grows.grew c.requires.sound).room c.in_ok-pay.ensures.ok.0 c.in_ok-pay.ensures.ok.1
 
 pub change-requires-clause-fits : goal.change-requires-clause-fits
-change-requires-clause-fits g c = rw (c.in_ok-copy.ensures, ap (λ d. d.usage) c.in_ok-pay.ensures.ok.0, ap (λ d. d.work.changes) c.in_ok-pay.ensures.ok.0) (touch_fits c.content_below.new.self c.args.p.now _ 0 (sound_still c.args.self.now c.content_below.new.self _ c.in_ok-body.ensures.still c.in_ok-body.ensures.performs.grows.grew c.requires.sound).fits (still_seen c.args.self.now c.content_below.new.self _ c.args.p.now kind.File c.in_ok-body.ensures.performs.grows.grew (ap (λ w. w.changes) c.in_ok-body.ensures.still) c.requires.seen))
+change-requires-clause-fits g c = rw (c.in_ok-copy.ensures, ap (λ d. d.usage) c.in_ok-pay.ensures.ok.0, ap (λ d. d.work.changes) c.in_ok-pay.ensures.ok.0) (touch_fits c.content_below.new.self c.args.q.now _ 0 (sound_still c.args.self.now c.content_below.new.self _ c.in_ok-body.ensures.still c.in_ok-body.ensures.performs.grows.grew c.requires.sound).fits (still_seen c.args.self.now c.content_below.new.self _ c.args.q.now kind.File c.in_ok-body.ensures.performs.grows.grew (ap (λ w. w.changes) c.in_ok-body.ensures.still) c.requires.seen))
 
 pub change-requires-clause-paths : goal.change-requires-clause-paths
-change-requires-clause-paths g c = rw (c.in_ok-copy.ensures, ap (λ d. d.work.changes) c.in_ok-pay.ensures.ok.0) (paths_becomes c.args.p.now _ None 0 _ (sound_still c.args.self.now c.content_below.new.self _ c.in_ok-body.ensures.still c.in_ok-body.ensures.performs.grows.grew c.requires.sound).paths c.requires.path tt)
+change-requires-clause-paths g c = rw (c.in_ok-copy.ensures, ap (λ d. d.work.changes) c.in_ok-pay.ensures.ok.0) (paths_becomes c.args.q.now _ None 0 _ (sound_still c.args.self.now c.content_below.new.self _ c.in_ok-body.ensures.still c.in_ok-body.ensures.performs.grows.grew c.requires.sound).paths c.requires.path tt)
 
 pub returns-clause-performs : goal.returns-clause-performs
 unfolding touch_file

@@ -29,3 +29,6 @@ returns-in-File g t c = a_turn _ _ _ c.args.p.now c.args.turns (omega arith) (th
 
 pub returns-in-Dir : goal.returns-in-Dir
 returns-in-Dir g t c = a_turn _ _ _ c.args.p.now c.args.turns (omega arith) (then _ c.in_ok-kind.ensures.performs (rw c.in-Dir.is finish))
+
+pub returns-in-Link : goal.returns-in-Link
+returns-in-Link g t c = a_turn _ _ _ c.args.p.now c.args.turns (omega arith) (then _ c.in_ok-kind.ensures.performs (rw c.in-Link.is finish))

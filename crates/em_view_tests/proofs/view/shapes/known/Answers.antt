@@ -18,3 +18,7 @@ returns-in-File g c = then known_by (lifted of_desk c.in-Ok.ensures.performs) (r
 pub returns-in-Dir : goal.returns-in-Dir
 unfolding known
 returns-in-Dir g c = then known_by (lifted of_desk c.in-Ok.ensures.performs) (rw c.in-Dir.is finish)
+
+pub returns-in-Link : goal.returns-in-Link
+unfolding known
+returns-in-Link g c = then known_by (lifted of_desk c.in-Ok.ensures.performs) (rw c.in-Link.is finish)

@@ -1,0 +1,25 @@
+use Rattle.em_view.specs.Rows.{link_at}
+use Rattle.em_view.proofs.Performing.{then, leave, finish}
+use Rattle.em_view.proofs.desk.Desk.link.Goals as goal
+
+pub returns-in_err-take-clause-performs : goal.returns-in_err-take-clause-performs
+unfolding link_at
+returns-in_err-take-clause-performs g c = leave _ c.from_residual.ensures.1 c.in_err-take.ensures.performs
+
+pub returns-in_err-led-clause-performs : goal.returns-in_err-led-clause-performs
+unfolding link_at
+returns-in_err-led-clause-performs g c = then _ c.in_ok-take.ensures.performs (leave _ c.from_residual-in_err-led.ensures.1 c.in_err-led.ensures.performs)
+
+pub returns-in_err-text-clause-performs : goal.returns-in_err-text-clause-performs
+unfolding link_at
+returns-in_err-text-clause-performs g c = then _ c.in_ok-take.ensures.performs (then _ c.in_ok-led.ensures.performs (leave _ c.from_residual-in_err-text.ensures.1 c.in_err-text.ensures.performs))
+
+pub returns-in_err-take-2-clause-performs : goal.returns-in_err-take-2-clause-performs
+unfolding link_at
+returns-in_err-take-2-clause-performs g c = then _ c.in_ok-take.ensures.performs (then _ c.in_ok-led.ensures.performs (then _ c.in_ok-text.ensures.performs
+    (leave _ c.from_residual-in_err-take-2.ensures.1 (rw (c.blocks-2.ensures, c.text_size.ensures) at c.in_err-take-2.ensures.performs))))
+
+pub returns-clause-performs : goal.returns-clause-performs
+unfolding link_at
+returns-clause-performs g c = then _ c.in_ok-take.ensures.performs (then _ c.in_ok-led.ensures.performs (then _ c.in_ok-text.ensures.performs
+    (then _ (rw (c.blocks-2.ensures, c.text_size.ensures) at c.in_ok-take-2.ensures.performs) finish)))
