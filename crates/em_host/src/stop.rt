@@ -57,6 +57,19 @@ fn system_words(alloc: Global, e: &Error) -> Result<String, NoMemory> {
     }
 }
 
+/// The name in one line: a control character by its escape, as Rust writes it (`\n`, `\u{7f}`).
+fn in_one_line(alloc: Global, name: &str) -> Result<String, NoMemory> {
+    let mut line = String::new(alloc);
+    for c in name.chars() {
+        if c.is_control() {
+            line.push_str(format!(in alloc; "{}", c.escape_default())?.as_str())?;
+        } else {
+            line.push(c)?;
+        }
+    }
+    Ok(line)
+}
+
 /// Why a part of a call broke off.
 #[derive(Clone, Copy, Debug)]
 pub(crate) enum Stop {
@@ -141,14 +154,16 @@ pub struct Fault {
 }
 
 impl Fault {
-    /// `NAME: REASON`, as a program says it: NAME is the file's, or `standard output`, and REASON
-    /// is the system's where the system gave it. Linear in its length.
+    /// `NAME: REASON`, as a program says it, in one line: NAME is the file's, a control character by
+    /// its escape, or `standard output`, and REASON is the system's where the system gave it. Linear
+    /// in its length.
     pub fn words(&self, alloc: Global) -> Result<String, NoMemory> {
         let reason = self.reason.words(alloc)?;
         let name = match &self.name {
             None => "standard output",
             Some(name) => str::from_utf8(name.bytes()).unwrap_or("?"),
         };
+        let name = in_one_line(alloc, name)?;
         Ok(format!(in alloc; "{name}: {reason}")?)
     }
 }
