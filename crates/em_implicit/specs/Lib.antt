@@ -7,3 +7,5 @@ pub use Rattle.em_rules.specs.Dots
 pub use Rattle.em_rules.specs.Rules
 pub mod Matches
 pub mod Implicit
+pub mod Asking
+pub mod Seeking

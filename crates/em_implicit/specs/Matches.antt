@@ -4,7 +4,7 @@
 --     is_matched r target        it matches one of the target patterns
 --     normal_of r m, order_of r m    the prerequisites that the rule makes for a match
 --     members_of r m             the targets that it makes for it, one of each target pattern
-use Rattle.std.specs.Prelude.{ℕ, ◌-◌, ◌==◌, Bool, not, List, [], ◌∷◌, ◌++◌, map, length, take, drop, slice_get, Option, Some, None, is_some, if◌then◌else◌}
+use Rattle.std.specs.Prelude.{ℕ, ◌-◌, ◌==◌, Bool, not, List, [], ◌++◌, map, length, take, drop, slice_get, Option, Some, None, is_some, if◌then◌else◌}
 use Rattle.std.specs.List.{suffix_len, list_any}
 use Rattle.em_base.specs.declared.place.Span.{Span}
 use Rattle.em_base.specs.Spans.{cut}

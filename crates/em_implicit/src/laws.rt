@@ -6,6 +6,8 @@ ghost use Rattle.em_tree.specs.Trees.{Table};
 ghost use Rattle.em_implicit.specs.declared.seek.Found.{Found};
 ghost use Rattle.em_implicit.specs.Implicit.{found, offered};
 ghost use Rattle.em_implicit.specs.Matches.{match_at, members_of};
+ghost use Rattle.em_implicit.specs.Asking.{told};
+ghost use Rattle.em_implicit.specs.Seeking.{seeking, stands};
 
 /// The rule that is chosen matches by its target pattern and applies with its stem; of all that do
 /// its stem is the shortest, and of those with a stem as short it is of the first rule, and of this
@@ -30,4 +32,11 @@ pub fn law_member()
     ensures { (r : Rule) (i : ℕ) (target : List ℕ) (m : List ℕ × List ℕ)
         → match_at r i target ≡ Some m
         → slice_get (members_of r (Some m)) i ≡ Some (undotted target) }
+{}
+
+/// By the answers of a tree the search by questions finds the rule that is chosen there.
+pub fn law_seeking()
+    ensures { (rules patterns : List Rule) (tree : Table) (cwd target : List ℕ)
+        → told (stands tree) (seeking rules patterns cwd target)
+        ≡ found rules patterns tree cwd target }
 {}

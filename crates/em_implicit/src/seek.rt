@@ -1,15 +1,20 @@
 //! The pattern rule that is chosen for a target.
-ghost use Rattle.std.specs.Prelude.{◌≡◌, ◌++◌, None, Some, Ok, false, fold, IfOk};
+ghost use Rattle.std.specs.Prelude.{◌≡◌, None, Ok, false, map, IfOk, IfErr};
 ghost use Rattle.std.specs.List.{list_any};
-ghost use Rattle.em_implicit.specs.Matches.{is_matched, match_of};
-ghost use Rattle.em_implicit.specs.Implicit.{beats, candidate, candidates_of, found, shorter};
+ghost use Rattle.em_view.specs.Rows.{Acts, is_refusal};
+ghost use Rattle.em_implicit.specs.Matches.{is_matched};
+ghost use Rattle.em_implicit.specs.Implicit.{found};
+ghost use Rattle.em_implicit.specs.Asking.{Asked, acted};
+ghost use Rattle.em_implicit.specs.Seeking.{seek, seeking, seen};
 
-use crate::pattern::{Match, matched};
-use crate::there::Known;
+use crate::applying::Known;
+use crate::candidates::{Candidate, matches, sorted};
+use crate::there::{OnTree, There};
 use em_base::{NoMemory, Text};
 use em_path::Path;
-use em_rules::{Book, Rule};
+use em_rules::Book;
 use em_tree::Tree;
+use em_view::{Desk, DeskNo, View};
 use std::alloc::Global;
 
 /// The pattern rule that is chosen for a target.
@@ -24,99 +29,60 @@ pub struct Found {
     pub stem: Text,
 }
 
-/// A pattern rule and its number.
-#[derive(Clone, Copy)]
-struct Numbered<'a> {
-    number: usize,
-    rule: &'a Rule,
-}
-
-/// Whether the match's stem, with its directory, is shorter than the best so far.
-fn beats(found: Match<'_>, best: &Option<Found>) -> bool
-    ensures { result ≡ beats (found.entry.dir.now ++ found.entry.stem.now) best.now }
+/// An equal choice.
+fn copied(alloc: Global, found: &Found) -> Result<Found, NoMemory>
+    ensures { IfOk result (λ f. f ≡ found.now) }
 {
-    match best {
-        Some(best) => found.stem.len() < best.stem.bytes().len().saturating_sub(found.dir.len()),
-        None => true,
-    }
+    Ok(Found {
+        rule: found.rule,
+        pattern: found.pattern,
+        stem: found.stem.copy(alloc)?,
+    })
 }
 
-/// The match's stem, with its directory.
-fn whole_stem(alloc: Global, found: Match<'_>) -> Result<Text, NoMemory>
-    ensures { IfOk result (λ t. t ≡ found.entry.dir.now ++ found.entry.stem.now) }
+/// The first of the matches whose rule applies.
+fn seek<T: There>(
+    alloc: Global,
+    known: Known<'_>,
+    candidates: &[Candidate<'_>],
+    there: &mut T,
+) -> Result<Option<Found>, DeskNo>
+    ensures asked { Asked T.asks there.old there.new result
+        (seek known.entry.rules.now known.entry.cwd.now (map seen candidates.now)) }
+    ensures unrefused { IfErr result (λ e. is_refusal e ≡ false) }
 {
-    let mut stem = Text::from_slice(alloc, found.dir)?;
-    stem.add(found.stem)?;
-    Ok(stem)
+    for candidate in candidates {
+        if known.applies(alloc, candidate, there)? {
+            return Ok(Some(copied(alloc, &candidate.found)?));
+        }
+    }
+    Ok(None)
 }
 
-impl Known<'_> {
-    /// The best so far with one match more: that of the target pattern of this number.
-    fn with_match(
-        &self,
-        alloc: Global,
-        best: Option<Found>,
-        numbered: Numbered<'_>,
-        pattern: usize,
-        found: Match<'_>,
-    ) -> Result<Option<Found>, NoMemory>
-        ensures { let m = Some (found.entry.dir.now, found.entry.stem.now) in IfOk result
-            (λ r. r ≡ fold shorter best
-            (candidate self.now.rules.now self.now.tree.now self.now.cwd.now
-            numbered.entry.number numbered.entry.rule.now pattern m)) }
-    {
-        let Numbered { number, rule } = numbered;
-        if beats(found, &best) && self.applies(alloc, rule, found)? {
-            return Ok(Some(Found {
-                rule: number,
-                pattern,
-                stem: whole_stem(alloc, found)?,
-            }));
-        }
-        Ok(best)
+/// The pattern rule by which a target is remade, as `find` and `find_through` say, by the answers
+/// of whoever is asked.
+pub fn find_by<T: There>(
+    alloc: Global,
+    book: &Book,
+    target: &[u8],
+    cwd: &Path,
+    there: &mut T,
+) -> Result<Option<Found>, DeskNo>
+    ensures asked { Asked T.asks there.old there.new result
+        (seeking book.now.rules book.now.patterns cwd.now target.now) }
+    ensures none { list_any (λ r. is_matched r target.now) book.now.patterns ≡ false
+        → result ≡ Ok None }
+    ensures unrefused { IfErr result (λ e. is_refusal e ≡ false) }
+{
+    let candidates = matches(alloc, book.patterns.items(), target)?;
+    if candidates.is_empty() {
+        return Ok(None);
     }
-
-    /// The best so far with one target pattern more, the one of this number.
-    fn with_pattern(
-        &self,
-        alloc: Global,
-        target: &[u8],
-        best: Option<Found>,
-        numbered: Numbered<'_>,
-        number: usize,
-        pattern: &[u8],
-    ) -> Result<Option<Found>, NoMemory>
-        ensures best { IfOk result (λ r. r ≡ fold shorter best
-            (candidate self.now.rules.now self.now.tree.now self.now.cwd.now
-            numbered.entry.number numbered.entry.rule.now number
-            (match_of pattern.now target.now))) }
-        ensures unmatched { match_of pattern.now target.now ≡ None → result ≡ Ok best }
-    {
-        match matched(pattern, target) {
-            None => Ok(best),
-            Some(found) => self.with_match(alloc, best, numbered, number, found),
-        }
-    }
-
-    /// The best so far with one pattern rule more.
-    fn with_rule(
-        &self,
-        alloc: Global,
-        target: &[u8],
-        mut best: Option<Found>,
-        numbered: Numbered<'_>,
-    ) -> Result<Option<Found>, NoMemory>
-        ensures best { IfOk result (λ r. r ≡ fold shorter best
-            (candidates_of 0 self.now.rules.now self.now.tree.now self.now.cwd.now target.now
-            numbered.entry.number numbered.entry.rule.now numbered.entry.rule.now.targets)) }
-        ensures unmatched { is_matched numbered.entry.rule.now target.now ≡ false
-            → result ≡ Ok best }
-    {
-        for (i, pattern) in numbered.rule.targets.items().iter().enumerate() {
-            best = self.with_pattern(alloc, target, best, numbered, i, pattern.bytes())?;
-        }
-        Ok(best)
-    }
+    let known = Known {
+        rules: &book.rules,
+        cwd,
+    };
+    seek(alloc, known, &sorted(candidates)?, there)
 }
 
 /// The pattern rule by which a target is remade: of the target patterns that it matches, and whose
@@ -125,8 +91,8 @@ impl Known<'_> {
 /// that of the first rule, and of the rule's the first. `None` comes exactly where there is none,
 /// and then also where memory is short if no target pattern matches.
 ///
-/// A comparison with each target pattern of each rule, and for each one that matches with a shorter
-/// stem than the best so far one search for each prerequisite.
+/// A comparison with each target pattern of each rule, a sort of those that match, and for each of
+/// these up to the one that is chosen one search for each prerequisite.
 pub fn find(
     alloc: Global,
     book: &Book,
@@ -139,14 +105,32 @@ pub fn find(
     ensures none { list_any (λ r. is_matched r target.now) book.now.patterns ≡ false
         → result ≡ Ok None }
 {
-    let known = Known {
-        rules: &book.rules,
-        tree,
-        cwd,
-    };
-    let mut best = None;
-    for (number, rule) in book.patterns.items().iter().enumerate() {
-        best = known.with_rule(alloc, target, best, Numbered { number, rule })?;
+    let mut there = OnTree { tree };
+    match find_by(alloc, book, target, cwd, &mut there) {
+        Ok(found) => Ok(found),
+        Err(_) => Err(NoMemory),
     }
-    Ok(best)
+}
+
+/// The pattern rule by which a target is remade, as `find` says, in what a desk sees. The target
+/// patterns that match are tried one after another, the one with the shorter stem first and then
+/// the earlier one, until a rule applies. For each the kind of each prerequisite is asked that
+/// isn't mentioned as a target or an explicit prerequisite, the normal ones before the order-only
+/// ones, up to the first that is absent. A name that is no path is absent and isn't asked.
+///
+/// `Spent` comes exactly where the desk answers it, and `File` never. Each question costs what the
+/// desk takes for it. A comparison with each target pattern of each rule, and a sort of those that
+/// match.
+pub fn find_through<V: View>(
+    alloc: Global,
+    book: &Book,
+    target: &[u8],
+    desk: &mut Desk<V>,
+    cwd: &Path,
+) -> Result<Option<Found>, DeskNo>
+    ensures performs { Acts V.tells desk.old desk.new result
+        (acted (seeking book.now.rules book.now.patterns cwd.now target.now)) }
+    ensures unrefused { IfErr result (λ e. is_refusal e ≡ false) }
+{
+    find_by(alloc, book, target, cwd, desk)
 }

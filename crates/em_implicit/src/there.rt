@@ -1,75 +1,54 @@
-//! Whether what a pattern rule makes for a match is there.
-ghost use Rattle.std.specs.Prelude.{◌≡◌, IfOk, Some};
-ghost use Rattle.std.specs.List.{list_all};
-ghost use Rattle.em_implicit.specs.Implicit.{exists, is_there, applies};
+//! Whether something stands at a path.
+ghost use Rattle.std.specs.Prelude.{◌≡◌, ℕ, List, Bool, Result, IfOk, IfErr, false};
+ghost use Rattle.em_view.specs.declared.no.DeskNo.{DeskNo as Refusal};
+ghost use Rattle.em_view.specs.declared.no.DeskNo.TheVariants as no;
+ghost use Rattle.em_view.specs.Rows.{Acts, is_refusal};
+ghost use Rattle.em_implicit.specs.Asking.{Ask, Had, acted, is_something};
+ghost use Rattle.em_implicit.specs.Seeking.{stands};
 
-use crate::made::prerequisites_of;
-use crate::pattern::Match;
-use em_base::{NoMemory, Text};
-use em_path::{Path, PathNo};
-use em_rules::{Rule, Rules};
-use em_tree::Tree;
+use em_path::Path;
+use em_tree::{Kind, Tree};
+use em_view::{Desk, DeskNo, View};
 use std::alloc::Global;
 
-/// Where names are looked up.
-#[derive(Clone, Copy)]
-pub(crate) struct Known<'a> {
-    pub rules: &'a Rules,
+/// Who is asked what stands where.
+pub trait There: Drop {
+    /// What one question does, from one moment to the next, and its answer.
+    ghost asks: { Self → Self → List ℕ → Result Bool Refusal → Type 0 };
+
+    /// Whether something stands at the path, behind the links on its way.
+    fn is_there(&mut self, alloc: Global, path: &Path) -> Result<bool, DeskNo>
+        ensures asked { asks self.old self.new path.now result }
+        ensures unrefused { IfErr result (λ e. is_refusal e ≡ false) };
+}
+
+/// A tree, which answers each question alike, however often it is asked.
+#[derive(Drop)]
+pub struct OnTree<'a> {
     pub tree: &'a Tree,
-    pub cwd: &'a Path,
 }
 
-/// Whether something stands at the name in the tree, behind the links on its way: the one place
-/// where this is asked. A name that is no path is absent.
-fn exists(alloc: Global, tree: &Tree, cwd: &Path, name: &[u8]) -> Result<bool, NoMemory>
-    ensures { IfOk result (λ b. b ≡ exists tree.now cwd.now name.now) }
+impl<'a> There for OnTree<'a> {
+    ghost asks = { λ a b p r. (b ≡ a) × IfOk r (λ v. v ≡ stands a.tree.now p)
+        × IfErr r (λ e. e ≡ no.NoMemory) };
+
+    fn is_there(&mut self, _alloc: Global, path: &Path) -> Result<bool, DeskNo> {
+        Ok(self.tree.behind(path)?.is_some())
+    }
+}
+
+/// Whether something is there.
+fn is_something(kind: Kind) -> bool
+    ensures { result ≡ is_something kind }
 {
-    match Path::read(alloc, cwd, name) {
-        Ok(path) => Ok(tree.behind(&path)?.is_some()),
-        Err(PathNo::NoMemory) => Err(NoMemory),
-        Err(_) => Ok(false),
-    }
+    kind != Kind::Absent
 }
 
-impl Known<'_> {
-    /// Whether the name is mentioned as a target or an explicit prerequisite, or exists.
-    fn is_there(&self, alloc: Global, name: &[u8]) -> Result<bool, NoMemory>
-        ensures { IfOk result (λ b. b
-            ≡ is_there self.now.rules.now self.now.tree.now self.now.cwd.now name.now) }
-    {
-        if self.rules.is_mentioned(name) {
-            return Ok(true);
-        }
-        exists(alloc, self.tree, self.cwd, name)
-    }
+impl<V: View> There for Desk<V> {
+    ghost asks = { λ a b p r. Acts V.tells a b r (acted (Ask p Had)) };
 
-    /// Whether each of the names is there.
-    fn are_there(&self, alloc: Global, names: &[Text]) -> Result<bool, NoMemory>
-        ensures { IfOk result (λ b. b
-            ≡ list_all (is_there self.now.rules.now self.now.tree.now self.now.cwd.now) names.now) }
-    {
-        for name in names {
-            if !self.is_there(alloc, name.bytes())? {
-                return Ok(false);
-            }
-        }
-        Ok(true)
-    }
-
-    /// Whether each prerequisite that the rule makes for a match is there.
-    pub(crate) fn applies(
-        &self,
-        alloc: Global,
-        rule: &Rule,
-        found: Match<'_>,
-    ) -> Result<bool, NoMemory>
-        ensures { let m = Some (found.entry.dir.now, found.entry.stem.now) in IfOk result (λ b. b
-            ≡ applies self.now.rules.now self.now.tree.now self.now.cwd.now rule.now m) }
-    {
-        let needed = prerequisites_of(alloc, rule, found)?;
-        if !self.are_there(alloc, needed.normal.items())? {
-            return Ok(false);
-        }
-        self.are_there(alloc, needed.order.items())
+    /// The kind of the path, which costs what the desk takes for it.
+    fn is_there(&mut self, _alloc: Global, path: &Path) -> Result<bool, DeskNo> {
+        Ok(is_something(self.kind(path)?))
     }
 }

@@ -50,6 +50,7 @@ module _ (book : Book) (order : Order) (base : ℕ) where
     phony = filter (is_phony book.rules) (plan.targets ++ names_of plan.normal);
     plan = plan;
     vars = book.vars;
+    assigned = order.assigned;
   }
 
   abbrev pub jobs_from : ℕ → List PlanJob → List Job
@@ -67,3 +68,4 @@ module _ (book : Book) (order : Order) (base : ℕ) where
     pub flags : c.flags ≡ flags_of order
     pub says : c.special ≡ special book.rules
     pub vars : c.vars ≡ book.vars
+    pub assigned : c.assigned ≡ order.assigned

@@ -15,7 +15,7 @@ mod spec;
 mod stop;
 mod work;
 
-pub use em_task::{Flags, Job, SharedVars};
+pub use em_task::{Flags, Job, SharedPairs, SharedVars};
 pub use making::specs;
 pub use spec::JobSpec;
 pub use work::JobWork;

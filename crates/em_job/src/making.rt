@@ -14,7 +14,7 @@ use em_cmdline::Order;
 use em_path::Path;
 use em_plan::{Plan, PlanJob, Pre};
 use em_rules::{Book, Names, Rules, Special};
-use em_task::{Flags, Job, SharedVars};
+use em_task::{Flags, Job, SharedPairs, SharedVars};
 use std::alloc::Global;
 
 fn lists(names: &[Text], name: &[u8]) -> bool
@@ -78,6 +78,7 @@ struct Common {
     flags: Flags,
     special: Special,
     vars: SharedVars,
+    assigned: SharedPairs,
 }
 
 /// What an order says of all jobs.
@@ -105,6 +106,17 @@ fn dir_of(alloc: Global, order: &Order) -> Result<Path, NoMemory>
     }
 }
 
+/// The assignments of an order.
+fn assigned_of(alloc: Global, order: &Order) -> Result<SharedPairs, NoMemory>
+    ensures { IfOk result (λ s. s ≡ order.now.assigned) }
+{
+    let mut pairs = Seq::new(alloc);
+    for (name, value) in order.assigned.items() {
+        pairs.push((name.copy(alloc)?, value.copy(alloc)?))?;
+    }
+    SharedPairs::new(alloc, pairs)
+}
+
 fn common_of(alloc: Global, book: &Book, order: &Order, base: u64) -> Result<Common, NoMemory>
     requires { read_fault root_text order.now.dir ≡ None }
     ensures { IfOk result (λ c. making.IsCommon book.now order.now base c) }
@@ -117,6 +129,7 @@ fn common_of(alloc: Global, book: &Book, order: &Order, base: u64) -> Result<Com
         flags: flags_of(order),
         special,
         vars: SharedVars::new(alloc, book.vars.copy(alloc)?)?,
+        assigned: assigned_of(alloc, order)?,
     })
 }
 
@@ -145,12 +158,13 @@ fn job_of(
         phony: phony_names(alloc, &book.rules, plan)?,
         plan: plan.copy(alloc)?,
         vars: common.vars.copy()?,
+        assigned: common.assigned.copy()?,
     })
 }
 
 /// The specs of a plan's jobs, each with the number at which it stands.
 ///
-/// The variables are copied once and shared; each job of the plan is copied once, and copies of its
+/// The variables and the assignments are copied once and shared; each job of the plan is copied once, and copies of its
 /// spec share it. A search for each name says whether it is phony; what `.SILENT` and `.IGNORE`
 /// list is gone over for each job.
 pub fn specs(

@@ -1,7 +1,7 @@
 //! Jobs with several targets, and jobs of double-colon rules, over small trees whose files all have
 //! one stamp. The texts are those of docs/FORMATS.md.
 use em_base::{NoMemory, Place, Seq, Text};
-use em_job::{Flags, Job, JobSpec, JobWork, SharedVars};
+use em_job::{Flags, Job, JobSpec, JobWork, SharedPairs, SharedVars};
 use em_path::Path;
 use em_plan::{Numbers, PlanJob, Pre};
 use em_rules::RecipeLine;
@@ -169,6 +169,7 @@ fn spec_of(alloc: Global, given: &Given) -> Result<JobSpec, NoMemory> {
         phony: words(alloc, given.2)?,
         plan: plan_of(alloc, given)?,
         vars: SharedVars::new(alloc, Vars::new(alloc)?)?,
+        assigned: SharedPairs::new(alloc, Seq::new(alloc))?,
     };
     JobSpec::new(alloc, job)
 }

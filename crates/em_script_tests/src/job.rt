@@ -1,7 +1,7 @@
 //! Jobs with one line of recipe, over a tree with the root alone. The texts are those of
 //! docs/FORMATS.md.
 use em_base::{NoMemory, Place, Seq, Text};
-use em_job::{Flags, Job, JobSpec, JobWork, SharedVars};
+use em_job::{Flags, Job, JobSpec, JobWork, SharedPairs, SharedVars};
 use em_path::Path;
 use em_plan::PlanJob;
 use em_rules::RecipeLine;
@@ -171,6 +171,7 @@ fn spec_of(alloc: Global, row: &Row) -> Result<JobSpec, NoMemory> {
         phony: Seq::new(alloc),
         plan,
         vars,
+        assigned: SharedPairs::new(alloc, Seq::new(alloc))?,
     };
     JobSpec::new(alloc, job)
 }

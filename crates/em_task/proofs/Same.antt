@@ -92,6 +92,11 @@ same_plan x y e =
       waits = same_text x.waits y.waits m.1 i;
     }
 
+same_pair : (x y : List ℕ × List ℕ) → (pointwise nat_eq x.0 y.0 && pointwise nat_eq x.1 y.1) ≡ true → x ≡ y
+same_pair x y e =
+    let both = and_parts _ _ e in
+    λ i. (same_text x.0 y.0 both.0 i, same_text x.1 y.1 both.1 i)
+
 pub same_job : (x y : Job) → job_eq.ghosts.eq x y ≡ true → x ≡ y
 same_job x y e =
     let a = and_parts _ _ e in
@@ -104,6 +109,7 @@ same_job x y e =
     let k = and_parts _ _ h.1 in
     let l = and_parts _ _ k.1 in
     let m = and_parts _ _ l.1 in
+    let o = and_parts _ _ m.1 in
     λ i. record {
       job = eqb-true x.job y.job a.0 i;
       base = eqb-true x.base y.base b.0 i;
@@ -115,5 +121,6 @@ same_job x y e =
       delete_on_error = same_bool x.delete_on_error y.delete_on_error k.0 i;
       phony = same_list (pointwise nat_eq) same_text x.phony y.phony l.0 i;
       plan = same_plan x.plan y.plan m.0 i;
-      vars = same_list _ (λ p q. (entries_decide p q).0) x.vars y.vars m.1 i;
+      vars = same_list _ (λ p q. (entries_decide p q).0) x.vars y.vars o.0 i;
+      assigned = same_list _ same_pair x.assigned y.assigned o.1 i;
     }

@@ -1,6 +1,7 @@
 //! A job, as data.
 ghost use Rattle.std.specs.Prelude.{◌≡◌, IfOk};
 
+use crate::pairs::SharedPairs;
 use crate::shared::SharedVars;
 use em_base::{NoMemory, Seq, Text};
 use em_path::Path;
@@ -47,6 +48,8 @@ pub struct Job {
     pub plan: PlanJob,
     /// The makefile's variables.
     pub vars: SharedVars,
+    /// What the command line assigns, also where a makefile overrides or undefines it.
+    pub assigned: SharedPairs,
 }
 
 impl Job {
@@ -66,6 +69,7 @@ impl Job {
             phony: self.phony.copy(alloc)?,
             plan: self.plan.copy(alloc)?,
             vars: self.vars.copy()?,
+            assigned: self.assigned.copy()?,
         })
     }
 }
