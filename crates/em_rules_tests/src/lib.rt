@@ -13,4 +13,6 @@ mod remake;
 #[cfg(test)]
 mod rules;
 #[cfg(test)]
+mod through;
+#[cfg(test)]
 mod written;
