@@ -2,9 +2,9 @@
 --     Kept says stack w v      jobs are added, each of the next unit of its trigger, and none of them has a target that is open
 --     Fits says stack n i m    m is the unit of n at place i, and may be opened
 --     finish_kept, unit_kept, enter_kept, visit_kept      a walk keeps this
---     rest_left                when a unit has got its number, the name's other units are left
-use Rattle.std.proofs.Common.{◌≡◌, ◌⊎◌, inl, inr, ℕ, zero, suc, ◌+◌, ◌-◌, ◌<◌, Bool, true, false, cond, ◌||◌, List, [], ◌∷◌, ◌++◌, length, drop, Option, Some, None, Ok, Err, refl, sym, ap, subst, ◌∙◌, arith, append_assoc, length-append, length-drop, slice_get}
-use Rattle.std.specs.List.{All, AllByRecursion}
+--     rest_of                  when a unit has got its number, the name's other units are left
+use Rattle.std.proofs.Common.{◌≡◌, ◌⊎◌, inl, inr, ℕ, zero, suc, ◌+◌, ◌-◌, Bool, true, false, cond, ◌||◌, List, [], ◌∷◌, ◌++◌, length, drop, Some, Ok, Err, refl, sym, ap, subst, ◌∙◌, arith, append_assoc, length-append, length-drop, slice_get}
+use Rattle.std.specs.List.{AllByRecursion}
 use Rattle.std.proofs.lemmas.List.{append-nil}
 use Rattle.em_base.proofs.Lemmas.{by_cases}
 use Rattle.em_plan.specs.declared.making.Need.{Need}
@@ -14,7 +14,7 @@ use Rattle.em_plan.specs.declared.walk.Walked.{Walked}
 use Rattle.em_plan.specs.declared.no.PlanNo.TheVariants.{TooManyJobs}
 use Rattle.em_plan.specs.Once.{is_among}
 use Rattle.em_plan.specs.Jobs.{numbers_of, job_of}
-use Rattle.em_plan.specs.Order.{limit, Says, Walking, Open, opened, and_then, is_open, is_known, numbered, meet, finish, enter, visit, visit_all, has_room, with_job, noted, no_room, from_in, units_left, nothing_walked}
+use Rattle.em_plan.specs.Order.{limit, Says, Walking, Open, opened, and_then, is_open, is_known, numbered, finish, enter, visit, visit_all, has_room, with_job, noted, no_room, from_in, units_left, nothing_walked}
 use Rattle.em_plan.specs.Serial.{AreEach, IsNext, IsSerial}
 use Rattle.em_plan.specs.Units.{IsUnits}
 use Rattle.em_plan.proofs.Lists.{all_append, at_place, first_of}
@@ -174,10 +174,6 @@ module _ (says : Says) where
         let unit = unit_kept visit stack n m (length (numbers_of w.jobs n)) h (fits stack w n shut (length (numbers_of w.jobs n)) m first.0) w v refl e in
         ap (λ k. drop k (says (is_known stack v) n)) unit.1
         ∙ left_after (says (is_known stack w) n) (says (is_known stack v) n) (facts.alone (is_known stack w) (is_known stack v) n) (length (numbers_of w.jobs n)) m ms some
-
-    pub rest_left : (left : ℕ) (stack : List Open) (w v : Walked) (n : List ℕ) (m : Making) (ms : List Making) → is_open stack n ≡ false → units_left says stack w n ≡ m ∷ ms
-        → finish (visit says left (opened n m ∷ stack)) (opened n m) stack m m.needs w ≡ Ok v → units_left says stack v n ≡ ms
-    rest_left left stack w v n m ms shut some e = rest_of (visit says left (opened n m ∷ stack)) stack w v n m ms (visit_kept left (opened n m ∷ stack)) shut some e
 
     pub goals_kept : (goals : List (List ℕ)) (w v : Walked) → visit_all says goals w ≡ Ok v → Kept [] w v
     goals_kept [] w v e = kept_same [] w v (ap (λ (u : Walked). u.jobs) (let s : v ≡ w = cc in s))

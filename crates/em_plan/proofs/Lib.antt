@@ -4,6 +4,11 @@ pub mod Lists
 pub mod Asked
 pub mod Saying
 pub mod Keeping
+pub mod Leaves
+pub mod Shutting
+pub mod Sought
+pub mod Offering
+pub mod Telling
 pub mod Walks
 pub mod Serial
 pub mod Ending

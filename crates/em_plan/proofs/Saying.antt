@@ -1,9 +1,9 @@
 -- What makefiles say of the units of names.
---     says_units, makefile_units      the law
+--     Keeps known n m                 a unit's targets hold the name n, and else none that is known
+--     says_units                      the law
 --     says_plain                      where no rule is a group the units are the same whatever is known
---     next_double, next_single, next_none      the unit at a place
-use Rattle.std.proofs.Common.{◌≡◌, ◌⊎◌, inl, inr, ℕ, zero, suc, ◌+◌, ◌<◌, Bool, true, false, cond, nat_lt, ◌||◌, ◌&&◌, not, List, [], ◌∷◌, map, length, Option, Some, None, refl, sym, ap, subst, ◌∙◌, arith, slice_get, is_some, option_map}
-use Rattle.std.specs.List.{All, AllByRecursion, filter, list_any}
+use Rattle.std.proofs.Common.{◌≡◌, ◌⊎◌, inl, inr, ℕ, ◌+◌, ◌<◌, Bool, true, false, cond, nat_lt, ◌||◌, ◌&&◌, not, List, [], ◌∷◌, map, length, Option, Some, None, refl, sym, ap, subst, ◌∙◌, arith, slice_get, is_some}
+use Rattle.std.specs.List.{All, AllByRecursion, filter}
 use Rattle.std.proofs.lemmas.List.{length-map}
 use Rattle.std.proofs.lemmas.Bool.{lt-ltb}
 use Rattle.std.specs.Str.{bytes_eq}
@@ -11,14 +11,13 @@ use Rattle.std.proofs.lemmas.Slice.Eq.{bytes_eq-Decides}
 use Rattle.em_base.proofs.Lemmas.{by_cases, same_key, own_key}
 use Rattle.em_tree.specs.Trees.{Table}
 use Rattle.em_rules.specs.declared.rule.Rule.{Rule}
-use Rattle.em_rules.specs.Rules.{is_in, has_target, numbers_from, numbers_of, recipe_rule, is_phony, is_target}
+use Rattle.em_rules.specs.Rules.{is_in, has_target, numbers_from, numbers_of, recipe_rule}
 use Rattle.em_rules.specs.Groups.{is_double, is_double_kind, is_grouped_kind, members_at}
 use Rattle.em_implicit.specs.declared.seek.Found.{Found}
 use Rattle.em_implicit.specs.Matches.{match_at, members_of}
-use Rattle.em_plan.specs.declared.making.Makefile.{Makefile}
 use Rattle.em_plan.specs.declared.making.Making.{Making}
 use Rattle.em_plan.specs.Once.{each_once, is_among, same}
-use Rattle.em_plan.specs.Makings.{double_unit, bare_unit, with_own, joins, group_names, group_of, own_unit, rule_unit, stays, pattern_names, pattern_of, pattern_by, pattern_unit, ruled_unit, unruled_unit, found_for, unit_by, unit_of, making_of, says}
+use Rattle.em_plan.specs.Makings.{double_unit, bare_unit, with_own, joins, group_names, group_of, own_unit, rule_unit, stays, pattern_names, pattern_of, pattern_by, unruled_unit, found_for, unit_by, unit_of, making_of}
 use Rattle.em_plan.specs.Units.{IsUnits}
 use Rattle.em_plan.specs.Reached.{IsPlain}
 use Rattle.em_plan.proofs.Lists.{at_place, each_place, place_of}
@@ -26,7 +25,7 @@ use Rattle.em_plan.proofs.Lists.{at_place, each_place, place_of}
 all_of : {X : Type 0} (P : X → Type 0) (xs : List X) → AllByRecursion P xs → All P xs
 all_of P xs h = each_place P xs (λ i x at. place_of P xs i x h at)
 
-all_mapped : {X Y : Type 0} (P : Y → Type 0) (f : X → Y) → ((x : X) → P (f x)) → (xs : List X) → AllByRecursion P (map f xs)
+pub all_mapped : {X Y : Type 0} (P : Y → Type 0) (f : X → Y) → ((x : X) → P (f x)) → (xs : List X) → AllByRecursion P (map f xs)
 all_mapped P f h [] = tt
 all_mapped P f h (x ∷ xs) = (h x, all_mapped P f h xs)
 
@@ -66,11 +65,11 @@ passes p (t ∷ ts) q h = by_cases (p t) (λ b. p t ≡ b → is_among (cond b (
 
 module _ (known : List ℕ → Bool) (n : List ℕ) where
   -- a unit's targets hold the name, and else none that is known
-  record Keeps (m : Making) : Type 0 where
-    own : is_among m.targets n ≡ true
-    new : (q : List ℕ) → is_among m.targets q ≡ true → (q ≡ n) ⊎ (known q ≡ false)
+  pub record Keeps (m : Making) : Type 0 where
+    pub own : is_among m.targets n ≡ true
+    pub new : (q : List ℕ) → is_among m.targets q ≡ true → (q ≡ n) ⊎ (known q ≡ false)
 
-  alone : (m : Making) → m.targets ≡ n ∷ [] → Keeps m
+  pub alone : (m : Making) → m.targets ≡ n ∷ [] → Keeps m
   alone m is = record {
     own = ap (λ (ts : List (List ℕ)). is_among ts n) is ∙ (let e : same n n ≡ true = own_key n in rw e refl);
     new = λ q h. inl (by_cases (same q n) (λ b. same q n ≡ b → (b || false) ≡ true → q ≡ n) (λ _ e _. same_key q n e) (λ _ _ b. absurd (let bad : false ≡ true = b in cc)) refl (sym (ap (λ (ts : List (List ℕ)). is_among ts q) is) ∙ h));
@@ -104,7 +103,7 @@ module _ (known : List ℕ → Bool) (n : List ℕ) where
       by_own false false false false is e g = inr e
 
   module _ (rules patterns : List Rule) where
-    rule_keeps : (k : ℕ) (o : Option Rule) → Keeps (rule_unit known rules n k o)
+    pub rule_keeps : (k : ℕ) (o : Option Rule) → Keeps (rule_unit known rules n k o)
     rule_keeps k None = alone (bare_unit rules n) refl
     rule_keeps k (Some r) = by_kind (is_grouped_kind r.kind)
       where
@@ -121,7 +120,7 @@ module _ (known : List ℕ → Bool) (n : List ℕ) where
         by_count false = chosen (stays known rules n) (stays_means rules) (pattern_of rules f.stem r (match_at r f.pattern n) (pattern_names known rules n (members_of r (match_at r f.pattern n))))
             (each_once [] (members_of r (match_at r f.pattern n))) refl
 
-    unruled_keeps : (o : Option Found) → Keeps (unruled_unit known rules patterns n o)
+    pub unruled_keeps : (o : Option Found) → Keeps (unruled_unit known rules patterns n o)
     unruled_keeps None = alone (bare_unit rules n) refl
     unruled_keeps (Some f) = pattern_keeps f (slice_get patterns f.rule)
 
@@ -194,33 +193,3 @@ module _ (rules patterns : List Rule) (tree : Table) (cwd : List ℕ) (single : 
 
   pub says_plain : IsPlain (making_of rules patterns tree cwd)
   says_plain known other n = ap (λ (m : Making). cond (is_double rules n) (map (double_unit rules n) (numbers_of rules n)) (m ∷ [])) (unit_plain known other n (recipe_rule rules n))
-
-pub makefile_units : (m : Makefile) → IsUnits (says m)
-unfolding says
-makefile_units m = says_units m.book.now.rules m.book.now.patterns m.tree.now m.cwd.now
-
--- ---- the next unit
-
-module _ (m : Makefile) (known : List ℕ → Bool) (n : List ℕ) (k : ℕ) where
-  mapped : {X Y : Type 0} (f : X → Y) (xs : List X) (i : ℕ) → slice_get (map f xs) i ≡ option_map f (slice_get xs i)
-  mapped f [] zero = refl
-  mapped f [] (suc i) = refl
-  mapped f (x ∷ xs) zero = refl
-  mapped f (x ∷ xs) (suc i) = mapped f xs i
-
-  pub next_double : is_double m.book.now.rules n ≡ true → slice_get (says m known n) k ≡ option_map (double_unit m.book.now.rules n) (slice_get (numbers_of m.book.now.rules n) k)
-  unfolding says
-  next_double e = rw e (mapped (double_unit m.book.now.rules n) (numbers_of m.book.now.rules n) k)
-
-  pub next_single : is_double m.book.now.rules n ≡ false → k ≡ 0 → slice_get (says m known n) k ≡ Some (unit_of known m.book.now.rules m.book.now.patterns m.tree.now m.cwd.now n)
-  unfolding says
-  next_single e none = rw (e, none) refl
-
-  pub next_none : is_double m.book.now.rules n ≡ false → 0 < k → slice_get (says m known n) k ≡ None
-  unfolding says
-  next_none e some = rw e (past k some)
-    where
-      past : (i : ℕ) → 0 < i → slice_get (unit_of known m.book.now.rules m.book.now.patterns m.tree.now m.cwd.now n ∷ []) i ≡ None
-      past zero l = absurd (omega (arith, l))
-      past (suc zero) l = refl
-      past (suc (suc i)) l = refl

@@ -1,40 +1,47 @@
 -- The walk, step by step.
 --     marked_..      the marks stay true where a unit is opened and where it gets its number
---     reach_..       what the walk comes to at a name whose units all have numbers, for which there is no room, or that has one left
---     resume_..      a step leaves the same end
+--     reach_..       what is left where the units of a name were asked for: nothing, no room for one, or a unit and those behind it
+--     resume_..      a step leaves what is left
 --     weight_..      and less to do
 --     steps_..       together, for each step of the code
-use Rattle.std.proofs.Common.{◌≡◌, ◌⊎◌, inl, inr, ℕ, zero, suc, ◌+◌, ◌-◌, ◌^◌, ◌<◌, ◌≤◌, Bool, true, false, cond, ◌||◌, nat_lt, List, [], ◌∷◌, ◌++◌, length, drop, Option, Some, None, Ok, Err, refl, sym, ap, subst, ◌∙◌, arith, length-append, option_map, slice_get}
-use Rattle.std.specs.Prelude.{IsSomeAnd}
-use Rattle.std.specs.FinMap.{get, insert, empty, get-empty}
+--     goal_..        the walk from a goal
+--     fails_..       errors
+--     on_ok, on_ok3, on_ok4, on_err      what a call leaves, and what its caller says of it
+use Rattle.std.proofs.Common.{◌≡◌, ◌⊎◌, inl, inr, ℕ, zero, suc, ◌+◌, ◌-◌, ◌^◌, ◌<◌, Bool, true, false, cond, ◌||◌, nat_lt, List, [], ◌∷◌, ◌++◌, length, drop, Some, None, Ok, Err, refl, sym, ap, subst, ◌∙◌, arith, length-append, option_map, slice_get}
+use Rattle.std.specs.Prelude.{Result, IfOk, IfErr, OnOk}
+use Rattle.std.specs.List.{AllByRecursion}
+use Rattle.std.specs.FinMap.{get, empty, get-empty}
 use Rattle.std.specs.Cmp.Lexicographic.{slice_cmp}
 use Rattle.std.specs.Ordering.{nat_cmp}
 use Rattle.std.specs.Option.{is_some}
 use Rattle.std.proofs.lemmas.Bool.{lt-ltb}
 use Rattle.em_base.proofs.Lemmas.{by_cases}
 use borrow.Author.Tests.{ltb-true}
+use Rattle.em_view.specs.declared.no.DeskNo.{DeskNo}
+use Rattle.em_view.specs.declared.no.DeskNo.TheVariants as desk
+use Rattle.em_view.specs.Rows.{is_refusal}
+use Rattle.em_implicit.specs.Asking.{Asking, Had, and_then, Asks, Follows, Here, Stops, Lacks}
+use Rattle.em_implicit.proofs.Following.{on, first, stopped, leave_asked}
 use Rattle.em_plan.specs.declared.making.Need.{Need}
 use Rattle.em_plan.specs.declared.making.Making.{Making}
+use Rattle.em_plan.specs.declared.making.Makefile.{Makefile}
 use Rattle.em_plan.specs.declared.planned.PlanJob.{PlanJob}
 use Rattle.em_plan.specs.declared.walk.Frame.{Frame}
 use Rattle.em_plan.specs.declared.marks.Mark.{Mark}
 use Rattle.em_plan.specs.declared.walk.Walk.{Walk}
 use Rattle.em_plan.specs.declared.walk.Walked.{Walked}
 use Rattle.em_plan.specs.declared.no.PlanNo.{PlanNo}
-use Rattle.em_plan.specs.declared.no.PlanNo.TheVariants.{TooManyJobs}
 use Rattle.em_plan.specs.declared.no.PlanNo.TheVariants as no
 use Rattle.em_plan.specs.Once.{is_among}
 use Rattle.em_plan.specs.Jobs.{numbers_of, job_of}
-use Rattle.em_plan.specs.Order.{limit, Says, Walking, Open, AreApart, opened, and_then, is_open, is_known, numbered, finish, enter, visit, has_room, with_job, noted, from_in, units_left}
-use Rattle.em_plan.specs.Resuming.{open_by, opens, reach, resume, mark_by, mark_of, open_mark, jobs_mark, open_in, numbers_in, known_in, opening, closing, Marks, AreMarked, weight, Steps, Fails}
-use Rattle.em_plan.specs.Units.{IsUnits}
-use Rattle.em_plan.proofs.Lists.{first_of, left_of, nothing_of}
-use Rattle.em_plan.proofs.Keeping.{either_false, not_both, Fits, fits, rest_left}
+use Rattle.em_plan.specs.Order.{limit, Walking, Open, opened, is_open, is_known, has_room, with_job, noted, from_in}
+use Rattle.em_plan.specs.Walking.{Units, if_walked, walked_then, finishing, entering, no_visit, units_asked, visiting, of_desk, asks_for, Fails}
+use Rattle.em_plan.specs.Resuming.{open_by, opens, reach, after, resume, mark_by, mark_of, open_mark, jobs_mark, open_in, numbers_in, known_in, opening, closing, Marks, AreMarked, weight, Steps}
+use Rattle.em_plan.proofs.Leaves.{each_came, Ends, assoc_walked, nothing_walked_then, same_walked}
+use Rattle.em_plan.proofs.Lists.{left_of, nothing_of}
 use Rattle.em_plan.proofs.Numbering.{numbers_last}
-
-pub assoc : (m : Walking) (k h : Walked → Walking) → and_then (and_then m k) h ≡ and_then m (λ w. and_then (k w) h)
-assoc (Ok w) k h = refl
-assoc (Err e) k h = refl
+use Rattle.em_plan.proofs.Sought.{most, makefile_units, makefile_few}
+use Rattle.em_plan.proofs.Shutting.{AreUnits, Fits, OneMore, unit_kept, units_fit, visiting_kept}
 
 -- ---- marks
 
@@ -76,13 +83,9 @@ module _ (marks : Marks) (stack : List Open) (w : Walked) (m : AreMarked marks s
   pub known_all : known_in marks ≡ is_known stack w
   known_all = λ i q. known_is q i
 
-  -- what the code asks for is the first unit that is left
-  pub unit_some : (says : Says) (n : List ℕ) (u : Making) → slice_get (says (known_in marks) n) (length (numbers_in marks n)) ≡ Some u
-      → units_left says stack w n ≡ u ∷ drop (length (numbers_of w.jobs n) + 1) (says (is_known stack w) n)
-  unit_some says n u e = left_of (says (is_known stack w) n) (length (numbers_of w.jobs n)) u (rw (known_all, numbers_are n) at e)
-
-  pub unit_none : (says : Says) (n : List ℕ) → slice_get (says (known_in marks) n) (length (numbers_in marks n)) ≡ None → units_left says stack w n ≡ []
-  unit_none says n e = nothing_of (says (is_known stack w) n) (length (numbers_of w.jobs n)) (rw (known_all, numbers_are n) at e)
+  -- what the code asks for is what the walk asks for
+  pub asked_there : (units : Units) (n : List ℕ) → units (known_in marks) n (length (numbers_in marks n)) ≡ units_asked units stack w n
+  asked_there units n = ap (λ (k : List ℕ → Bool). units k n (length (numbers_in marks n))) known_all ∙ ap (λ (ks : List ℕ). units (is_known stack w) n (length ks)) (numbers_are n)
 
 -- a unit is opened
 pub marked_open : (marks new : Marks) (stack : List Open) (jobs : List PlanJob) (u : Open) → AreMarked marks stack jobs → ((q : List ℕ) → get new q ≡ opening (is_among u.targets q) (get marks q))
@@ -121,106 +124,189 @@ marked_close marks new stack jobs u job m made is = record {
 pub marked_none : AreMarked empty [] []
 marked_none = record { told = get-empty (slice_cmp nat_cmp); apart = tt; few = omega arith }
 
+-- ---- errors
+
+module _ {T : Type 0} (asks : Asks T) (a b : T) (x : Asking Walking) where
+  pub fails_on : (c : T) (y : Asking Walking) (e : PlanNo) → Follows asks a b x y → Fails asks b c y e → Fails asks a c x e
+  fails_on c y no.NoMemory f h = stopped f h
+  fails_on c y no.Spent f h = stopped f h
+  fails_on c y no.TooManyJobs f h = on f h
+  fails_on c y no.NoTargets f h = h
+
+  pub fails_then : (k : Walked → Asking Walking) (e : PlanNo) → Fails asks a b x e → Fails asks a b (walked_then x k) e
+  fails_then k no.NoMemory h = leave_asked (if_walked k) (Err desk.NoMemory) refl h
+  fails_then k no.Spent h = leave_asked (if_walked k) (Err desk.Spent) refl h
+  fails_then k no.TooManyJobs h = first (if_walked k) h
+  fails_then k no.NoTargets h = h
+
+  -- a question came to nothing
+  pub fails_asked : (d : DeskNo) (e : PlanNo) → is_refusal d ≡ false → e ≡ of_desk d → Stops asks a b d x → Fails asks a b x e
+  fails_asked desk.Spent e fair is h = rw is h
+  fails_asked desk.NoMemory e fair is h = rw is h
+  fails_asked (desk.File f) e fair is h = absurd (let bad : true ≡ false = fair in cc)
+
+-- memory was short
+pub fails_want : {T : Type 0} (asks : Asks T) (a : T) (x : Asking Walking) (e : PlanNo) → e ≡ no.NoMemory → Fails asks a a x e
+fails_want asks a x e is = rw is (Lacks a x)
+
+-- what a call leaves, and what its caller says of it
+pub on_ok : {X E : Type 0} (A B : Type 0) (r : Result X E) → (A → B) → OnOk r A → OnOk r B
+on_ok A B (Ok x) f h = f h
+on_ok A B (Err e) f h = tt
+
+pub on_ok3 : {X E : Type 0} (A B C D : Type 0) (r : Result X E) → (A → B → C → D) → OnOk r A → OnOk r B → OnOk r C → OnOk r D
+on_ok3 A B C D (Ok x) f h k l = f h k l
+on_ok3 A B C D (Err e) f h k l = tt
+
+pub on_ok4 : {X E : Type 0} (A B C D F : Type 0) (r : Result X E) → (A → B → C → D → F) → OnOk r A → OnOk r B → OnOk r C → OnOk r D → OnOk r F
+on_ok4 A B C D F (Ok x) f h k l m = f h k l m
+on_ok4 A B C D F (Err e) f h k l m = tt
+
+pub on_err : {X E : Type 0} (P Q : E → Type 0) (r : Result X E) → ((e : E) → P e → Q e) → IfErr r P → IfErr r Q
+on_err P Q (Ok x) f h = tt
+on_err P Q (Err e) f h = f e h
+
 -- ---- visits
 
--- into these units of a name, where one more may be open
-abbrev pub after : Says → List Open → List ℕ → List Making → Walked → Walking
-after says stack n ms w = enter (visit says (limit - suc (length stack))) stack n ms w
-
-pub reach_none : (says : Says) (stack : List Open) (w : Walked) (n : List ℕ) → units_left says stack w n ≡ [] → reach says stack w n ≡ Ok w
-unfolding reach visit
-reach_none says stack w n e = by_left (limit - length stack)
+pub reach_form : (units : Units) (stack : List Open) (w : Walked) (n : List ℕ) → length stack < limit → reach units stack w n ≡ and_then (units_asked units stack w n) (λ ms. after units stack n ms w)
+unfolding reach visiting after
+reach_form units stack w n free = by_left (limit - length stack) refl
   where
-    by_left : (left : ℕ) → visit says left stack w n ≡ Ok w
-    by_left zero = rw e refl
-    by_left (suc left) = rw e refl
-
-pub reach_full : (says : Says) (stack : List Open) (w : Walked) (n : List ℕ) (m : Making) (ms : List Making) → units_left says stack w n ≡ m ∷ ms → has_room stack w ≡ false → reach says stack w n ≡ Err TooManyJobs
-unfolding reach visit
-reach_full says stack w n m ms e full = by_left (limit - length stack)
-  where
-    by_left : (left : ℕ) → visit says left stack w n ≡ Err TooManyJobs
-    by_left zero = rw (e, full) refl
-    by_left (suc left) = rw (e, full) refl
-
-pub reach_after : (says : Says) (stack : List Open) (w : Walked) (n : List ℕ) → length stack < limit → reach says stack w n ≡ after says stack n (units_left says stack w n) w
-unfolding reach visit
-reach_after says stack w n free = by_left (limit - length stack) refl
-  where
-    by_left : (left : ℕ) → limit - length stack ≡ left → visit says left stack w n ≡ enter (visit says (limit - suc (length stack))) stack n (units_left says stack w n) w
+    by_left : (left : ℕ) → limit - length stack ≡ left → visiting units left stack w n ≡ and_then (units_asked units stack w n) (λ ms. entering (visiting units (limit - suc (length stack))) stack n ms w)
     by_left zero none = absurd (omega arith)
     by_left (suc left) some = let same_left : limit - suc (length stack) ≡ left = omega arith in rw same_left refl
+
+module _ {T : Type 0} {asks : Asks T} (units : Units) (stack : List Open) (w : Walked) (n : List ℕ) where
+  -- the questions of the name's units come first
+  pub reach_stops : {a b : T} {e : DeskNo} → Stops asks a b e (units_asked units stack w n) → Stops asks a b e (reach units stack w n)
+  unfolding reach visiting
+  reach_stops {a} {b} {e} h = by_left (limit - length stack)
+    where
+      by_left : (left : ℕ) → Stops asks a b e (visiting units left stack w n)
+      by_left zero = leave_asked (λ ms. entering no_visit stack n ms w) (Err e) refl h
+      by_left (suc left) = leave_asked (λ ms. entering (visiting units left) stack n ms w) (Err e) refl h
+
+  pub reach_none : {a b : T} → Follows asks a b (units_asked units stack w n) (Had []) → Follows asks a b (reach units stack w n) (Had (Ok w))
+  unfolding reach visiting
+  reach_none {a} {b} h = by_left (limit - length stack)
+    where
+      by_left : (left : ℕ) → Follows asks a b (visiting units left stack w n) (Had (Ok w))
+      by_left zero = first (λ ms. entering no_visit stack n ms w) h
+      by_left (suc left) = first (λ ms. entering (visiting units left) stack n ms w) h
+
+  pub reach_full : {a b : T} (m : Making) (ms : List Making) → Follows asks a b (units_asked units stack w n) (Had (m ∷ ms)) → has_room stack w ≡ false → Follows asks a b (reach units stack w n) (Had (Err no.TooManyJobs))
+  unfolding reach visiting
+  reach_full {a} {b} m ms h full = by_left (limit - length stack)
+    where
+      by_left : (left : ℕ) → Follows asks a b (visiting units left stack w n) (Had (Err no.TooManyJobs))
+      by_left zero = on (first (λ us. entering no_visit stack n us w) h) (rw full (Here b _))
+      by_left (suc left) = on (first (λ us. entering (visiting units left) stack n us w) h) (rw full (Here b _))
+
+  pub reach_after : {a b : T} (ms : List Making) → length stack < limit → Follows asks a b (units_asked units stack w n) (Had ms) → Follows asks a b (reach units stack w n) (after units stack n ms w)
+  reach_after {a} {b} ms free h = rw (reach_form units stack w n free) (first (λ us. after units stack n us w) h)
 
 pub room_lt : (stack : List Open) (w : Walked) → has_room stack w ≡ true → length w.jobs + length stack < limit
 room_lt stack w e = ltb-true _ _ e
 
--- the walk from a unit, and then from the name's other units
-pub reach_some : (says : Says) (stack : List Open) (w : Walked) (n : List ℕ) (m : Making) (ms : List Making) → units_left says stack w n ≡ m ∷ ms → has_room stack w ≡ true
-    → reach says stack w n ≡ and_then (finish (reach says (opened n m ∷ stack)) (opened n m) stack m m.needs w) (after says stack n ms)
-unfolding reach
-reach_some says stack w n m ms e free = reach_after says stack w n (let l : length w.jobs + length stack < limit = room_lt stack w free in omega arith) ∙ rw (e, free) refl
+module _ (units : Units) (stack : List Open) (n : List ℕ) where
+  -- a unit, and then the name's other units
+  pub after_more : (w : Walked) (m : Making) (ms : List Making) → has_room stack w ≡ true
+      → after units stack n (m ∷ ms) w ≡ walked_then (finishing (reach units (opened n m ∷ stack)) (opened n m) stack m m.needs w) (after units stack n ms)
+  unfolding reach after
+  after_more w m ms free = rw free refl
 
-pub reach_rest : (says : Says) → IsUnits says → (stack : List Open) (w v : Walked) (n : List ℕ) (m : Making) (ms : List Making) → is_open stack n ≡ false → units_left says stack w n ≡ m ∷ ms → has_room stack w ≡ true
-    → finish (reach says (opened n m ∷ stack)) (opened n m) stack m m.needs w ≡ Ok v → (reach says stack v n ≡ after says stack n ms v) × (units_left says stack v n ≡ ms)
-unfolding reach
-reach_rest says facts stack w v n m ms shut some free e =
-    let rest : units_left says stack v n ≡ ms = rest_left says facts (limit - length (opened n m ∷ stack)) stack w v n m ms shut some e in
-    (reach_after says stack v n (let l : length w.jobs + length stack < limit = room_lt stack w free in omega arith) ∙ ap (λ (us : List Making). after says stack n us v) rest, rest)
+  pub after_full : (w : Walked) (m : Making) (ms : List Making) → has_room stack w ≡ false → after units stack n (m ∷ ms) w ≡ Had (Err no.TooManyJobs)
+  unfolding after
+  after_full w m ms full = rw full refl
+
+  pub after_one : (w : Walked) (m : Making) → has_room stack w ≡ true → after units stack n (m ∷ []) w ≡ finishing (reach units (opened n m ∷ stack)) (opened n m) stack m m.needs w
+  unfolding after
+  after_one w m free = after_more w m [] free ∙ nothing_walked_then (finishing (reach units (opened n m ∷ stack)) (opened n m) stack m m.needs w)
+
+  -- the first alone, and then the others
+  pub after_first : (w : Walked) (m : Making) (ms : List Making) → after units stack n (m ∷ ms) w ≡ walked_then (after units stack n (m ∷ []) w) (after units stack n ms)
+  after_first w m ms = by_cases (has_room stack w) (λ b. has_room stack w ≡ b → after units stack n (m ∷ ms) w ≡ walked_then (after units stack n (m ∷ []) w) (after units stack n ms))
+      (λ _ free. after_more w m ms free ∙ ap (λ (x : Asking Walking). walked_then x (after units stack n ms)) (sym (after_one w m free)))
+      (λ _ full. after_full w m ms full ∙ ap (λ (x : Asking Walking). walked_then x (after units stack n ms)) (sym (after_full w m [] full))) refl
+
+  module _ (facts : AreUnits units) (m : Making) (fit : Fits stack n m) where
+    pub unit_more : (w : Walked) → Ends (OneMore stack n w) (finishing (reach units (opened n m ∷ stack)) (opened n m) stack m m.needs w)
+    unfolding reach
+    unit_more w = unit_kept (visiting units (limit - length (opened n m ∷ stack)) (opened n m ∷ stack)) stack n m (visiting_kept units facts (limit - length (opened n m ∷ stack)) (opened n m ∷ stack)) fit w
+
+    pub one_more : (w : Walked) → Ends (OneMore stack n w) (after units stack n (m ∷ []) w)
+    one_more w = by_cases (has_room stack w) (λ b. has_room stack w ≡ b → Ends (OneMore stack n w) (after units stack n (m ∷ []) w))
+        (λ _ free. subst (Ends (OneMore stack n w)) (sym (after_one w m free)) (unit_more w))
+        (λ _ full. subst (Ends (OneMore stack n w)) (sym (after_full w m [] full)) tt) refl
+
+  -- behind a unit no question is asked for the name's other units
+  pub reach_rest : AreUnits units → {T : Type 0} {asks : Asks T} {a b : T} (w v : Walked) (m : Making) (ms : List Making) → length stack < limit → Follows asks a b (units_asked units stack w n) (Had (m ∷ ms))
+      → length (numbers_of v.jobs n) ≡ length (numbers_of w.jobs n) + 1 → reach units stack v n ≡ after units stack n ms v
+  reach_rest facts {T} {asks} {a} {b} w v m ms free h more =
+      let place : ℕ = length (numbers_of w.jobs n) in
+      let known : List ℕ → Bool = is_known stack w in
+      let other : List ℕ → Bool = is_known stack v in
+      let rest : units other n (place + 1) ≡ Had ms = each_came (λ (us : List Making). us ≡ m ∷ ms → units other n (place + 1) ≡ Had ms) h (facts.next known other n place m ms) refl in
+      reach_form units stack v n free ∙ ap (λ (x : Asking (List Making)). and_then x (λ us. after units stack n us v)) (ap (units other n) more ∙ rest)
 
 -- ---- frames
 
-pub next_of : (ns : List Need) (i : ℕ) (n : List ℕ) → option_map (λ (x : Need). x.name) (slice_get ns i) ≡ Some n → (x : Need) × (drop i ns ≡ x ∷ drop (i + 1) ns) × (x.name ≡ n)
-next_of [] zero n e = absurd (let b : None ≡ Some n = e in cc)
-next_of [] (suc i) n e = absurd (let b : None ≡ Some n = e in cc)
-next_of (m ∷ ns) zero n e = (m, refl, (let h : Some m.name ≡ Some n = e in cc))
-next_of (m ∷ ns) (suc i) n e =
-    let r = next_of ns i n e in
-    let k : suc i + 1 ≡ suc (i + 1) = omega arith in
-    (r.0, rw k r.1, r.2)
-
--- a prerequisite of whose name this is told
-pub the_need : (P : List ℕ → Type 0) (o : Option Need) → IsSomeAnd o (λ x. P x.name) → (n : List ℕ) × (option_map (λ (x : Need). x.name) o ≡ Some n) × P n
-the_need P None h = absurd h
-the_need P (Some x) h = (x.name, refl, h)
-
 -- a prerequisite that is open
-pub resume_circular : (says : Says) (f : Frame) (fs : List Frame) (w : Walked) (x : Need) → drop f.next f.making.needs ≡ x ∷ drop (f.next + 1) f.making.needs → is_open (opens (f ∷ fs)) x.name ≡ true
-    → resume says (record f { next = f.next + 1 } ∷ fs) (noted f.target x.name w) ≡ resume says (f ∷ fs) w
+pub resume_circular : (units : Units) (f : Frame) (fs : List Frame) (w : Walked) (x : Need) → drop f.next f.making.needs ≡ x ∷ drop (f.next + 1) f.making.needs → is_open (opens (f ∷ fs)) x.name ≡ true
+    → resume units (record f { next = f.next + 1 } ∷ fs) (noted f.target x.name w) ≡ resume units (f ∷ fs) w
 unfolding resume
-resume_circular says f fs w x more circular = rw (more, circular) refl
+resume_circular units f fs w x more circular = rw (more, circular) refl
 
 -- a prerequisite that isn't
-pub resume_into : (says : Says) (f : Frame) (fs : List Frame) (w : Walked) (x : Need) → drop f.next f.making.needs ≡ x ∷ drop (f.next + 1) f.making.needs → is_open (opens (f ∷ fs)) x.name ≡ false
-    → and_then (reach says (opens (f ∷ fs)) w x.name) (resume says (record f { next = f.next + 1 } ∷ fs)) ≡ resume says (f ∷ fs) w
+pub resume_into : (units : Units) (f : Frame) (fs : List Frame) (w : Walked) (x : Need) → drop f.next f.making.needs ≡ x ∷ drop (f.next + 1) f.making.needs → is_open (opens (f ∷ fs)) x.name ≡ false
+    → walked_then (reach units (opens (f ∷ fs)) w x.name) (resume units (record f { next = f.next + 1 } ∷ fs)) ≡ resume units (f ∷ fs) w
 unfolding resume
-resume_into says f fs w x more apart = rw (more, apart) (sym (assoc (reach says (opens (f ∷ fs)) w x.name) (finish (reach says (opens (f ∷ fs))) (open_by f) (opens fs) f.making (drop (f.next + 1) f.making.needs)) (resume says fs)))
+resume_into units f fs w x more apart = rw (more, apart) (sym (assoc_walked (reach units (opens (f ∷ fs)) w x.name) (finishing (reach units (opens (f ∷ fs))) (open_by f) (opens fs) f.making (drop (f.next + 1) f.making.needs)) (resume units fs)))
 
 -- nothing is left
-pub resume_close : (says : Says) (f : Frame) (fs : List Frame) (w : Walked) → drop f.next f.making.needs ≡ [] → resume says fs (with_job (open_by f) (opens fs) f.making w) ≡ resume says (f ∷ fs) w
+pub resume_close : (units : Units) (f : Frame) (fs : List Frame) (w : Walked) → drop f.next f.making.needs ≡ [] → resume units fs (with_job (open_by f) (opens fs) f.making w) ≡ resume units (f ∷ fs) w
 unfolding resume
-resume_close says f fs w none = rw none refl
+resume_close units f fs w none = rw none refl
+
+-- a unit that was opened, and what is around it
+pub resume_unit : (units : Units) (fs : List Frame) (w : Walked) (n : List ℕ) (m : Making)
+    → resume units (record { target = n; making = m; next = 0 } ∷ fs) w ≡ walked_then (finishing (reach units (opened n m ∷ opens fs)) (opened n m) (opens fs) m m.needs w) (resume units fs)
+unfolding resume
+resume_unit units fs w n m = refl
+
+pub resume_nothing : (units : Units) (fs : List Frame) (w : Walked) → fs ≡ [] → resume units fs w ≡ Had (Ok w)
+unfolding resume
+resume_nothing units fs w e = rw e refl
 
 -- a unit of a prerequisite is opened: the walk then comes to the prerequisite again
-pub resume_open : (says : Says) → IsUnits says → (f : Frame) (fs : List Frame) (w : Walked) (x : Need) (m : Making) (ms : List Making) → drop f.next f.making.needs ≡ x ∷ drop (f.next + 1) f.making.needs
-    → is_open (opens (f ∷ fs)) x.name ≡ false → units_left says (opens (f ∷ fs)) w x.name ≡ m ∷ ms → has_room (opens (f ∷ fs)) w ≡ true
-    → resume says (record { target = x.name; making = m; next = 0 } ∷ f ∷ fs) w ≡ resume says (f ∷ fs) w
-unfolding resume
-resume_open says facts f fs w x m ms more apart some free = by_unit (finish (reach says (opened x.name m ∷ opens (f ∷ fs))) (opened x.name m) (opens (f ∷ fs)) m m.needs w) refl
+pub resume_open : (units : Units) → AreUnits units → {T : Type 0} {asks : Asks T} {a b : T} (f : Frame) (fs : List Frame) (w : Walked) (x : Need) (m : Making) (ms : List Making) → drop f.next f.making.needs ≡ x ∷ drop (f.next + 1) f.making.needs
+    → is_open (opens (f ∷ fs)) x.name ≡ false → Fits (opens (f ∷ fs)) x.name m → Follows asks a b (units_asked units (opens (f ∷ fs)) w x.name) (Had (m ∷ ms)) → has_room (opens (f ∷ fs)) w ≡ true
+    → Follows asks a b (resume units (f ∷ fs) w) (resume units (record { target = x.name; making = m; next = 0 } ∷ f ∷ fs) w)
+resume_open units facts {T} {asks} {a} {b} f fs w x m ms more apart fit h free =
+    subst (λ (y : Asking Walking). Follows asks a b y (resume units (record { target = x.name; making = m; next = 0 } ∷ f ∷ fs) w)) (resume_into units f fs w x more apart)
+    (subst (λ (y : Asking Walking). Follows asks a b (walked_then (reach units stack w x.name) later) y) same
+    (first (if_walked later) (reach_after units stack w x.name (m ∷ ms) few h)))
   where
-    later : Walked → Walking
-    later = resume says (record f { next = f.next + 1 } ∷ fs)
+    stack : List Open
+    stack = opens (f ∷ fs)
 
-    whole : resume says (f ∷ fs) w ≡ and_then (and_then (finish (reach says (opened x.name m ∷ opens (f ∷ fs))) (opened x.name m) (opens (f ∷ fs)) m m.needs w) (after says (opens (f ∷ fs)) x.name ms)) later
-    whole = sym (resume_into says f fs w x more apart) ∙ ap (λ (r : Walking). and_then r later) (reach_some says (opens (f ∷ fs)) w x.name m ms some free)
+    few : length stack < limit
+    few = let l : length w.jobs + length stack < limit = room_lt stack w free in omega arith
 
-    by_unit : (r : Walking) → finish (reach says (opened x.name m ∷ opens (f ∷ fs))) (opened x.name m) (opens (f ∷ fs)) m m.needs w ≡ r
-        → and_then (finish (reach says (opened x.name m ∷ opens (f ∷ fs))) (opened x.name m) (opens (f ∷ fs)) m m.needs w) (resume says (f ∷ fs)) ≡ resume says (f ∷ fs) w
-    by_unit (Err e) is = ap (λ (r : Walking). and_then r (resume says (f ∷ fs))) is ∙ sym (whole ∙ ap (λ (r : Walking). and_then (and_then r (after says (opens (f ∷ fs)) x.name ms)) later) is)
-    by_unit (Ok v) is =
-        ap (λ (r : Walking). and_then r (resume says (f ∷ fs))) is
-        ∙ sym (resume_into says f fs v x more apart)
-        ∙ ap (λ (r : Walking). and_then r later) (reach_rest says facts (opens (f ∷ fs)) w v x.name m ms apart some free is).0
-        ∙ sym (whole ∙ ap (λ (r : Walking). and_then (and_then r (after says (opens (f ∷ fs)) x.name ms)) later) is)
+    later : Walked → Asking Walking
+    later = resume units (record f { next = f.next + 1 } ∷ fs)
+
+    unit : Asking Walking
+    unit = finishing (reach units (opened x.name m ∷ stack)) (opened x.name m) stack m m.needs w
+
+    back : (v : Walked) → OneMore stack x.name w v → walked_then (after units stack x.name ms v) later ≡ resume units (f ∷ fs) v
+    back v one = ap (λ (y : Asking Walking). walked_then y later) (sym (reach_rest units stack x.name facts w v m ms few h one.1)) ∙ resume_into units f fs v x more apart
+
+    same : walked_then (after units stack x.name (m ∷ ms) w) later ≡ resume units (record { target = x.name; making = m; next = 0 } ∷ f ∷ fs) w
+    same = ap (λ (y : Asking Walking). walked_then y later) (after_more units stack x.name w m ms free)
+        ∙ assoc_walked unit (after units stack x.name ms) later
+        ∙ same_walked (OneMore stack x.name w) unit (λ v. walked_then (after units stack x.name ms v) later) (resume units (f ∷ fs)) (unit_more units stack x.name facts m fit w) back
+        ∙ sym (resume_unit units (f ∷ fs) w x.name m)
 
 -- ---- weights
 
@@ -251,154 +337,184 @@ first_name (f ∷ fs) = refl
 
 -- ---- steps
 
-module _ (says : Says) (f : Frame) (walk : Walk) (n : List ℕ) (new : Walk) (m : AreMarked walk.marks (open_by f ∷ opens walk.begun) walk.walked.jobs) where
-  pub steps_circular : option_map (λ (x : Need). x.name) (slice_get f.making.needs f.next) ≡ Some n → open_in walk.marks n ≡ true
-      → new ≡ record { begun = record f { next = f.next + 1 } ∷ walk.begun; marks = walk.marks; walked = noted f.target n walk.walked } → Steps says (f ∷ walk.begun) walk.walked new
-  steps_circular e circular is =
-      let r = next_of f.making.needs f.next n e in
-      let there : is_open (opens (f ∷ walk.begun)) r.0.name ≡ true = ap (is_open (opens (f ∷ walk.begun))) r.2 ∙ sym (open_is walk.marks (open_by f ∷ opens walk.begun) walk.walked m n) ∙ circular in
-      subst (λ (w : Walk). Steps says (f ∷ walk.begun) walk.walked w) (sym is) (record {
+-- the place of a prerequisite is one of theirs
+pub need_below : (ns : List Need) (i : ℕ) (x : Need) → slice_get ns i ≡ Some x → i < length ns
+need_below [] zero x e = absurd (let b : None ≡ Some x = e in cc)
+need_below [] (suc i) x e = absurd (let b : None ≡ Some x = e in cc)
+need_below (m ∷ ns) zero x e = omega arith
+need_below (m ∷ ns) (suc i) x e = let l = need_below ns i x e in omega (arith, l)
+
+module _ {T : Type 0} (asks : Asks T) (units : Units) (f : Frame) (walk : Walk) (new : Walk) (m : AreMarked walk.marks (open_by f ∷ opens walk.begun) walk.walked.jobs) where
+  pub steps_circular : (a : T) (x : Need) → slice_get f.making.needs f.next ≡ Some x → open_in walk.marks x.name ≡ true
+      → new ≡ record { begun = record f { next = f.next + 1 } ∷ walk.begun; marks = walk.marks; walked = noted f.target x.name walk.walked } → Steps asks a a units (f ∷ walk.begun) walk.walked new
+  steps_circular a x e circular is =
+      let more = left_of f.making.needs f.next x e in
+      let there : is_open (opens (f ∷ walk.begun)) x.name ≡ true = sym (open_is walk.marks (open_by f ∷ opens walk.begun) walk.walked m x.name) ∙ circular in
+      subst (λ (w : Walk). Steps asks a a units (f ∷ walk.begun) walk.walked w) (sym is) (record {
         marked = record { told = m.told; apart = m.apart; few = m.few };
-        end = subst (λ (k : List ℕ). resume says (record f { next = f.next + 1 } ∷ walk.begun) (noted f.target k walk.walked) ≡ resume says (f ∷ walk.begun) walk.walked) r.2 (resume_circular says f walk.begun walk.walked r.0 r.1 there);
-        less = weight_later f walk.begun r.0 walk.walked.jobs r.1;
+        end = subst (λ (y : Asking Walking). Follows asks a a y (resume units (record f { next = f.next + 1 } ∷ walk.begun) (noted f.target x.name walk.walked))) (resume_circular units f walk.begun walk.walked x more there) (Here a _);
+        less = weight_later f walk.begun x walk.walked.jobs more;
       })
 
   -- a prerequisite whose units all have numbers
-  pub steps_past : option_map (λ (x : Need). x.name) (slice_get f.making.needs f.next) ≡ Some n → open_in walk.marks n ≡ false
-      → slice_get (says (known_in walk.marks) n) (length (numbers_in walk.marks n)) ≡ None
-      → new ≡ record walk { begun = record f { next = f.next + 1 } ∷ walk.begun } → Steps says (f ∷ walk.begun) walk.walked new
-  steps_past e shut past is =
-      let r = next_of f.making.needs f.next n e in
-      let apart : is_open (opens (f ∷ walk.begun)) r.0.name ≡ false = ap (is_open (opens (f ∷ walk.begun))) r.2 ∙ sym (open_is walk.marks (open_by f ∷ opens walk.begun) walk.walked m n) ∙ shut in
-      let none : units_left says (opens (f ∷ walk.begun)) walk.walked r.0.name ≡ [] = ap (units_left says (opens (f ∷ walk.begun)) walk.walked) r.2 ∙ unit_none walk.marks (open_by f ∷ opens walk.begun) walk.walked m says n past in
-      let through : reach says (opens (f ∷ walk.begun)) walk.walked r.0.name ≡ Ok walk.walked = reach_none says (opens (f ∷ walk.begun)) walk.walked r.0.name none in
-      subst (λ (w : Walk). Steps says (f ∷ walk.begun) walk.walked w) (sym is) (record {
+  pub steps_past : {a b : T} (x : Need) → slice_get f.making.needs f.next ≡ Some x → open_in walk.marks x.name ≡ false
+      → Follows asks a b (units (known_in walk.marks) x.name (length (numbers_in walk.marks x.name))) (Had [])
+      → new ≡ record walk { begun = record f { next = f.next + 1 } ∷ walk.begun } → Steps asks a b units (f ∷ walk.begun) walk.walked new
+  steps_past {a} {b} x e shut past is =
+      let more = left_of f.making.needs f.next x e in
+      let stack : List Open = open_by f ∷ opens walk.begun in
+      let apart : is_open (opens (f ∷ walk.begun)) x.name ≡ false = sym (open_is walk.marks stack walk.walked m x.name) ∙ shut in
+      let none : Follows asks a b (units_asked units stack walk.walked x.name) (Had []) = subst (λ (y : Asking (List Making)). Follows asks a b y (Had [])) (asked_there walk.marks stack walk.walked m units x.name) past in
+      let later : Walked → Asking Walking = resume units (record f { next = f.next + 1 } ∷ walk.begun) in
+      subst (λ (w : Walk). Steps asks a b units (f ∷ walk.begun) walk.walked w) (sym is) (record {
         marked = record { told = m.told; apart = m.apart; few = m.few };
-        end = ap (λ (x : Walking). and_then x (resume says (record f { next = f.next + 1 } ∷ walk.begun))) (sym through) ∙ resume_into says f walk.begun walk.walked r.0 r.1 apart;
-        less = weight_later f walk.begun r.0 walk.walked.jobs r.1;
+        end = subst (λ (y : Asking Walking). Follows asks a b y (later walk.walked)) (resume_into units f walk.begun walk.walked x more apart) (first (if_walked later) (reach_none units stack walk.walked x.name none));
+        less = weight_later f walk.begun x walk.walked.jobs more;
       })
 
   -- a unit of the prerequisite is opened
-  pub steps_into : IsUnits says → (u : Making) → option_map (λ (x : Need). x.name) (slice_get f.making.needs f.next) ≡ Some n → open_in walk.marks n ≡ false
-      → slice_get (says (known_in walk.marks) n) (length (numbers_in walk.marks n)) ≡ Some u → length u.needs < 2 ^ 64 → has_room (opens (f ∷ walk.begun)) walk.walked ≡ true
-      → new.begun ≡ record { target = n; making = u; next = 0 } ∷ f ∷ walk.begun → ((q : List ℕ) → get new.marks q ≡ opening (is_among u.targets q) (get walk.marks q)) → new.walked ≡ walk.walked
-      → Steps says (f ∷ walk.begun) walk.walked new
-  steps_into facts u e shut some few free begun marks walked =
-      let r = next_of f.making.needs f.next n e in
+  pub steps_into : AreUnits units → {a b : T} (x : Need) (u : Making) (us : List Making) → slice_get f.making.needs f.next ≡ Some x → open_in walk.marks x.name ≡ false
+      → Follows asks a b (units (known_in walk.marks) x.name (length (numbers_in walk.marks x.name))) (Had (u ∷ us)) → length u.needs < 2 ^ 64 → has_room (opens (f ∷ walk.begun)) walk.walked ≡ true
+      → new.begun ≡ record { target = x.name; making = u; next = 0 } ∷ f ∷ walk.begun → ((q : List ℕ) → get new.marks q ≡ opening (is_among u.targets q) (get walk.marks q)) → new.walked ≡ walk.walked
+      → Steps asks a b units (f ∷ walk.begun) walk.walked new
+  steps_into facts {a} {b} x u us e shut some few free begun marks walked =
+      let more = left_of f.making.needs f.next x e in
       let stack : List Open = opens (f ∷ walk.begun) in
-      let apart_n : is_open stack n ≡ false = sym (open_is walk.marks (open_by f ∷ opens walk.begun) walk.walked m n) ∙ shut in
-      let apart : is_open stack r.0.name ≡ false = ap (is_open stack) r.2 ∙ apart_n in
-      let left_n = unit_some walk.marks (open_by f ∷ opens walk.begun) walk.walked m says n u some in
-      let left : units_left says stack walk.walked r.0.name ≡ u ∷ drop (length (numbers_of walk.walked.jobs n) + 1) (says (is_known stack walk.walked) n) = ap (units_left says stack walk.walked) r.2 ∙ left_n in
-      let unit : Fits says stack n (length (numbers_of walk.walked.jobs n)) u = fits says facts stack walk.walked n apart_n (length (numbers_of walk.walked.jobs n)) u (first_of (says (is_known stack walk.walked) n) (length (numbers_of walk.walked.jobs n)) u _ left_n).0 in
+      let apart : is_open stack x.name ≡ false = sym (open_is walk.marks stack walk.walked m x.name) ∙ shut in
+      let here : Follows asks a b (units_asked units stack walk.walked x.name) (Had (u ∷ us)) = subst (λ (y : Asking (List Making)). Follows asks a b y (Had (u ∷ us))) (asked_there walk.marks stack walk.walked m units x.name) some in
+      let fit : Fits stack x.name u = (each_came (AllByRecursion (Fits stack x.name)) here (units_fit units facts stack walk.walked x.name apart)).0 in
       let lt : length walk.walked.jobs + length stack < limit = room_lt stack walk.walked free in
       let lengths : length (opens walk.begun) ≡ length walk.begun = length_opens walk.begun in
       record {
-        marked = rw (begun, walked) (marked_open walk.marks new.marks stack walk.walked.jobs (opened n u) m marks unit.apart lt);
-        end = rw (begun, walked) (subst (λ (k : List ℕ). resume says (record { target = k; making = u; next = 0 } ∷ f ∷ walk.begun) walk.walked ≡ resume says (f ∷ walk.begun) walk.walked) r.2
-            (resume_open says facts f walk.begun walk.walked r.0 u _ r.1 apart left free));
-        less = rw (begun, walked) (weight_open (f ∷ walk.begun) (record { target = n; making = u; next = 0 }) walk.walked.jobs refl few (omega (arith, lt, lengths)));
+        marked = rw (begun, walked) (marked_open walk.marks new.marks stack walk.walked.jobs (opened x.name u) m marks fit.apart lt);
+        end = rw (begun, walked) (resume_open units facts f walk.begun walk.walked x u us more apart fit here free);
+        less = rw (begun, walked) (weight_open (f ∷ walk.begun) (record { target = x.name; making = u; next = 0 }) walk.walked.jobs refl few (omega (arith, lt, lengths)));
       }
 
   -- there is no room for it
-  pub fails_into : (u : Making) → option_map (λ (x : Need). x.name) (slice_get f.making.needs f.next) ≡ Some n → open_in walk.marks n ≡ false
-      → slice_get (says (known_in walk.marks) n) (length (numbers_in walk.marks n)) ≡ Some u → (e : PlanNo) → (e ≡ no.NoMemory) ⊎ ((e ≡ no.TooManyJobs) × (has_room (opens (f ∷ walk.begun)) walk.walked ≡ false))
-      → Fails (resume says (f ∷ walk.begun) walk.walked) e
-  fails_into u e shut some x (inl is) = rw is tt
-  fails_into u e shut some x (inr (is, full)) =
-      let r = next_of f.making.needs f.next n e in
+  pub fails_into : (a b : T) (x : Need) (u : Making) (us : List Making) → slice_get f.making.needs f.next ≡ Some x → open_in walk.marks x.name ≡ false
+      → Follows asks a b (units (known_in walk.marks) x.name (length (numbers_in walk.marks x.name))) (Had (u ∷ us))
+      → (e : PlanNo) → (e ≡ no.NoMemory) ⊎ ((e ≡ no.TooManyJobs) × (has_room (opens (f ∷ walk.begun)) walk.walked ≡ false))
+      → Fails asks a b (resume units (f ∷ walk.begun) walk.walked) e
+  fails_into a b x u us e shut some error why =
+      let more = left_of f.making.needs f.next x e in
       let stack : List Open = opens (f ∷ walk.begun) in
-      let apart : is_open stack r.0.name ≡ false = ap (is_open stack) r.2 ∙ sym (open_is walk.marks (open_by f ∷ opens walk.begun) walk.walked m n) ∙ shut in
-      let left = ap (units_left says stack walk.walked) r.2 ∙ unit_some walk.marks (open_by f ∷ opens walk.begun) walk.walked m says n u some in
-      rw is (sym (resume_into says f walk.begun walk.walked r.0 r.1 apart) ∙ ap (λ (k : Walking). and_then k (resume says (record f { next = f.next + 1 } ∷ walk.begun))) (reach_full says stack walk.walked r.0.name u _ left full))
+      let apart : is_open stack x.name ≡ false = sym (open_is walk.marks stack walk.walked m x.name) ∙ shut in
+      let here : Follows asks a b (units_asked units stack walk.walked x.name) (Had (u ∷ us)) = subst (λ (y : Asking (List Making)). Follows asks a b y (Had (u ∷ us))) (asked_there walk.marks stack walk.walked m units x.name) some in
+      let later : Walked → Asking Walking = resume units (record f { next = f.next + 1 } ∷ walk.begun) in
+      subst (λ (y : Asking Walking). Fails asks a b y error) (resume_into units f walk.begun walk.walked x more apart) (fails_then asks a b (reach units stack walk.walked x.name) later error (reached here why))
+    where
+      stacked : List Open
+      stacked = opens (f ∷ walk.begun)
 
-  pub steps_close : (job : PlanJob) → slice_get f.making.needs f.next ≡ None → job ≡ job_of (open_in walk.marks) (numbers_in walk.marks) f.target (from_in (opens walk.begun)) f.making
-      → new.begun ≡ walk.begun → ((q : List ℕ) → get new.marks q ≡ closing (length walk.walked.jobs) (is_among job.targets q) (get walk.marks q))
-      → new.walked ≡ record walk.walked { jobs = walk.walked.jobs ++ job ∷ [] } → Steps says (f ∷ walk.begun) walk.walked new
-  steps_close job e made begun marks walked =
+      reached : Follows asks a b (units_asked units stacked walk.walked x.name) (Had (u ∷ us)) → (error ≡ no.NoMemory) ⊎ ((error ≡ no.TooManyJobs) × (has_room stacked walk.walked ≡ false)) → Fails asks a b (reach units stacked walk.walked x.name) error
+      reached here (inl is) = rw is (reach_stops units stacked walk.walked x.name (stopped here (Lacks b _)))
+      reached here (inr (is, full)) = rw is (reach_full units stacked walk.walked x.name u us here full)
+
+  -- the question for its units came to nothing
+  pub fails_need : (a b : T) (x : Need) → slice_get f.making.needs f.next ≡ Some x → open_in walk.marks x.name ≡ false
+      → (d : DeskNo) (e : PlanNo) → is_refusal d ≡ false → e ≡ of_desk d → Stops asks a b d (units (known_in walk.marks) x.name (length (numbers_in walk.marks x.name))) → Fails asks a b (resume units (f ∷ walk.begun) walk.walked) e
+  fails_need a b x at shut d e fair is h =
+      let more = left_of f.making.needs f.next x at in
+      let stack : List Open = opens (f ∷ walk.begun) in
+      let apart : is_open stack x.name ≡ false = sym (open_is walk.marks stack walk.walked m x.name) ∙ shut in
+      let here : Stops asks a b d (units_asked units stack walk.walked x.name) = subst (λ (y : Asking (List Making)). Stops asks a b d y) (asked_there walk.marks stack walk.walked m units x.name) h in
+      subst (λ (y : Asking Walking). Fails asks a b y e) (resume_into units f walk.begun walk.walked x more apart)
+      (fails_then asks a b (reach units stack walk.walked x.name) (resume units (record f { next = f.next + 1 } ∷ walk.begun)) e (fails_asked asks a b (reach units stack walk.walked x.name) d e fair is (reach_stops units stack walk.walked x.name here)))
+
+  -- memory was short behind it
+  pub fails_behind : (a b : T) (x : Need) → slice_get f.making.needs f.next ≡ Some x → open_in walk.marks x.name ≡ false
+      → (us : List Making) → Follows asks a b (units (known_in walk.marks) x.name (length (numbers_in walk.marks x.name))) (Had us) → (e : PlanNo) → e ≡ no.NoMemory → Fails asks a b (resume units (f ∷ walk.begun) walk.walked) e
+  fails_behind a b x at shut us h e is = fails_need a b x at shut desk.NoMemory e refl is (stopped h (Lacks b (Had us)))
+
+  pub steps_close : (a : T) → slice_get f.making.needs f.next ≡ None
+      → new.begun ≡ walk.begun → ((q : List ℕ) → get new.marks q ≡ closing (length walk.walked.jobs) (is_among f.making.targets q) (get walk.marks q))
+      → new.walked ≡ record walk.walked { jobs = walk.walked.jobs ++ job_of (open_in walk.marks) (numbers_in walk.marks) f.target (from_in (opens walk.begun)) f.making ∷ [] } → Steps asks a a units (f ∷ walk.begun) walk.walked new
+  steps_close a e begun marks walked =
       let stack : List Open = open_by f ∷ opens walk.begun in
-      let is : job ≡ job_of (is_open stack) (numbers_of walk.walked.jobs) f.target (from_in (opens walk.begun)) f.making = made
-      ∙ ap (λ (o : List ℕ → Bool). job_of o (numbers_in walk.marks) f.target (from_in (opens walk.begun)) f.making) (open_all walk.marks stack walk.walked m)
+      let job : PlanJob = job_of (open_in walk.marks) (numbers_in walk.marks) f.target (from_in (opens walk.begun)) f.making in
+      let is : job ≡ job_of (is_open stack) (numbers_of walk.walked.jobs) f.target (from_in (opens walk.begun)) f.making =
+      ap (λ (o : List ℕ → Bool). job_of o (numbers_in walk.marks) f.target (from_in (opens walk.begun)) f.making) (open_all walk.marks stack walk.walked m)
       ∙ ap (λ (k : List ℕ → List ℕ). job_of (is_open stack) k f.target (from_in (opens walk.begun)) f.making) (numbers_all walk.marks stack walk.walked m) in
       let after_it : new.walked ≡ with_job (open_by f) (opens walk.begun) f.making walk.walked = walked ∙ ap (λ (j : PlanJob). record walk.walked { jobs = walk.walked.jobs ++ j ∷ [] }) is in
       record {
-        marked = rw (begun, walked) (marked_close walk.marks new.marks (opens walk.begun) walk.walked.jobs (open_by f) job m (ap (λ (j : PlanJob). j.targets) is)
-            (subst (λ (ts : List (List ℕ)). (q : List ℕ) → get new.marks q ≡ closing (length walk.walked.jobs) (is_among ts q) (get walk.marks q)) (ap (λ (j : PlanJob). j.targets) is) marks));
-        end = rw (begun, after_it) (resume_close says f walk.begun walk.walked (nothing_of f.making.needs f.next e));
+        marked = rw (begun, walked) (marked_close walk.marks new.marks (opens walk.begun) walk.walked.jobs (open_by f) job m refl marks);
+        end = rw (begun, after_it) (subst (λ (y : Asking Walking). Follows asks a a y (resume units walk.begun (with_job (open_by f) (opens walk.begun) f.making walk.walked))) (resume_close units f walk.begun walk.walked (nothing_of f.making.needs f.next e)) (Here a _));
         less = rw (begun, after_it) (weight_close f walk.begun walk.walked.jobs _);
       }
 
 -- ---- from a goal
 
-pub goal_end : (says : Says) (fs : List Frame) (w : Walked) → fs ≡ [] → resume says fs w ≡ Ok w
-unfolding resume
-goal_end says fs w e = rw e refl
+module _ (units : Units) (w : Walked) (n : List ℕ) where
+  -- a goal's unit alone
+  pub goal_unit : (m : Making) → has_room [] w ≡ true → after units [] n (m ∷ []) w ≡ resume units (record { target = n; making = m; next = 0 } ∷ []) w
+  unfolding resume
+  goal_unit m free = after_one units [] n w m free ∙ sym (nothing_walked_then (finishing (reach units (opened n m ∷ [])) (opened n m) [] m m.needs w))
 
-pub goal_none : (says : Says) (w : Walked) (n : List ℕ) → units_left says [] w n ≡ [] → visit says limit [] w n ≡ Ok w
-unfolding reach
-goal_none says w n e = reach_none says [] w n e
+  -- whatever the other units are: the walk from one, and then from the others
+  pub goal_again : AreUnits units → {T : Type 0} {asks : Asks T} {a b c : T} (v : Walked) (m : Making) (ms : List Making) → Follows asks a b (units_asked units [] w n) (Had (m ∷ ms))
+      → Follows asks b c (after units [] n (m ∷ []) w) (Had (Ok v)) → Follows asks a c (visiting units limit [] w n) (visiting units limit [] v n) × (length (numbers_of v.jobs n) ≡ length (numbers_of w.jobs n) + 1)
+  unfolding reach
+  goal_again facts {T} {asks} {a} {b} {c} v m ms h unit =
+      let fit : Fits [] n m = (each_came (AllByRecursion (Fits [] n)) h (units_fit units facts [] w n refl)).0 in
+      let more : OneMore [] n w v = each_came (λ (r : Walking). IfOk r (OneMore [] n w)) unit (one_more units [] n facts m fit w) in
+      let start : Follows asks a b (reach units [] w n) (walked_then (after units [] n (m ∷ []) w) (after units [] n ms)) = subst (λ (y : Asking Walking). Follows asks a b (reach units [] w n) y) (after_first units [] n w m ms) (reach_after units [] w n (m ∷ ms) (omega arith) h) in
+      let there : Follows asks b c (walked_then (after units [] n (m ∷ []) w) (after units [] n ms)) (after units [] n ms v) = first (if_walked (after units [] n ms)) unit in
+      (subst (λ (y : Asking Walking). Follows asks a c (reach units [] w n) y) (sym (reach_rest units [] n facts w v m ms (omega arith) h more.1)) (on start there), more.1)
 
-whole : (m : Walking) → and_then m (λ w. Ok w) ≡ m
-whole (Ok w) = refl
-whole (Err e) = refl
+  pub goal_fails : {T : Type 0} (asks : Asks T) (a b c : T) (m : Making) (ms : List Making) (e : PlanNo) → Follows asks a b (units_asked units [] w n) (Had (m ∷ ms))
+      → Fails asks b c (after units [] n (m ∷ []) w) e → Fails asks a c (visiting units limit [] w n) e
+  unfolding reach
+  goal_fails asks a b c m ms e h unit =
+      let start : Follows asks a b (reach units [] w n) (walked_then (after units [] n (m ∷ []) w) (after units [] n ms)) = subst (λ (y : Asking Walking). Follows asks a b (reach units [] w n) y) (after_first units [] n w m ms) (reach_after units [] w n (m ∷ ms) (omega arith) h) in
+      fails_on asks a b (reach units [] w n) c (walked_then (after units [] n (m ∷ []) w) (after units [] n ms)) e start (fails_then asks b c (after units [] n (m ∷ []) w) (after units [] n ms) e unit)
 
--- a goal's unit alone
-pub goal_unit : (says : Says) (w : Walked) (n : List ℕ) (m : Making) → resume says (record { target = n; making = m; next = 0 } ∷ []) w ≡ finish (reach says (opened n m ∷ [])) (opened n m) [] m m.needs w
-unfolding resume
-goal_unit says w n m = whole (finish (reach says (opened n m ∷ [])) (opened n m) [] m m.needs w)
+  pub goal_none : {T : Type 0} {asks : Asks T} {a b : T} → Follows asks a b (units_asked units [] w n) (Had []) → Follows asks a b (visiting units limit [] w n) (Had (Ok w))
+  unfolding reach
+  goal_none h = reach_none units [] w n h
 
-pub goal_again : (says : Says) → IsUnits says → (w v : Walked) (n : List ℕ) (m : Making) (ms : List Making) → units_left says [] w n ≡ m ∷ ms → has_room [] w ≡ true
-    → resume says (record { target = n; making = m; next = 0 } ∷ []) w ≡ Ok v → (visit says limit [] v n ≡ visit says limit [] w n) × (units_left says [] v n ≡ ms)
-unfolding reach
-goal_again says facts w v n m ms some free e =
-    let unit : finish (reach says (opened n m ∷ [])) (opened n m) [] m m.needs w ≡ Ok v = sym (goal_unit says w n m) ∙ e in
-    let rest = reach_rest says facts [] w v n m ms refl some free unit in
-    (rest.0 ∙ sym (reach_some says [] w n m ms some free ∙ ap (λ (r : Walking). and_then r (after says [] n ms)) unit), rest.1)
+  pub goal_stops : {T : Type 0} (asks : Asks T) (a b : T) (d : DeskNo) (e : PlanNo) → is_refusal d ≡ false → e ≡ of_desk d → Stops asks a b d (units_asked units [] w n) → Fails asks a b (visiting units limit [] w n) e
+  unfolding reach
+  goal_stops asks a b d e fair is h = fails_asked asks a b (reach units [] w n) d e fair is (reach_stops units [] w n h)
 
-pub goal_fails : (says : Says) (w : Walked) (n : List ℕ) (m : Making) (ms : List Making) (e : PlanNo) → units_left says [] w n ≡ m ∷ ms → has_room [] w ≡ true
-    → Fails (resume says (record { target = n; making = m; next = 0 } ∷ []) w) e → Fails (visit says limit [] w n) e
-unfolding reach
-goal_fails says w n m ms no.NoMemory some free h = tt
-goal_fails says w n m ms no.NoTargets some free h = h
-goal_fails says w n m ms no.TooManyJobs some free h =
-    let unit : finish (reach says (opened n m ∷ [])) (opened n m) [] m m.needs w ≡ Err no.TooManyJobs = sym (goal_unit says w n m) ∙ h in
-    reach_some says [] w n m ms some free ∙ ap (λ (r : Walking). and_then r (after says [] n ms)) unit
+-- the same where the code's marks tell what is known
+module _ {T : Type 0} (asks : Asks T) (a b : T) (units : Units) (walk : Walk) (n : List ℕ) (marked : AreMarked walk.marks [] walk.walked.jobs) where
+  pub goal_passed : (ms : List Making) → Follows asks a b (units (known_in walk.marks) n (length (numbers_in walk.marks n))) (Had ms) → Follows asks a b (units_asked units [] walk.walked n) (Had ms)
+  goal_passed ms h = subst (λ (y : Asking (List Making)). Follows asks a b y (Had ms)) (asked_there walk.marks [] walk.walked marked units n) h
 
-pub goal_full : (says : Says) (w : Walked) (n : List ℕ) (m : Making) (ms : List Making) → units_left says [] w n ≡ m ∷ ms → has_room [] w ≡ false → visit says limit [] w n ≡ Err TooManyJobs
-unfolding reach
-goal_full says w n m ms some full = reach_full says [] w n m ms some full
+  pub goal_ends : Follows asks a b (units (known_in walk.marks) n (length (numbers_in walk.marks n))) (Had []) → Follows asks a b (visiting units limit [] walk.walked n) (Had (Ok walk.walked))
+  goal_ends h = goal_none units walk.walked n (goal_passed [] h)
 
-pub goal_start : (says : Says) → IsUnits says → (walk new : Walk) (n : List ℕ) (m : Making) → AreMarked walk.marks [] walk.walked.jobs → walk.begun ≡ [] → slice_get (says (known_in walk.marks) n) (length (numbers_in walk.marks n)) ≡ Some m
+  pub goal_asked : (d : DeskNo) (e : PlanNo) → is_refusal d ≡ false → e ≡ of_desk d → Stops asks a b d (units (known_in walk.marks) n (length (numbers_in walk.marks n))) → Fails asks a b (visiting units limit [] walk.walked n) e
+  goal_asked d e fair is h = goal_stops units walk.walked n asks a b d e fair is (subst (λ (y : Asking (List Making)). Stops asks a b d y) (asked_there walk.marks [] walk.walked marked units n) h)
+
+module _ {T : Type 0} (asks : Asks T) (a b c : T) where
+  pub goal_turn : (units : Units) → AreUnits units → (walk : Walk) (n : List ℕ) → AreMarked walk.marks [] walk.walked.jobs → (v : Walked) (m : Making) (ms : List Making)
+      → Follows asks a b (units (known_in walk.marks) n (length (numbers_in walk.marks n))) (Had (m ∷ ms)) → Follows asks b c (after units [] n (m ∷ []) walk.walked) (Had (Ok v))
+      → Follows asks a c (visiting units limit [] walk.walked n) (visiting units limit [] v n)
+  goal_turn units facts walk n marked v m ms h unit = (goal_again units walk.walked n facts v m ms (goal_passed asks a b units walk n marked (m ∷ ms) h) unit).0
+
+  pub goal_less : (m : Makefile) (walk : Walk) (n : List ℕ) → AreMarked walk.marks [] walk.walked.jobs → (v : Walked) (u : Making) (us : List Making)
+      → Follows asks a b (asks_for m (known_in walk.marks) n (length (numbers_in walk.marks n))) (Had (u ∷ us)) → Follows asks b c (after (asks_for m) [] n (u ∷ []) walk.walked) (Had (Ok v))
+      → most m.book.now.rules n - length (numbers_of v.jobs n) < most m.book.now.rules n - length (numbers_of walk.walked.jobs n)
+  goal_less m walk n marked v u us h unit =
+      let here = goal_passed asks a b (asks_for m) walk n marked (u ∷ us) h in
+      let more = (goal_again (asks_for m) walk.walked n (makefile_units m) v u us here unit).1 in
+      let few : length (numbers_of walk.walked.jobs n) < most m.book.now.rules n =
+      each_came (λ (ms : List Making). 0 < length ms → length (numbers_of walk.walked.jobs n) < most m.book.now.rules n) here (makefile_few m (is_known [] walk.walked) n (length (numbers_of walk.walked.jobs n))) (omega arith) in
+      omega (arith, more, few)
+
+pub goal_start : (units : Units) (walk new : Walk) (n : List ℕ) (m : Making) → AreMarked walk.marks [] walk.walked.jobs → walk.begun ≡ []
     → has_room (opens walk.begun) walk.walked ≡ true → new.begun ≡ record { target = n; making = m; next = 0 } ∷ walk.begun → ((q : List ℕ) → get new.marks q ≡ opening (is_among m.targets q) (get walk.marks q)) → new.walked ≡ walk.walked
-    → AreMarked new.marks (opens new.begun) new.walked.jobs × (resume says new.begun new.walked ≡ resume says (record { target = n; making = m; next = 0 } ∷ []) walk.walked)
-goal_start says facts walk new n m marked empty some free begun marks walked =
-    let left = unit_some walk.marks [] walk.walked marked says n m some in
-    let unit : Fits says [] n (length (numbers_of walk.walked.jobs n)) m = fits says facts [] walk.walked n refl (length (numbers_of walk.walked.jobs n)) m (first_of (says (is_known [] walk.walked) n) (length (numbers_of walk.walked.jobs n)) m _ left).0 in
-    let free_now : has_room [] walk.walked ≡ true = ap (λ (fs : List Frame). has_room (opens fs) walk.walked) (sym empty) ∙ free in
-    let one : new.begun ≡ record { target = n; making = m; next = 0 } ∷ [] = begun ∙ ap (λ (fs : List Frame). record { target = n; making = m; next = 0 } ∷ fs) empty in
-    (rw (one, walked) (marked_open walk.marks new.marks [] walk.walked.jobs (opened n m) marked marks unit.apart (room_lt [] walk.walked free_now)), rw (one, walked) refl)
+    → AreMarked new.marks (opens new.begun) new.walked.jobs × (after units [] n (m ∷ []) walk.walked ≡ resume units new.begun new.walked)
+goal_start units walk new n m marked nothing free begun marks walked =
+    let free_now : has_room [] walk.walked ≡ true = ap (λ (fs : List Frame). has_room (opens fs) walk.walked) (sym nothing) ∙ free in
+    let one : new.begun ≡ record { target = n; making = m; next = 0 } ∷ [] = begun ∙ ap (λ (fs : List Frame). record { target = n; making = m; next = 0 } ∷ fs) nothing in
+    (rw (one, walked) (marked_open walk.marks new.marks [] walk.walked.jobs (opened n m) marked marks (λ q _. refl) (room_lt [] walk.walked free_now)), rw (one, walked) (goal_unit units walk.walked n m free_now))
 
-pub goal_done : (says : Says) → IsUnits says → (walk new : Walk) (n : List ℕ) (m : Making) → AreMarked walk.marks [] walk.walked.jobs → walk.begun ≡ [] → slice_get (says (known_in walk.marks) n) (length (numbers_in walk.marks n)) ≡ Some m
-    → has_room (opens walk.begun) walk.walked ≡ true → new.begun ≡ [] → resume says new.begun new.walked ≡ resume says (record { target = n; making = m; next = 0 } ∷ []) walk.walked
-    → (visit says limit [] new.walked n ≡ visit says limit [] walk.walked n) × (length (units_left says [] new.walked n) < length (units_left says [] walk.walked n))
-goal_done says facts walk new n m marked empty some free none end =
-    let left = unit_some walk.marks [] walk.walked marked says n m some in
-    let free_now : has_room [] walk.walked ≡ true = ap (λ (fs : List Frame). has_room (opens fs) walk.walked) (sym empty) ∙ free in
-    let again = goal_again says facts walk.walked new.walked n m _ left free_now (sym end ∙ goal_end says new.begun new.walked none) in
-    let before = ap length left in
-    let now = ap length again.1 in
-    (again.0, omega (arith, before, now))
-
-pub goal_stops : (says : Says) (walk : Walk) (n : List ℕ) (m : Making) (e : PlanNo) → AreMarked walk.marks [] walk.walked.jobs → walk.begun ≡ [] → slice_get (says (known_in walk.marks) n) (length (numbers_in walk.marks n)) ≡ Some m
-    → has_room (opens walk.begun) walk.walked ≡ true → Fails (resume says (record { target = n; making = m; next = 0 } ∷ []) walk.walked) e → Fails (visit says limit [] walk.walked n) e
-goal_stops says walk n m e marked empty some free h =
-    goal_fails says walk.walked n m _ e (unit_some walk.marks [] walk.walked marked says n m some) (ap (λ (fs : List Frame). has_room (opens fs) walk.walked) (sym empty) ∙ free) h
-
-pub goal_no_room : (says : Says) (walk : Walk) (n : List ℕ) (m : Making) (e : PlanNo) → AreMarked walk.marks [] walk.walked.jobs → walk.begun ≡ [] → slice_get (says (known_in walk.marks) n) (length (numbers_in walk.marks n)) ≡ Some m
-    → (e ≡ no.NoMemory) ⊎ ((e ≡ no.TooManyJobs) × (has_room (opens walk.begun) walk.walked ≡ false)) → Fails (visit says limit [] walk.walked n) e
-goal_no_room says walk n m e marked empty some (inl is) = rw is tt
-goal_no_room says walk n m e marked empty some (inr (is, full)) =
-    rw is (goal_full says walk.walked n m _ (unit_some walk.marks [] walk.walked marked says n m some) (ap (λ (fs : List Frame). has_room (opens fs) walk.walked) (sym empty) ∙ full))
-
-pub fails_so : (a b : Walking) (e : PlanNo) → a ≡ b → Fails a e → Fails b e
-fails_so a b e is h = subst (λ (r : Walking). Fails r e) is h
+pub goal_full : (units : Units) (walk : Walk) (n : List ℕ) (m : Making) → walk.begun ≡ [] → {T : Type 0} (asks : Asks T) (a : T) (e : PlanNo)
+    → (e ≡ no.NoMemory) ⊎ ((e ≡ no.TooManyJobs) × (has_room (opens walk.begun) walk.walked ≡ false)) → Fails asks a a (after units [] n (m ∷ []) walk.walked) e
+goal_full units walk n m nothing asks a e (inl is) = fails_want asks a _ e is
+goal_full units walk n m nothing asks a e (inr (is, full)) =
+    let none : has_room [] walk.walked ≡ false = ap (λ (fs : List Frame). has_room (opens fs) walk.walked) (sym nothing) ∙ full in
+    rw (is, after_full units [] n walk.walked m [] none) (Here a _)

@@ -7,4 +7,5 @@ pub mod Units
 pub mod Serial
 pub mod Reached
 pub mod Plans
+pub mod Walking
 pub mod Resuming

@@ -21,7 +21,6 @@ use Rattle.em_implicit.specs.Matches.{match_at, members_of, normal_of, order_of}
 use Rattle.em_implicit.specs.Implicit.{found}
 use Rattle.em_plan.specs.declared.making.Need.{Need}
 use Rattle.em_plan.specs.declared.making.Making.{Making}
-use Rattle.em_plan.specs.declared.making.Makefile.{Makefile}
 use Rattle.em_plan.specs.Once.{each_once}
 
 abbrev pub need : Bool → List ℕ → Need
@@ -152,6 +151,3 @@ unit_of known rules patterns tree cwd name = unit_by known rules patterns tree c
 
 abbrev pub making_of : List Rule → List Rule → Table → List ℕ → (List ℕ → Bool) → List ℕ → List Making
 making_of rules patterns tree cwd known name = if is_double rules name then map (double_unit rules name) (numbers_of rules name) else unit_of known rules patterns tree cwd name ∷ []
-
-unfoldable pub says : Makefile → (List ℕ → Bool) → List ℕ → List Making
-says m known name = making_of m.book.now.rules m.book.now.patterns m.tree.now m.cwd.now known name

@@ -1,10 +1,11 @@
 -- What is left to do of a walk, and its marks: these speak of the code's own steps.
 --     opens frames                     the units that are open, the innermost first
---     resume says frames w             these units are finished, from the innermost on
+--     after units stack n ms w         these units of a name are entered
+--     resume units frames w            these units are finished, from the innermost on
 --     AreMarked marks stack jobs       a name is marked where it is open or has jobs
 --     weight frames jobs               more steps than the walk can still take
---     Steps says frames before after   one step
-use Rattle.std.specs.Prelude.{◌≡◌, ℕ, ◌+◌, ◌-◌, ◌*◌, ◌^◌, ◌<◌, ◌≤◌, ◌&&◌, Bool, true, false, List, [], ◌∷◌, ◌++◌, map, length, drop, Option, Some, None, is_some, Ok, Err, if◌then◌else◌}
+--     Steps asks a b units frames before after      one step, from one moment of who answers to a later one
+use Rattle.std.specs.Prelude.{◌≡◌, ℕ, suc, ◌+◌, ◌-◌, ◌*◌, ◌^◌, ◌<◌, ◌≤◌, ◌&&◌, Bool, true, false, List, [], ◌∷◌, ◌++◌, map, length, drop, Option, Some, None, is_some, Ok, if◌then◌else◌}
 use Rattle.std.specs.FinMap.{FinMap, get}
 use Rattle.std.specs.Ordering.{nat_cmp}
 use Rattle.std.specs.Cmp.Lexicographic.{slice_cmp}
@@ -13,11 +14,11 @@ use Rattle.em_plan.specs.declared.walk.Frame.{Frame}
 use Rattle.em_plan.specs.declared.marks.Mark.{Mark}
 use Rattle.em_plan.specs.declared.walk.Walk.{Walk}
 use Rattle.em_plan.specs.declared.walk.Walked.{Walked}
-use Rattle.em_plan.specs.declared.no.PlanNo.{PlanNo}
-use Rattle.em_plan.specs.declared.no.PlanNo.TheVariants as no
-use Rattle.em_plan.specs.Once.{is_among}
+use Rattle.em_plan.specs.declared.making.Making.{Making}
 use Rattle.em_plan.specs.Jobs.{numbers_of}
-use Rattle.em_plan.specs.Order.{limit, Says, Walking, Open, AreApart, opened, and_then, is_open, finish, visit}
+use Rattle.em_implicit.specs.Asking.{Asking, Had, Asks, Follows}
+use Rattle.em_plan.specs.Order.{limit, Walking, Open, AreApart, opened, is_open}
+use Rattle.em_plan.specs.Walking.{Units, walked_then, finishing, entering, visiting}
 
 abbrev pub open_by : Frame → Open
 open_by f = opened f.target f.making
@@ -25,15 +26,19 @@ open_by f = opened f.target f.making
 abbrev pub opens : List Frame → List Open
 opens = map open_by
 
-unfoldable pub reach : Says → List Open → Walked → List ℕ → Walking
-reach says stack = visit says (limit - length stack) stack
+unfoldable pub reach : Units → List Open → Walked → List ℕ → Asking Walking
+reach units stack = visiting units (limit - length stack) stack
+
+-- into these units of a name, one after another
+unfoldable pub after : Units → List Open → List ℕ → List Making → Walked → Asking Walking
+after units stack n ms w = entering (visiting units (limit - suc (length stack))) stack n ms w
 
 -- the prerequisites that are left of the innermost unit, then the unit, then the units around it
-unfoldable pub resume : Says → List Frame → Walked → Walking
-resume says [] w = Ok w
-resume says (f ∷ fs) w = and_then
-    (finish (reach says (opens (f ∷ fs))) (open_by f) (opens fs) f.making (drop f.next f.making.needs) w)
-    (resume says fs)
+unfoldable pub resume : Units → List Frame → Walked → Asking Walking
+resume units [] w = Had (Ok w)
+resume units (f ∷ fs) w = walked_then
+    (finishing (reach units (opens (f ∷ fs))) (open_by f) (opens fs) f.making (drop f.next f.making.needs) w)
+    (resume units fs)
 
 -- ---- marks
 
@@ -92,14 +97,8 @@ room (f ∷ fs) = length (drop f.next f.making.needs) + 1 + room fs
 unfoldable pub weight : List Frame → List PlanJob → ℕ
 weight fs jobs = (limit - (length jobs + length fs)) * 2 ^ 65 + room fs
 
--- a step leaves less to do, and the same end
-pub record Steps (says : Says) (frames : List Frame) (before : Walked) (after : Walk) : Type 0 where
+-- a step asks some of the questions that are left; those that are left then are the others, and there is less to do
+pub record Steps {T : Type 0} (asks : Asks T) (a b : T) (units : Units) (frames : List Frame) (before : Walked) (after : Walk) : Type 0 where
   pub marked : IsMarked (opens after.begun) after
-  pub end : resume says after.begun after.walked ≡ resume says frames before
+  pub end : Follows asks a b (resume units frames before) (resume units after.begun after.walked)
   pub less : weight after.begun after.walked.jobs < weight frames before.jobs
-
--- where the walk comes to this, the code may answer so
-abbrev pub Fails : Walking → PlanNo → Type 0
-Fails whole no.NoMemory = Unit {0}
-Fails whole no.TooManyJobs = whole ≡ Err no.TooManyJobs
-Fails whole no.NoTargets = ⊥

@@ -3,9 +3,12 @@ ghost use Rattle.std.specs.Prelude.{◌≡◌, ◌⊎◌, ◌<◌, ◌≤◌, �
 ghost use Rattle.std.specs.List.{Contains};
 ghost use Rattle.std.specs.List.Sorted.{IsStrictlySortedBy};
 ghost use Rattle.std.specs.Ordering.{nat_cmp};
+ghost use Rattle.em_rules.specs.declared.book.Book.{Book};
 ghost use Rattle.em_rules.specs.declared.rule.Rule.{Rule};
 ghost use Rattle.em_rules.specs.Groups.{is_grouped_kind};
 ghost use Rattle.em_tree.specs.Trees.{Table};
+ghost use Rattle.em_implicit.specs.Asking.{told};
+ghost use Rattle.em_implicit.specs.Seeking.{stands};
 ghost use Rattle.em_plan.specs.declared.making.Making.{Making};
 ghost use Rattle.em_plan.specs.declared.planned.Plan.{Plan};
 ghost use Rattle.em_plan.specs.declared.planned.PlanJob.{PlanJob};
@@ -13,10 +16,11 @@ ghost use Rattle.em_plan.specs.declared.walk.Walked.{Walked};
 ghost use Rattle.em_plan.specs.Makings.{making_of};
 ghost use Rattle.em_plan.specs.Once.{each_once};
 ghost use Rattle.em_plan.specs.Order.{finish, is_open, limit, numbered, Open, opened, Says, units_left, visit, with_job};
-ghost use Rattle.em_plan.specs.Plans.{plan_for};
+ghost use Rattle.em_plan.specs.Plans.{plan_for, plan_of};
 ghost use Rattle.em_plan.specs.Reached.{IsPlain, Overfull, Reached};
 ghost use Rattle.em_plan.specs.Serial.{StandsBefore};
 ghost use Rattle.em_plan.specs.Units.{IsUnits};
+ghost use Rattle.em_plan.specs.Walking.{asking, plan_asking, visiting};
 
 use crate::no::PlanNo;
 
@@ -111,4 +115,14 @@ pub fn law_limit()
     ensures many { (says : Says) (goals : List (List ℕ)) → IsUnits says
         → plan_for says goals ≡ Err PlanNo.TooManyJobs
         → Overfull says (Reached says (each_once [] goals)) }
+{}
+
+/// By the answers of a tree the walk as questions goes as it does there, and its plan is the plan.
+pub fn law_planning()
+    ensures walk { (rules patterns : List Rule) (tree : Table) (cwd : List ℕ) (left : ℕ)
+        (stack : List Open) (w : Walked) (n : List ℕ)
+        → told (stands tree) (visiting (asking rules patterns cwd) left stack w n)
+        ≡ visit (making_of rules patterns tree cwd) left stack w n }
+    ensures plan { (book : Book) (goals : List (List ℕ)) (tree : Table) (cwd : List ℕ)
+        → told (stands tree) (plan_asking book goals cwd) ≡ plan_of book goals tree cwd }
 {}

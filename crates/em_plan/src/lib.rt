@@ -15,8 +15,8 @@ mod planning;
 mod walk;
 
 pub use goals::goal_names;
-pub use making::{Makefile, Making, Need};
+pub use making::{Making, Need};
 pub use no::PlanNo;
 pub use numbers::Numbers;
 pub use planned::{Plan, PlanJob, Pre};
-pub use planning::plan;
+pub use planning::{plan, plan_through};

@@ -1,19 +1,22 @@
 //! What the makefiles say of a name.
-ghost use Rattle.std.specs.Prelude.{◌≡◌, ◌<◌, ◌^◌, length, IfOk, IfSome, option_copied, option_map, slice_get, Some};
+ghost use Rattle.std.specs.Prelude.{◌≡◌, ◌<◌, ◌^◌, false, length, IfErr, IfOk, IfSome, option_copied, option_map, slice_get, Some};
 ghost use Rattle.std.specs.List.{list_any};
 ghost use Rattle.em_rules.specs.Rules.{is_phony, numbers_of};
-ghost use Rattle.em_plan.specs.Makings.{bare_unit, double_unit, found_for, group_of, own_unit, pattern_by, recipe_by, ruled_unit, says, stem_by, unit_of, unruled_unit};
+ghost use Rattle.em_view.specs.Rows.{is_refusal};
+ghost use Rattle.em_implicit.specs.Asking.{and_then, Asked};
+ghost use Rattle.em_plan.specs.Makings.{bare_unit, double_unit, group_of, own_unit, pattern_by, recipe_by, ruled_unit, stem_by, unruled_unit};
 ghost use Rattle.em_plan.specs.Resuming.{known_in, numbers_in};
+ghost use Rattle.em_plan.specs.Walking.{asks_for, found_asking, Offers, unit_asking, unruled_by};
 
 use crate::marks::{Mark, numbers};
 use crate::members::{Choice, alone};
 use crate::needs::{add_group_needs, add_needs, add_needs_for, add_others, add_pattern_needs};
 use crate::planned::copied;
 use em_base::{NoMemory, Seq, Table, Text};
-use em_implicit::{Found, find};
+use em_implicit::{Found, There, find_by};
 use em_path::Path;
 use em_rules::{Book, RecipeLine, Rule, Rules};
-use em_tree::Tree;
+use em_view::DeskNo;
 use std::alloc::Global;
 
 /// A prerequisite, as it is written.
@@ -204,35 +207,43 @@ fn pattern_unit(
     })
 }
 
-/// What makefiles say, and the tree and the working directory by which it is judged whether a name
-/// exists.
+/// What makefiles say, and the working directory against which names are read.
 #[derive(Clone, Copy)]
-pub struct Makefile<'a> {
+pub(crate) struct Makefile<'a> {
     pub book: &'a Book,
-    pub tree: &'a Tree,
     pub cwd: &'a Path,
 }
 
 impl Makefile<'_> {
-    /// The pattern rule for a name without a recipe, unless it is phony.
-    fn found_for(&self, alloc: Global, name: &[u8]) -> Result<Option<Found>, NoMemory>
-        ensures { let book = self.now.book.now in IfOk result (λ f. f
-            ≡ found_for book.rules book.patterns self.now.tree.now self.now.cwd.now name.now) }
+    /// The pattern rule that is chosen for a name without a recipe, unless it is phony.
+    fn found_for<T: There>(
+        &self,
+        alloc: Global,
+        name: &[u8],
+        there: &mut T,
+    ) -> Result<Option<Found>, DeskNo>
+        ensures asked { let book = self.now.book.now in Asked T.asks there.old there.new result
+            (found_asking book.rules book.patterns self.now.cwd.now name.now) }
+        ensures unrefused { IfErr result (λ e. is_refusal e ≡ false) }
     {
         if self.book.rules.is_phony(name) {
             return Ok(None);
         }
-        find(alloc, self.book, name, self.tree, self.cwd)
+        find_by(alloc, self.book, name, self.cwd, there)
     }
 
-    /// The unit of a name without a recipe.
-    fn unruled_unit(&self, alloc: Global, choice: Choice<'_>) -> Result<Making, NoMemory>
+    /// The unit of a name without a recipe, for which this pattern rule is chosen, if any is.
+    fn found_unit(
+        &self,
+        alloc: Global,
+        choice: Choice<'_>,
+        found: Option<Found>,
+    ) -> Result<Making, NoMemory>
         requires { choice.rules.now ≡ self.now.book.now.rules }
         ensures { let book = self.now.book.now in let c = choice.entry in IfOk result (λ m. m
-            ≡ unruled_unit (known_in c.marks.now) book.rules book.patterns c.name.now
-            (found_for book.rules book.patterns self.now.tree.now self.now.cwd.now c.name.now)) }
+            ≡ unruled_unit (known_in c.marks.now) book.rules book.patterns c.name.now found) }
     {
-        let Some(found) = self.found_for(alloc, choice.name)? else {
+        let Some(found) = found else {
             return bare_unit(alloc, choice.rules, choice.name);
         };
         match self.book.patterns.get(found.rule) {
@@ -241,29 +252,50 @@ impl Makefile<'_> {
         }
     }
 
+    /// The unit of a name without a recipe.
+    fn unruled_unit<T: There>(
+        &self,
+        alloc: Global,
+        choice: Choice<'_>,
+        there: &mut T,
+    ) -> Result<Making, DeskNo>
+        requires { choice.rules.now ≡ self.now.book.now.rules }
+        ensures asked { let book = self.now.book.now in let c = choice.entry in
+            Asked T.asks there.old there.new result (and_then
+            (found_asking book.rules book.patterns self.now.cwd.now c.name.now)
+            (unruled_by book.rules book.patterns self.now.cwd.now
+            (known_in c.marks.now) c.name.now)) }
+        ensures unrefused { IfErr result (λ e. is_refusal e ≡ false) }
+    {
+        let found = self.found_for(alloc, choice.name, there)?;
+        Ok(self.found_unit(alloc, choice, found)?)
+    }
+
     /// The unit of a name that has no double-colon rules.
-    fn unit(&self, alloc: Global, marks: &Table<Mark>, name: &[u8]) -> Result<Making, NoMemory>
-        ensures { let book = self.now.book.now in IfOk result (λ m. m
-            ≡ unit_of (known_in marks.now) book.rules book.patterns
-            self.now.tree.now self.now.cwd.now name.now) }
+    fn unit<T: There>(
+        &self,
+        alloc: Global,
+        marks: &Table<Mark>,
+        name: &[u8],
+        there: &mut T,
+    ) -> Result<Making, DeskNo>
+        ensures asked { let book = self.now.book.now in Asked T.asks there.old there.new result
+            (unit_asking book.rules book.patterns self.now.cwd.now (known_in marks.now) name.now) }
+        ensures unrefused { IfErr result (λ e. is_refusal e ≡ false) }
     {
         let rules = &self.book.rules;
         let choice = Choice { rules, marks, name };
-        match rules.recipe_rule(name) {
-            Some(number) => ruled_unit(alloc, choice, number),
-            None => self.unruled_unit(alloc, choice),
-        }
+        let Some(number) = rules.recipe_rule(name) else {
+            return self.unruled_unit(alloc, choice, there);
+        };
+        Ok(ruled_unit(alloc, choice, number)?)
     }
 
     /// The unit of the name's double-colon rule of this place among its rules, if there is one.
-    fn double_at(
-        &self,
-        alloc: Global,
-        name: &[u8],
-        place: usize,
-    ) -> Result<Option<Making>, NoMemory>
-        ensures { let rules = self.now.book.now.rules in IfOk result (λ o. o ≡ option_map
+    fn double_at(&self, alloc: Global, name: &[u8], place: usize) -> Result<Option<Making>, DeskNo>
+        ensures ok { let rules = self.now.book.now.rules in IfOk result (λ o. o ≡ option_map
             (double_unit rules name.now) (slice_get (numbers_of rules name.now) place)) }
+        ensures only { IfErr result (λ e. e ≡ DeskNo.NoMemory) }
     {
         let rules = &self.book.rules;
         let numbers = rules.rules_of(alloc, name)?;
@@ -273,21 +305,25 @@ impl Makefile<'_> {
         }
     }
 
-    /// The name's next unit: the first that has no number; `None` exactly where each has one. A few
-    /// searches by name for each target; where the name has no rule with a recipe and isn't phony,
-    /// also a search for a pattern rule. Each prerequisite's name and the recipe are copied once
-    /// (what a pattern rule makes four times), and the numbers of a name's double-colon rules each
-    /// time.
-    fn next_unit(
+    /// The name's next unit: the first that has no number; `None` exactly where each has one. Where
+    /// the name has no unit with a number, no double-colon rules and no rule with a recipe, and
+    /// isn't phony, this is asked by the search for a pattern rule, and else nothing.
+    ///
+    /// A few searches by name for each target. Each prerequisite's name and the recipe are copied
+    /// once (what a pattern rule makes four times), and the numbers of a name's double-colon rules
+    /// each time.
+    fn next_unit<T: There>(
         &self,
         alloc: Global,
         marks: &Table<Mark>,
         name: &[u8],
         place: usize,
-    ) -> Result<Option<Making>, NoMemory>
+        there: &mut T,
+    ) -> Result<Option<Making>, DeskNo>
         requires { place ≡ length (numbers_in marks.now name.now) }
-        ensures { IfOk result (λ o. o ≡ slice_get (says self.now (known_in marks.now) name.now)
-            (length (numbers_in marks.now name.now))) }
+        ensures next { Offers T.asks there.old there.new result (asks_for self.now
+            (known_in marks.now) name.now (length (numbers_in marks.now name.now))) }
+        ensures unrefused { IfErr result (λ e. is_refusal e ≡ false) }
     {
         if self.book.rules.is_double(name) {
             return self.double_at(alloc, name, place);
@@ -295,23 +331,25 @@ impl Makefile<'_> {
         if place > 0 {
             return Ok(None);
         }
-        Ok(Some(self.unit(alloc, marks, name)?))
+        Ok(Some(self.unit(alloc, marks, name, there)?))
     }
 
     /// The name's next unit, with fewer than 2^64 prerequisites. The name has jobs for this many.
-    pub(crate) fn making_at(
+    pub(crate) fn making_at<T: There>(
         &self,
         alloc: Global,
         marks: &Table<Mark>,
         name: &[u8],
         place: usize,
-    ) -> Result<Option<Making>, NoMemory>
+        there: &mut T,
+    ) -> Result<Option<Making>, DeskNo>
         requires { place ≡ length (numbers_in marks.now name.now) }
-        ensures next { IfOk result (λ o. o ≡ slice_get (says self.now (known_in marks.now) name.now)
-            (length (numbers_in marks.now name.now))) }
+        ensures next { Offers T.asks there.old there.new result (asks_for self.now
+            (known_in marks.now) name.now (length (numbers_in marks.now name.now))) }
         ensures few { IfOk result (λ o. IfSome o (λ m. length m.needs < 2 ^ 64)) }
+        ensures unrefused { IfErr result (λ e. is_refusal e ≡ false) }
     {
-        let making = self.next_unit(alloc, marks, name, place)?;
+        let making = self.next_unit(alloc, marks, name, place, there)?;
         if let Some(making) = &making {
             let _count = making.needs.len();
         }
@@ -319,16 +357,18 @@ impl Makefile<'_> {
     }
 
     /// The same, where it isn't known how many jobs the name has.
-    pub(crate) fn making(
+    pub(crate) fn making<T: There>(
         &self,
         alloc: Global,
         marks: &Table<Mark>,
         name: &[u8],
-    ) -> Result<Option<Making>, NoMemory>
-        ensures next { IfOk result (λ o. o ≡ slice_get (says self.now (known_in marks.now) name.now)
-            (length (numbers_in marks.now name.now))) }
+        there: &mut T,
+    ) -> Result<Option<Making>, DeskNo>
+        ensures next { Offers T.asks there.old there.new result (asks_for self.now
+            (known_in marks.now) name.now (length (numbers_in marks.now name.now))) }
         ensures few { IfOk result (λ o. IfSome o (λ m. length m.needs < 2 ^ 64)) }
+        ensures unrefused { IfErr result (λ e. is_refusal e ≡ false) }
     {
-        self.making_at(alloc, marks, name, numbers(marks, name).len())
+        self.making_at(alloc, marks, name, numbers(marks, name).len(), there)
     }
 }

@@ -1,11 +1,12 @@
 //! The walk over the prerequisites, with a stack of its own and a mark for each name.
-ghost use Rattle.std.specs.Prelude.{ℕ, List, Ok, ◌≡◌, ◌⊎◌, ◌<◌, ◌^◌, ◌∷◌, [], ◌+◌, nat_lt, length, true, false, Some, None, slice_get, IsSomeAnd, IfOk, IfErr, OnOk};
-ghost use Rattle.std.specs.Option.{option_map};
+ghost use Rattle.std.specs.Prelude.{ℕ, List, Ok, ◌≡◌, ◌⊎◌, ◌<◌, ◌^◌, ◌∷◌, ◌++◌, [], ◌+◌, nat_lt, length, true, false, IfOk, IfErr, OnOk};
 ghost use Rattle.std.specs.FinMap as finmap;
+ghost use Rattle.em_implicit.specs.Asking.{Follows, Had};
 ghost use Rattle.em_plan.specs.Once.{is_among};
-ghost use Rattle.em_plan.specs.Makings.{says};
-ghost use Rattle.em_plan.specs.Order.{from_in, has_room, limit, note, nothing_walked, Says, units_left, visit, visit_all};
-ghost use Rattle.em_plan.specs.Resuming.{known_in, numbers_in, open_by, open_in, opening, opens, resume, Fails, IsMarked, Steps};
+ghost use Rattle.em_plan.specs.Jobs.{job_of};
+ghost use Rattle.em_plan.specs.Order.{from_in, has_room, limit, note, noted, nothing_walked};
+ghost use Rattle.em_plan.specs.Resuming.{after, closing, numbers_in, open_by, open_in, opening, opens, resume, IsMarked, Steps};
+ghost use Rattle.em_plan.specs.Walking.{asks_for, visiting, visiting_all, Fails};
 
 use crate::job::job;
 use crate::making::{Makefile, Making};
@@ -13,6 +14,7 @@ use crate::marks::{Mark, close_all, next_place, open_all};
 use crate::no::PlanNo;
 use crate::planned::PlanJob;
 use em_base::{NoMemory, Seq, Stack, Table, Text};
+use em_implicit::There;
 use std::alloc::Global;
 
 /// The most jobs of a plan.
@@ -104,12 +106,12 @@ fn enter(alloc: Global, walk: &mut Walk, name: Text, making: Making) -> Result<(
 
 /// The innermost unit's next prerequisite is open: it is dropped, with a note.
 fn drop_circular(alloc: Global, walk: &mut Walk, frame: Frame, name: &[u8]) -> Result<(), PlanNo>
-    requires marked { IsMarked (open_by frame ∷ opens walk.old.begun) walk.old }
-    requires next { option_map (λ x. x.name) (slice_get frame.making.needs frame.next)
-        ≡ Some name.now }
-    requires circular { open_in walk.old.marks name.now ≡ true }
-    ensures ok { OnOk result
-        ((said : Says) → Steps said (frame ∷ walk.old.begun) walk.old.walked walk.new) }
+    requires { frame.next < length frame.making.needs }
+    ensures ok { OnOk result (walk.new ≡ record {
+      begun = record frame { next = frame.next + 1 } ∷ walk.old.begun;
+      marks = walk.old.marks;
+      walked = noted frame.target name.now walk.old.walked;
+    }) }
     ensures only { IfErr result (λ e. e ≡ PlanNo.NoMemory) }
 {
     let text = note(alloc, frame.target.bytes(), name)?;
@@ -122,22 +124,20 @@ fn drop_circular(alloc: Global, walk: &mut Walk, frame: Frame, name: &[u8]) -> R
 /// it again until each of its units has a number.
 fn go_into(
     alloc: Global,
-    makefile: Makefile,
     walk: &mut Walk,
     frame: Frame,
     name: Text,
     making: Making,
 ) -> Result<(), PlanNo>
-    requires marked { IsMarked (open_by frame ∷ opens walk.old.begun) walk.old }
-    requires next { option_map (λ x. x.name) (slice_get frame.making.needs frame.next) ≡ Some name }
-    requires shut { open_in walk.old.marks name ≡ false }
-    requires unit { slice_get (says makefile (known_in walk.old.marks) name)
-        (length (numbers_in walk.old.marks name)) ≡ Some making }
-    requires few { length making.needs < 2 ^ 64 }
-    ensures ok { OnOk result
-        (Steps (says makefile.entry) (frame ∷ walk.old.begun) walk.old.walked walk.new) }
-    ensures err { IfErr result
-        (Fails (resume (says makefile.entry) (frame ∷ walk.old.begun) walk.old.walked)) }
+    ensures room { OnOk result
+        (has_room (opens (frame ∷ walk.old.begun)) walk.old.walked ≡ true) }
+    ensures begun { OnOk result (walk.new.begun
+        ≡ record { target = name; making = making; next = 0 } ∷ frame ∷ walk.old.begun) }
+    ensures marks { OnOk result ((q : List ℕ) → finmap.get walk.new.marks q
+        ≡ opening (is_among making.targets q) (finmap.get walk.old.marks q)) }
+    ensures walked { OnOk result (walk.new.walked ≡ walk.old.walked) }
+    ensures err { IfErr result (λ e. (e ≡ PlanNo.NoMemory) ⊎ ((e ≡ PlanNo.TooManyJobs)
+        × (has_room (opens (frame ∷ walk.old.begun)) walk.old.walked ≡ false))) }
 {
     walk.begun.push(frame)?;
     enter(alloc, walk, name, making)?;
@@ -145,14 +145,10 @@ fn go_into(
 }
 
 /// Each unit of the innermost unit's next prerequisite has a number.
-fn pass(makefile: Makefile, walk: &mut Walk, frame: Frame) -> Result<(), PlanNo>
-    requires marked { IsMarked (open_by frame ∷ opens walk.old.begun) walk.old }
-    requires past { IsSomeAnd (slice_get frame.making.needs frame.next)
-        (λ x. (open_in walk.old.marks x.name ≡ false)
-        × (slice_get (says makefile (known_in walk.old.marks) x.name)
-        (length (numbers_in walk.old.marks x.name)) ≡ None)) }
-    ensures ok { OnOk result
-        (Steps (says makefile.entry) (frame ∷ walk.old.begun) walk.old.walked walk.new) }
+fn pass(walk: &mut Walk, frame: Frame) -> Result<(), PlanNo>
+    requires { frame.next < length frame.making.needs }
+    ensures ok { OnOk result (walk.new
+        ≡ record walk.old { begun = record frame { next = frame.next + 1 } ∷ walk.old.begun }) }
     ensures only { IfErr result (λ e. e ≡ PlanNo.NoMemory) }
 {
     walk.begun.push(later(frame))?;
@@ -172,9 +168,16 @@ fn above(alloc: Global, begun: &Stack<Frame>) -> Result<Option<Text>, NoMemory>
 /// The innermost unit, whose prerequisites have been visited, gets the next number.
 fn close(alloc: Global, walk: &mut Walk, frame: Frame) -> Result<(), PlanNo>
     requires marked { IsMarked (open_by frame ∷ opens walk.old.begun) walk.old }
-    requires none { slice_get frame.making.needs frame.next ≡ None }
-    ensures ok { OnOk result
-        ((said : Says) → Steps said (frame ∷ walk.old.begun) walk.old.walked walk.new) }
+    ensures begun { OnOk result (walk.new.begun ≡ walk.old.begun) }
+    ensures marks { OnOk result ((q : List ℕ) → finmap.get walk.new.marks q
+        ≡ closing (length walk.old.walked.jobs) (is_among frame.making.targets q)
+        (finmap.get walk.old.marks q)) }
+    ensures walked { OnOk result (walk.new.walked
+        ≡ record walk.old.walked {
+          jobs = walk.old.walked.jobs
+              ++ job_of (open_in walk.old.marks) (numbers_in walk.old.marks) frame.target
+              (from_in (opens walk.old.begun)) frame.making ∷ [];
+        }) }
     ensures only { IfErr result (λ e. e ≡ PlanNo.NoMemory) }
 {
     let Frame {
@@ -191,12 +194,18 @@ fn close(alloc: Global, walk: &mut Walk, frame: Frame) -> Result<(), PlanNo>
 }
 
 /// One step at the innermost unit.
-fn step(alloc: Global, makefile: Makefile, walk: &mut Walk, frame: Frame) -> Result<(), PlanNo>
+fn step<T: There>(
+    alloc: Global,
+    makefile: Makefile,
+    walk: &mut Walk,
+    frame: Frame,
+    there: &mut T,
+) -> Result<(), PlanNo>
     requires marked { IsMarked (open_by frame ∷ opens walk.old.begun) walk.old }
-    ensures ok { OnOk result
-        (Steps (says makefile.entry) (frame ∷ walk.old.begun) walk.old.walked walk.new) }
-    ensures err { IfErr result
-        (Fails (resume (says makefile.entry) (frame ∷ walk.old.begun) walk.old.walked)) }
+    ensures ok { OnOk result (Steps T.asks there.old there.new (asks_for makefile.entry)
+        (frame ∷ walk.old.begun) walk.old.walked walk.new) }
+    ensures err { IfErr result (Fails T.asks there.old there.new
+        (resume (asks_for makefile.entry) (frame ∷ walk.old.begun) walk.old.walked)) }
 {
     let Some(need) = frame.making.needs.get(frame.next) else {
         return close(alloc, walk, frame);
@@ -205,68 +214,77 @@ fn step(alloc: Global, makefile: Makefile, walk: &mut Walk, frame: Frame) -> Res
         let name = need.name.copy(alloc)?;
         return drop_circular(alloc, walk, frame, name.bytes());
     };
-    let Some(making) = makefile.making_at(alloc, &walk.marks, need.name.bytes(), place)? else {
-        return pass(makefile, walk, frame);
+    let asked = makefile.making_at(alloc, &walk.marks, need.name.bytes(), place, there)?;
+    let Some(making) = asked else {
+        return pass(walk, frame);
     };
     let name = need.name.copy(alloc)?;
-    go_into(alloc, makefile, walk, frame, name, making)
+    go_into(alloc, walk, frame, name, making)
 }
 
-/// The walk from a goal's next unit.
-fn walk_unit(
+/// The walk from a goal's next unit, which is this.
+fn walk_unit<T: There>(
     alloc: Global,
     makefile: Makefile,
     walk: &mut Walk,
     goal: &Text,
     making: Making,
+    there: &mut T,
 ) -> Result<(), PlanNo>
     requires marked { IsMarked [] walk.old }
     requires empty { walk.old.begun ≡ [] }
-    requires unit { slice_get (says makefile (known_in walk.old.marks) goal.now)
-        (length (numbers_in walk.old.marks goal.now)) ≡ Some making }
     requires few { length making.needs < 2 ^ 64 }
     ensures marked { OnOk result (IsMarked [] walk.new) }
     ensures empty { OnOk result (walk.new.begun ≡ []) }
-    ensures end { let said = says makefile.entry in OnOk result
-        (visit said limit [] walk.new.walked goal.now
-        ≡ visit said limit [] walk.old.walked goal.now) }
-    ensures less { let said = says makefile.entry in OnOk result
-        (length (units_left said [] walk.new.walked goal.now)
-        < length (units_left said [] walk.old.walked goal.now)) }
-    ensures err { IfErr result
-        (Fails (visit (says makefile.entry) limit [] walk.old.walked goal.now)) }
+    ensures ok { OnOk result (Follows T.asks there.old there.new
+        (after (asks_for makefile.entry) [] goal.now (making ∷ []) walk.old.walked)
+        (Had (Ok walk.new.walked))) }
+    ensures err { IfErr result (Fails T.asks there.old there.new
+        (after (asks_for makefile.entry) [] goal.now (making ∷ []) walk.old.walked)) }
 {
     enter(alloc, walk, goal.copy(alloc)?, making)?;
     while let Some(frame) = walk.begun.pop() {
-        step(alloc, makefile, walk, frame)?;
+        step(alloc, makefile, walk, frame, there)?;
     }
     Ok(())
 }
 
 /// The walk from a goal: from each of its units in turn.
-fn walk_from(alloc: Global, makefile: Makefile, walk: &mut Walk, goal: &Text) -> Result<(), PlanNo>
+fn walk_from<T: There>(
+    alloc: Global,
+    makefile: Makefile,
+    walk: &mut Walk,
+    goal: &Text,
+    there: &mut T,
+) -> Result<(), PlanNo>
     requires marked { IsMarked [] walk.old }
     requires empty { walk.old.begun ≡ [] }
     ensures marked { OnOk result (IsMarked [] walk.new) }
     ensures empty { OnOk result (walk.new.begun ≡ []) }
-    ensures ok { OnOk result
-        (visit (says makefile.entry) limit [] walk.old.walked goal.now ≡ Ok walk.new.walked) }
-    ensures err { IfErr result
-        (Fails (visit (says makefile.entry) limit [] walk.old.walked goal.now)) }
+    ensures ok { OnOk result (Follows T.asks there.old there.new
+        (visiting (asks_for makefile.entry) limit [] walk.old.walked goal.now)
+        (Had (Ok walk.new.walked))) }
+    ensures err { IfErr result (Fails T.asks there.old there.new
+        (visiting (asks_for makefile.entry) limit [] walk.old.walked goal.now)) }
 {
-    while let Some(making) = makefile.making(alloc, &walk.marks, goal.bytes())? {
-        walk_unit(alloc, makefile, walk, goal, making)?;
+    while let Some(making) = makefile.making(alloc, &walk.marks, goal.bytes(), there)? {
+        walk_unit(alloc, makefile, walk, goal, making, there)?;
     }
     Ok(())
 }
 
 /// The walk from each of these names in turn: it ends with nothing open.
-pub(crate) fn walk_all(alloc: Global, makefile: Makefile, goals: &[Text]) -> Result<Walk, PlanNo>
+pub(crate) fn walk_all<T: There>(
+    alloc: Global,
+    makefile: Makefile,
+    goals: &[Text],
+    there: &mut T,
+) -> Result<Walk, PlanNo>
     ensures marked { IfOk result (λ w. IsMarked [] w) }
-    ensures ok { IfOk result
-        (λ w. visit_all (says makefile.entry) goals.now nothing_walked ≡ Ok w.walked) }
-    ensures err { IfErr result
-        (Fails (visit_all (says makefile.entry) goals.now nothing_walked)) }
+    ensures ok { IfOk result (λ w. Follows T.asks there.old there.new
+        (visiting_all (asks_for makefile.entry) goals.now nothing_walked) (Had (Ok w.walked))) }
+    ensures err { IfErr result (Fails T.asks there.old there.new
+        (visiting_all (asks_for makefile.entry) goals.now nothing_walked)) }
 {
     let mut walk = Walk {
         begun: Stack::new(alloc),
@@ -277,7 +295,7 @@ pub(crate) fn walk_all(alloc: Global, makefile: Makefile, goals: &[Text]) -> Res
         },
     };
     for goal in goals {
-        walk_from(alloc, makefile, &mut walk, goal)?;
+        walk_from(alloc, makefile, &mut walk, goal, there)?;
     }
     Ok(walk)
 }

@@ -131,6 +131,7 @@ no_targets false = codes "No targets specified and no makefile found"
 abbrev pub plan_text : Bool → PlanNo → List ℕ
 plan_text found plan.NoTargets = no_targets found
 plan_text found plan.TooManyJobs = codes "Too many jobs"
+plan_text found plan.Spent = []
 plan_text found plan.NoMemory = []
 
 abbrev pub plan_line : Bool → PlanNo → List ℕ

@@ -237,7 +237,7 @@ fn plan_text(found: bool, no: PlanNo) -> &'static [u8]
     match no {
         PlanNo::NoTargets => no_targets(found),
         PlanNo::TooManyJobs => b"Too many jobs",
-        PlanNo::NoMemory => b"",
+        PlanNo::Spent | PlanNo::NoMemory => b"",
     }
 }
 

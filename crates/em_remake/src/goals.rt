@@ -6,11 +6,19 @@ use crate::candidates::candidates;
 use em_base::{NoMemory, Seq, Text};
 use em_implicit::find;
 use em_path::Path;
-use em_plan::Makefile;
 use em_reader::Round;
-use em_rules::{Rule, Rules};
+use em_rules::{Book, Rule, Rules};
 use em_tree::Tree;
 use std::alloc::Global;
+
+/// What makefiles say, and the tree and the working directory by which it is judged whether a name
+/// exists.
+#[derive(Clone, Copy)]
+struct Makefile<'a> {
+    pub book: &'a Book,
+    pub tree: &'a Tree,
+    pub cwd: &'a Path,
+}
 
 /// Whether the rule is a double-colon rule for the name, with a recipe and without prerequisites.
 fn is_bare(rule: &Rule, name: &[u8]) -> bool

@@ -1,27 +1,30 @@
-use Rattle.std.proofs.Common.{sym, ap, ◌∙◌, inr}
-use Rattle.std.proofs.lemmas.Result.{err_from_is_err_and}
-use Rattle.em_plan.specs.Makings.{says, making_of}
-use Rattle.em_plan.specs.Plans.{plan_for, plan_of}
-use Rattle.em_plan.proofs.Asked.{plan_none, plan_some, plan_fails}
+use Rattle.std.proofs.Common.{◌≡◌, ◌⊎◌, subst, Result, Bool, ℕ, List, Ok, Err}
+use Rattle.std.specs.Prelude.{IfOk, IfErr}
+use Rattle.em_view.specs.declared.no.DeskNo.TheVariants as desk
+use Rattle.em_implicit.specs.declared.there.OnTree.{OnTree}
+use Rattle.em_implicit.specs.Asking.{Asks}
+use Rattle.em_implicit.specs.Seeking.{stands}
+use Rattle.em_plan.specs.declared.planned.Plan.{Plan}
+use Rattle.em_plan.specs.declared.no.PlanNo.{PlanNo}
+use Rattle.em_plan.specs.declared.no.PlanNo.TheVariants as no
+use Rattle.em_plan.specs.Walking.{plan_asking}
+use Rattle.em_plan.proofs.Asked.{plain_ok, plain_err, plain_unspent}
+use Rattle.em_plan.proofs.Telling.{told_plan}
 use Rattle.em_plan.proofs.planning.plan.Goals as goal
 
+abbrev tree_asks : Asks OnTree
+tree_asks = λ a b p r. (b ≡ a) × IfOk r (λ v. v ≡ stands a.tree.now p) × IfErr r (λ e. e ≡ desk.NoMemory)
+
+abbrev tree_tells : OnTree → List ℕ → Bool
+tree_tells t = stands t.tree.now
+
 pub returns-clause-ok : goal.returns-clause-ok
-unfolding plan_of says
-returns-clause-ok c =
-    let planned = plan_some (making_of c.args.book.now.rules c.args.book.now.patterns c.args.tree.now c.args.cwd.now) c.asked-goals.result.now _ c.in_ok-marks.field-0.marks c.in_ok-marks.field-0.walked _
-    (sym c.is_empty.ensures ∙ c.if-is_empty.false) c.in_ok-names.ensures (rw c.items.ensures at c.in_ok-marks.ensures.ok) c.in_ok-marks.ensures.marked (rw c.items-2.ensures at c.in_ok-goals.ensures) in
-    ap (plan_for (making_of c.args.book.now.rules c.args.book.now.patterns c.args.tree.now c.args.cwd.now)) (sym c.asked-goals.ensures) ∙ planned
+returns-clause-ok c = subst (λ (z : Result Plan PlanNo). IfOk c.plan_by.result (λ p. z ≡ Ok p)) (told_plan c.args.book.now c.args.goals.now c.args.tree.now c.args.cwd.now)
+    (plain_ok tree_asks tree_tells (λ a b p v h. (h.0, h.1)) _ _ (plan_asking c.args.book.now c.args.goals.now c.args.cwd.now) c.plan_by.result c.plan_by.ensures.asked)
 
-pub returns-then-is_empty-clause-err : goal.returns-then-is_empty-clause-err
-unfolding plan_of
-returns-then-is_empty-clause-err c = inr (
-    ap (plan_for (making_of c.args.book.now.rules c.args.book.now.patterns c.args.tree.now c.args.cwd.now)) (sym c.asked-goals.ensures)
-    ∙ plan_none (making_of c.args.book.now.rules c.args.book.now.patterns c.args.tree.now c.args.cwd.now) c.asked-goals.result.now (sym c.is_empty.ensures ∙ c.if-is_empty.true))
+pub returns-clause-err : goal.returns-clause-err
+returns-clause-err c = subst (λ (z : Result Plan PlanNo). IfErr c.plan_by.result (λ e. (e ≡ no.NoMemory) ⊎ (z ≡ Err e))) (told_plan c.args.book.now c.args.goals.now c.args.tree.now c.args.cwd.now)
+    (plain_err tree_asks tree_tells (λ a b p v h. (h.0, h.1)) (λ a b p e h. h.2) _ _ (plan_asking c.args.book.now c.args.goals.now c.args.cwd.now) c.plan_by.result c.plan_by.ensures.asked)
 
-pub returns-in_err-marks-clause-err : goal.returns-in_err-marks-clause-err
-unfolding plan_of says
-returns-in_err-marks-clause-err c =
-    let made = making_of c.args.book.now.rules c.args.book.now.patterns c.args.tree.now c.args.cwd.now in
-    let p = err_from_is_err_and c.from_residual-in_err-marks.result c.from_residual-in_err-marks.ensures.1 in
-    rw (p.1, p.2, ← c.asked-goals.ensures) (plan_fails made c.asked-goals.result.now _ _
-    (sym c.is_empty.ensures ∙ c.if-is_empty.false) c.in_ok-names.ensures (rw c.items.ensures at c.in_err-marks.ensures.err))
+pub returns-clause-unspent : goal.returns-clause-unspent
+returns-clause-unspent c = plain_unspent tree_asks tree_tells (λ a b p v h. (h.0, h.1)) (λ a b p e h. h.2) _ _ (plan_asking c.args.book.now c.args.goals.now c.args.cwd.now) c.plan_by.result c.plan_by.ensures.asked

@@ -1,13 +1,14 @@
-use Rattle.std.proofs.Common.{◌≡◌, [], ◌∷◌}
-use Rattle.em_plan.specs.Makings.{says}
-use Rattle.em_plan.specs.Resuming.{opens, resume, AreMarked, weight}
+use Rattle.std.proofs.Common.{[], ◌∷◌}
+use Rattle.em_implicit.specs.Asking.{Follows}
+use Rattle.em_plan.specs.Walking.{asks_for}
+use Rattle.em_plan.specs.Resuming.{opens, after, resume, AreMarked, weight}
 use Rattle.em_plan.proofs.walk.walk_unit.Given as goal
 
 abbrev pub invariant-loop-frame : goal.invariant-loop-frame
-invariant-loop-frame l = record {
+invariant-loop-frame g l = record {
   marked : AreMarked l.walk.marks (opens l.walk.begun) l.walk.walked.jobs;
-  end : resume (says l.makefile) l.walk.begun l.walk.walked ≡ resume (says l.makefile) (record { target = l.goal; making = l.fn.making; next = 0 } ∷ []) l.fn.walk.walked;
+  end : Follows g.T.There.asks l.initial.there l.there (after (asks_for l.makefile) [] l.goal (l.fn.making ∷ []) l.fn.walk.walked) (resume (asks_for l.makefile) l.walk.begun l.walk.walked);
 }
 
 abbrev pub decreases-loop-frame : goal.decreases-loop-frame
-decreases-loop-frame l = weight l.walk.begun l.walk.walked.jobs
+decreases-loop-frame g l = weight l.walk.begun l.walk.walked.jobs

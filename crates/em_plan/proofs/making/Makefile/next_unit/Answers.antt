@@ -1,19 +1,20 @@
-use Rattle.std.proofs.Common.{◌≡◌, ◌<◌, ◌∙◌, ap, sym, subst, length, arith, Some}
-use Rattle.std.specs.Prelude.{IfOk}
+use Rattle.std.proofs.Common.{◌∙◌, sym, length, arith}
 use Rattle.em_plan.specs.Resuming.{known_in, numbers_in}
-use Rattle.em_plan.proofs.Saying.{next_double, next_none, next_single}
+use Rattle.em_plan.proofs.Offering.{double_result, none_offers, single_offers, single_stops}
 use Rattle.em_plan.proofs.making.Makefile.next_unit.Goals as goal
 
-pub returns-then-is_double : goal.returns-then-is_double
-returns-then-is_double c = subst (λ x. IfOk c.double_at.result (λ o. o ≡ x))
-    (sym (next_double c.args.self.now (known_in c.args.marks.now) c.args.name.now (length (numbers_in c.args.marks.now c.args.name.now)) (sym c.is_double.ensures ∙ c.if-is_double.true)))
-    (rw c.requires at c.double_at.ensures)
+pub returns-then-is_double-clause-next : goal.returns-then-is_double-clause-next
+returns-then-is_double-clause-next g c = double_result g.T.There.asks c.args.self.now (known_in c.args.marks.now) c.args.name.now (length (numbers_in c.args.marks.now c.args.name.now)) (sym c.is_double.ensures ∙ c.if-is_double.true) _ c.double_at.result
+    (rw c.requires at c.double_at.ensures.ok) c.double_at.ensures.only
 
-pub returns-then-place-gt0 : goal.returns-then-place-gt0
-returns-then-place-gt0 c = sym (next_none c.args.self.now (known_in c.args.marks.now) c.args.name.now (length (numbers_in c.args.marks.now c.args.name.now)) (sym c.is_double.ensures ∙ c.if-is_double.false)
-    (let e = c.requires in omega (arith, e, c.if-place-gt0.true)))
+pub returns-then-place-gt0-clause-next : goal.returns-then-place-gt0-clause-next
+returns-then-place-gt0-clause-next g c = none_offers g.T.There.asks c.args.self.now (known_in c.args.marks.now) c.args.name.now (length (numbers_in c.args.marks.now c.args.name.now)) (sym c.is_double.ensures ∙ c.if-is_double.false)
+    (let e = c.requires in omega (arith, e, c.if-place-gt0.true)) _
 
-pub returns : goal.returns
-returns c = ap Some c.in_ok-unit.ensures
-    ∙ sym (next_single c.args.self.now (known_in c.args.marks.now) c.args.name.now (length (numbers_in c.args.marks.now c.args.name.now)) (sym c.is_double.ensures ∙ c.if-is_double.false)
-    (let e = c.requires in omega (arith, e, c.if-place-gt0.false)))
+pub returns-in_err-unit-clause-next : goal.returns-in_err-unit-clause-next
+returns-in_err-unit-clause-next g c = single_stops g.T.There.asks c.args.self.now (known_in c.args.marks.now) c.args.name.now (length (numbers_in c.args.marks.now c.args.name.now)) (sym c.is_double.ensures ∙ c.if-is_double.false)
+    (let e = c.requires in omega (arith, e, c.if-place-gt0.false)) _ _ c.from_residual.ensures.1 c.in_err-unit.ensures.asked
+
+pub returns-clause-next : goal.returns-clause-next
+returns-clause-next g c = single_offers g.T.There.asks c.args.self.now (known_in c.args.marks.now) c.args.name.now (length (numbers_in c.args.marks.now c.args.name.now)) (sym c.is_double.ensures ∙ c.if-is_double.false)
+    (let e = c.requires in omega (arith, e, c.if-place-gt0.false)) _ c.in_ok-unit.ensures.asked
