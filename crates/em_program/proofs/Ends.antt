@@ -28,7 +28,8 @@ use Rattle.em_reader.specs.declared.makefiles.Round.{Round}
 use Rattle.em_reading.specs.declared.no.ReadNo.{ReadNo}
 use Rattle.em_program.specs.declared.verdict.Verdict.TheVariants.{Faulty}
 use Rattle.em_program.specs.Course.{◌>>=◌, done, say, stop}
-use Rattle.em_program.specs.Messages.{image_line, read_line}
+use Rattle.em_closing.specs.Refusals.{read_line}
+use Rattle.em_program.specs.Messages.{image_line}
 use Rattle.em_program.specs.Projects.{no_dir, as_dir, as_path, entered, as_round, round_of}
 use Rattle.em_program.specs.Rounds.{based}
 

@@ -46,7 +46,8 @@ use Rattle.em_program.specs.declared.site.Site.{Site}
 use Rattle.em_program.specs.declared.verdict.Verdict.{Verdict}
 use Rattle.em_program.specs.declared.verdict.Verdict.TheVariants.{Faulty}
 use Rattle.em_program.specs.Course.{Course, ◌>>=◌, done, say, take, stop}
-use Rattle.em_program.specs.Messages.{bad_words, no_image, image_line, dir_line, read_line, plan_line}
+use Rattle.em_closing.specs.Refusals.{dir_line, read_line, plan_line}
+use Rattle.em_program.specs.Messages.{bad_words, no_image, image_line}
 use Rattle.em_program.specs.Words.{ordered}
 use Rattle.em_program.specs.Explaining.{explained}
 

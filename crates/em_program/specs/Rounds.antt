@@ -39,7 +39,8 @@ use Rattle.em_program.specs.declared.site.Earlier.{Earlier}
 use Rattle.em_program.specs.declared.site.Site.{Site}
 use Rattle.em_program.specs.declared.verdict.Verdict.TheVariants.{Faulty}
 use Rattle.em_program.specs.Course.{Course, ◌>>=◌, done, stop}
-use Rattle.em_program.specs.Messages.{image_line, fault_line, still_changing}
+use Rattle.em_closing.specs.Refusals.{fault_line}
+use Rattle.em_program.specs.Messages.{image_line, still_changing}
 use Rattle.em_program.specs.Projects.{start_of, entered, round_of, project_at, IsReady}
 use Rattle.em_program.specs.Serial.{ends}
 

@@ -14,7 +14,7 @@ use Rattle.em_cmdline.specs.Pages.{page_in, text_of}
 use Rattle.em_cmdline.specs.declared.page.Page.{Page}
 use Rattle.em_program.specs.declared.verdict.Verdict.TheVariants.{Done, Faulty}
 use Rattle.em_program.specs.Course.{Course, done, stop}
-use Rattle.em_program.specs.Messages.{word_line}
+use Rattle.em_closing.specs.Refusals.{word_line}
 
 -- in place of words that can't be read as a whole: one that is no text
 abbrev pub unread : List (List ℕ)

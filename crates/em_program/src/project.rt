@@ -7,13 +7,12 @@ ghost use Rattle.em_program.specs.Course.{Follows, faults_after};
 ghost use Rattle.em_program.specs.Projects as projects;
 ghost use Rattle.em_program.specs.Projects.{HasRoom, IsReady, IsSite};
 
-use crate::messages::{dir_line, fault_line, plan_line};
 use crate::say::{say, stop};
 use crate::site::{Earlier, Site};
 use crate::stop::Stop;
 use crate::verdict::Verdict;
 use em_base::{NoMemory, Seq, Text};
-use em_closing::{Goal, goals_of};
+use em_closing::{Goal, dir_line, fault_line, goals_of, plan_line};
 use em_cmdline::Order;
 use em_history::History;
 use em_host::Host;

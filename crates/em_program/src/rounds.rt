@@ -7,13 +7,14 @@ ghost use Rattle.em_program.specs.Rounds as rounds;
 ghost use Rattle.em_program.specs.Rounds.{IsNext, IsOrder};
 
 use crate::build::JobsDone;
-use crate::messages::{STILL_CHANGING, fault_line, image_line};
+use crate::messages::{STILL_CHANGING, image_line};
 use crate::project::{Project, Terms, entered, project_at, round_of};
 use crate::say::stop;
 use crate::site::{Earlier, Site, fresh};
 use crate::stop::Stop;
 use crate::verdict::Verdict;
 use em_base::{NoMemory, Seq, Text};
+use em_closing::fault_line;
 use em_cmdline::Order;
 use em_host::Host;
 use em_image::{ImageNo, Which};

@@ -7,11 +7,11 @@ ghost use Rattle.em_program.specs.Course.{Follows, faults_after};
 ghost use Rattle.em_program.specs.Words as words;
 ghost use Rattle.em_program.specs.Words.{words_of, unread, ordered, read};
 
-use crate::messages::word_line;
 use crate::say::stop;
 use crate::stop::Stop;
 use crate::verdict::Verdict;
 use em_base::{NoMemory, Seq, Text};
+use em_closing::word_line;
 use em_cmdline::{Order, WordNo, page_in, read_words};
 use em_host::Host;
 use std::alloc::Global;

@@ -53,7 +53,8 @@ use Rattle.em_program.specs.Course.{Course, done, say, take}
 use Rattle.em_program.specs.Endings.{is_asked}
 use Rattle.em_program.specs.Explaining as explaining
 use Rattle.em_program.specs.Explaining.{report_in, report_of, as_taken, as_told, told_of, explained_of, explained}
-use Rattle.em_program.specs.Messages.{bad_words, no_image, image_line, dir_line, read_line, plan_line, no_report, report_line, insight_line, word_line, still_changing}
+use Rattle.em_closing.specs.Refusals.{word_line, dir_line, read_line, plan_line}
+use Rattle.em_program.specs.Messages.{bad_words, no_image, image_line, no_report, report_line, insight_line, still_changing}
 use Rattle.em_program.specs.Headline.{first_in}
 use Rattle.em_program.specs.Projects.{as_found, image_in, as_read, tree_of, tree_in, pairs_of, recalled_from, recalled, as_dir, as_path, entered, as_round, round_of, as_plan, planned, site, assembled, project_at}
 use Rattle.em_program.specs.Rounds.{Build, based, is_lacking, refused_by, all_there, round_order, final, remade, by_goals, round, first, is_early, left_by, moved, following, goes_by, goes_on}
