@@ -10,3 +10,5 @@ mod Closing
 mod Lawful
 mod Truth
 mod Literal
+mod Formal
+mod Lines

@@ -19,7 +19,7 @@ use Rattle.em_command.specs.declared.jump.Jump.TheVariants.{Exit, Break, Continu
 use Rattle.em_command.specs.declared.here.Here.{Here}
 use Rattle.em_command.specs.Jumps.{is_free, Acts}
 use Rattle.em_command.specs.Heres.{ended_as, faulted}
-use Rattle.em_exec.specs.declared.turn.Turn.{Turn}
+use Rattle.em_exec.specs.declared.loops.LoopTurn.{LoopTurn}
 use Rattle.em_exec.specs.Copies.{Ended, seen, looked_at, turn_of, settled, caught}
 use Rattle.em_exec.specs.Words.{worded, come_to}
 
@@ -94,14 +94,14 @@ settled_with (Err Continue) z = refl
 settled_with (Err (End e)) z = refl
 
 module _ {V : Type 0} {tells : V → Told} {old new : DeskState V} {h t : Here} {r : Result (Unit {0}) Jump} {m : Acts (Unit {0})} where
-  pub caught_s : {x : Result Turn Jump} → x ≡ turn_of r → Does is_free tells old new h t r m → Does is_free tells old new h t x (caught m)
+  pub caught_s : {x : Result LoopTurn Jump} → x ≡ turn_of r → Does is_free tells old new h t r m → Does is_free tells old new h t x (caught m)
   unfolding caught
-  caught_s {x} is p = subst (λ (y : Result Turn Jump). Does is_free tells old new h t y (caught m)) (sym is) (record {
+  caught_s {x} is p = subst (λ (y : Result LoopTurn Jump). Does is_free tells old new h t y (caught m)) (sym is) (record {
     performs = record {
       grows = p.performs.grows;
-      plain = λ n o all. ap (λ (z : Ended × Workspace). let y : Result (Turn × Here) (Jump × Here) × Workspace = (settled z.0, z.1) in y)
+      plain = λ n o all. ap (λ (z : Ended × Workspace). let y : Result (LoopTurn × Here) (Jump × Here) × Workspace = (settled z.0, z.1) in y)
           (p.performs.plain (free_with r t ∙ sym (free_turn r) ∙ sym (free_with (turn_of r) t) ∙ n) o all)
-          ∙ ap (λ (y : Result (Turn × Here) (Jump × Here)). let z : Result (Turn × Here) (Jump × Here) × Workspace = (y, new.work) in z) (settled_with r t);
+          ∙ ap (λ (y : Result (LoopTurn × Here) (Jump × Here)). let z : Result (LoopTurn × Here) (Jump × Here) × Workspace = (y, new.work) in z) (settled_with r t);
     };
   })
 

@@ -12,8 +12,8 @@ use Rattle.em_command.specs.declared.jump.Jump.TheVariants.{Exit, Break, Continu
 use Rattle.em_command.specs.declared.here.Here.{Here}
 use Rattle.em_command.specs.Jumps.{Acts, Change}
 use Rattle.em_command.specs.Heres.{branch, rejoined, overheard}
-use Rattle.em_exec.specs.declared.turn.Turn.{Turn}
-use Rattle.em_exec.specs.declared.turn.Turn.TheVariants.{Whole, Broken, Continued}
+use Rattle.em_exec.specs.declared.loops.LoopTurn.{LoopTurn}
+use Rattle.em_exec.specs.declared.loops.LoopTurn.TheVariants.{Whole, Broken, Continued}
 
 -- how something ended, with the state beside it
 abbrev pub Ended : Type 0
@@ -77,19 +77,19 @@ collected m = looked_at unwritten put_back m
 
 -- ---- turns of a loop
 
-abbrev pub turn_of : Result (Unit {0}) Jump → Result Turn Jump
+abbrev pub turn_of : Result (Unit {0}) Jump → Result LoopTurn Jump
 turn_of (Ok u) = Ok Whole
 turn_of (Err Break) = Ok Broken
 turn_of (Err Continue) = Ok Continued
 turn_of (Err Exit) = Err Exit
 turn_of (Err (End e)) = Err (End e)
 
-abbrev pub settled : Ended → Result (Turn × Here) (Jump × Here)
+abbrev pub settled : Ended → Result (LoopTurn × Here) (Jump × Here)
 settled (Ok (u, h)) = Ok (Whole, h)
 settled (Err (Break, h)) = Ok (Broken, h)
 settled (Err (Continue, h)) = Ok (Continued, h)
 settled (Err (Exit, h)) = Err (Exit, h)
 settled (Err (End e, h)) = Err (End e, h)
 
-unfoldable pub caught : Acts (Unit {0}) → Acts Turn
+unfoldable pub caught : Acts (Unit {0}) → Acts LoopTurn
 caught m = λ h o w. (settled (m h o w).0, (m h o w).1)

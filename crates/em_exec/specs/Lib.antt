@@ -8,3 +8,4 @@ pub mod Literals
 pub mod Leads
 pub mod Running
 pub mod Exec
+pub mod Subs

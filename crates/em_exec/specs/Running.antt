@@ -41,8 +41,8 @@ use Rattle.em_command.specs.Heres.{with_status, assigned}
 use Rattle.em_command.specs.Streams.{around, input_of, redirected}
 use Rattle.em_command.specs.Delivering.{hand, delivered}
 use Rattle.em_command.specs.Acting.{jumped, perform}
-use Rattle.em_exec.specs.declared.turn.Turn.{Turn}
-use Rattle.em_exec.specs.declared.turn.Turn.TheVariants.{Whole, Broken, Continued}
+use Rattle.em_exec.specs.declared.loops.LoopTurn.{LoopTurn}
+use Rattle.em_exec.specs.declared.loops.LoopTurn.TheVariants.{Whole, Broken, Continued}
 use Rattle.em_exec.specs.Copies.{Collected, subshell, heard, collected, caught}
 use Rattle.em_exec.specs.Words.{Deeper, in_copy, fields, whole, pattern}
 
@@ -183,11 +183,11 @@ goes_on until n = if until then not (n == 0) else n == 0
 abbrev pub ends_with : ℕ → Change (Option ℕ)
 ends_with last h = Ok (None, with_status last h)
 
-abbrev pub body_status : Turn → ℕ → Option ℕ
+abbrev pub body_status : LoopTurn → ℕ → Option ℕ
 body_status Broken n = None
 body_status _ n = Some n
 
-abbrev pub after_body : Turn → Change (Option ℕ)
+abbrev pub after_body : LoopTurn → Change (Option ℕ)
 after_body t h = Ok (body_status t h.shell.status, h)
 
 unfoldable pub body_turn : Acts (Unit {0}) → Acts (Option ℕ)
@@ -198,7 +198,7 @@ body_turn body = do
 abbrev pub if_goes_on : Bool → Acts (Unit {0}) → ℕ → Acts (Option ℕ)
 if_goes_on goes body last = if goes then body_turn body else own (ends_with last)
 
-abbrev pub after_test : Bool → Acts (Unit {0}) → ℕ → Turn → Acts (Option ℕ)
+abbrev pub after_test : Bool → Acts (Unit {0}) → ℕ → LoopTurn → Acts (Option ℕ)
 after_test until body last Broken = own (ends_with last)
 after_test until body last Continued = done (Some last)
 after_test until body last Whole = by_status (λ n. if_goes_on (goes_on until n) body last)
@@ -226,14 +226,14 @@ unfoldable pub loop_of : Deeper → Scene → Loop → Acts (Unit {0})
 loop_of deeper scene c = λ h o w.
     turns (suc w.fuel) (out-Loop c).until (deeper (out-Loop c).test (in_loop scene)) (deeper (out-Loop c).body (in_loop scene)) 0 h o w
 
-abbrev pub is_broken : Turn → Bool
+abbrev pub is_broken : LoopTurn → Bool
 is_broken Broken = true
 is_broken _ = false
 
 abbrev pub unless_broken : Bool → Acts (Unit {0}) → Acts (Unit {0})
 unless_broken broken rest = if broken then done tt else rest
 
-unfoldable pub round : List ℕ → Acts (Unit {0}) → List ℕ → Acts Turn
+unfoldable pub round : List ℕ → Acts (Unit {0}) → List ℕ → Acts LoopTurn
 round name body word = do
   u ← below of_desk (spend 1)
   v ← own (assigned name word)

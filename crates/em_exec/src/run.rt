@@ -16,11 +16,11 @@ ghost use Rattle.em_view.specs.Steps.{Does};
 
 use crate::expand::{Expansion, fields_in, first_in, glyphs_in};
 use crate::literals::are_said;
+use crate::loops::{LoopTurn, body_status, goes_on, goes_with, is_broken, opposite, turn_of};
 use crate::parts::{
     apart, appended, body_of, charge_unit, in_loop, pass_on, put_back, take_pieces, with_text,
     within,
 };
-use crate::turn::{Turn, body_status, goes_on, goes_with, is_broken, opposite, turn_of};
 use em_base::{Construct, Seq, Text};
 use em_command::{Here, Jump, Scene, Streams, perform, redirect};
 use em_glob::{Glyph, matches};
@@ -97,7 +97,7 @@ fn and_or_in<V: View>(
 
 /// A pipeline behind `&&` or `||`.
 #[cycle(shell)]
-fn joined_in<V: View>(
+pub(crate) fn joined_in<V: View>(
     alloc: Global,
     left: u32,
     joined: &Joined,
@@ -278,7 +278,7 @@ fn simple_in<V: View>(
 
 /// A simple command whose words are known.
 #[cycle(shell)]
-fn worded_in<V: View>(
+pub(crate) fn worded_in<V: View>(
     alloc: Global,
     left: u32,
     simple: &Simple,
@@ -624,7 +624,7 @@ fn tested<V: View>(
     alloc: Global,
     left: u32,
     it: &Loop,
-    turn: Turn,
+    turn: LoopTurn,
     last: u8,
     scene: &Scene,
     here: &mut Here,
@@ -635,12 +635,12 @@ fn tested<V: View>(
         last turn) }
 {
     match turn {
-        Turn::Broken => {
+        LoopTurn::Broken => {
             here.shell.status = last;
             Ok(None)
         }
-        Turn::Continued => Ok(Some(last)),
-        Turn::Whole => {
+        LoopTurn::Continued => Ok(Some(last)),
+        LoopTurn::Whole => {
             if goes_on(it.until, here.shell.status) {
                 return body_turn(alloc, left, &it.body, scene, here, desk);
             }
@@ -722,7 +722,7 @@ fn round<V: View>(
     scene: &Scene,
     here: &mut Here,
     desk: &mut Desk<V>,
-) -> Result<Turn, Jump>
+) -> Result<LoopTurn, Jump>
     ensures { Does is_free V.tells desk.old desk.new here.old here.new result
         (steps.round (out-For it.now).name
         (script_at left (out-For it.now).body scene.now) word.now) }
@@ -814,7 +814,7 @@ fn pattern_of<V: View>(
 
 /// The fields of words.
 #[cycle(shell)]
-fn fields_of<V: View>(
+pub(crate) fn fields_of<V: View>(
     alloc: Global,
     left: u32,
     words: &[Word],

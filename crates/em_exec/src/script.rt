@@ -1,7 +1,9 @@
 //! A script as a whole.
-ghost use Rattle.std.specs.Prelude.{◌≡◌, ◌++◌, false, Ok, Err, IfOk, OnOk};
+ghost use Rattle.std.specs.Prelude.{◌≡◌, ◌++◌, [], false, Ok, Err, IfOk, OnOk};
+ghost use Rattle.em_command.specs.Heres.{begun};
 ghost use Rattle.em_exec.specs.Exec as runs;
-ghost use Rattle.em_exec.specs.Exec.{said, closed};
+ghost use Rattle.em_exec.specs.Exec.{said, closed, left_by};
+ghost use Rattle.em_exec.specs.Words.{in_copy};
 ghost use Rattle.em_view.specs.Ends.{is_want};
 ghost use Rattle.em_view.specs.Performs.{is_free};
 ghost use Rattle.em_view.specs.Steps.{Does, with_state};
@@ -36,7 +38,35 @@ fn copy_of(alloc: Global, shell: &Shell) -> Result<Shell, NoMemory>
     })
 }
 
-/// Goes back to the shell that was lent.
+/// A copy of the shell, which has written nothing yet.
+pub(crate) fn begin(alloc: Global, shell: &Shell) -> Result<Here, NoMemory>
+    ensures { IfOk result (λ h. h ≡ begun shell.now) }
+{
+    Ok(Here::new(alloc, copy_of(alloc, shell)?))
+}
+
+/// Where a line stands: it reads nothing, and no loop is around.
+pub(crate) fn line_scene(alloc: Global) -> Result<Scene, NoMemory>
+    ensures { IfOk result (λ s. s ≡ in_copy []) }
+{
+    Ok(Scene {
+        input: Body::from_slice(alloc, b"")?,
+        in_loop: false,
+    })
+}
+
+/// What was written is appended, and the shell that was lent is what its copy has come to. The only
+/// error is `NoMemory`.
+pub(crate) fn go_back(here: Here, shell: &mut Shell, out: &mut Text) -> Result<(), NoMemory>
+    ensures { OnOk result (record { shell = shell.new; output = out.new }
+        ≡ left_by here (record { shell = shell.old; output = out.old })) }
+{
+    say(out, here.pieces.items())?;
+    *shell = here.shell;
+    Ok(())
+}
+
+/// Goes back to the shell that was lent, with the status.
 fn close(
     ended: Result<(), Jump>,
     here: Here,
@@ -47,9 +77,8 @@ fn close(
         with_state result (record { shell = shell.new; output = out.new })
         ≡ closed (record { shell = shell.old; output = out.old }) (with_state ended here) }
 {
-    say(out, here.pieces.items())?;
     let status = here.shell.status;
-    *shell = here.shell;
+    go_back(here, shell, out)?;
     match ended {
         Err(Jump::End(e)) => Err(e),
         Ok(()) | Err(Jump::Exit) | Err(Jump::Break) | Err(Jump::Continue) => Ok(status),
@@ -81,13 +110,8 @@ pub fn exec<V: View>(
         (record { shell = shell.new; output = out.new })
         result (runs.run script.now) }
 {
-    let copy = copy_of(alloc, shell)?;
-    let input = Body::from_slice(alloc, b"")?;
-    let mut here = Here::new(alloc, copy);
-    let scene = Scene {
-        input,
-        in_loop: false,
-    };
+    let mut here = begin(alloc, shell)?;
+    let scene = line_scene(alloc)?;
     let ended = script_in(alloc, 65, script, &scene, &mut here, desk);
     close(ended, here, shell, out)
 }

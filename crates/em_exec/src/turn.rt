@@ -1,71 +1,29 @@
-//! Turns of loops.
-ghost use Rattle.std.specs.Prelude.{◌≡◌};
-ghost use Rattle.em_exec.specs.Copies as copies;
-ghost use Rattle.em_exec.specs.Running as running;
+//! A job whose line may be a make of its own: the line, and how a stretch of the job's work ends.
 
-use em_command::Jump;
+use em_base::{Seq, Text};
+use em_cmdline::Order;
+use em_tree::Outcome;
+use em_word::Shell;
 
-/// How a part of a loop's turn ended.
-#[derive(Clone, Copy, Debug, PartialEq, Eq)]
-pub(crate) enum Turn {
-    /// At its end.
-    Whole,
-    /// By `break`.
-    Broken,
-    /// By `continue`.
-    Continued,
+/// A line that begins a make within a make.
+#[derive(Drop)]
+pub struct SubLine {
+    /// What stands behind the command's name, as the shell has expanded it.
+    pub words: Seq<Text>,
+    /// The line's shell. Its working directory is that in which the make runs: behind `cd` and
+    /// behind `-C`.
+    pub shell: Shell,
+    /// The settings: those of the make around it, and then the line's own.
+    pub order: Order,
+    /// How many makes are around the make that the line begins; the outermost has none.
+    pub depth: u8,
 }
 
-/// `break` and `continue` end in the loop; the error is what goes on around it.
-pub(crate) fn turn_of(ended: Result<(), Jump>) -> Result<Turn, Jump>
-    ensures { result ≡ copies.turn_of ended }
-{
-    match ended {
-        Ok(()) => Ok(Turn::Whole),
-        Err(Jump::Break) => Ok(Turn::Broken),
-        Err(Jump::Continue) => Ok(Turn::Continued),
-        Err(Jump::Exit) => Err(Jump::Exit),
-        Err(Jump::End(e)) => Err(Jump::End(e)),
-    }
-}
-
-/// Whether the status of its test lets a loop go on.
-pub(crate) fn goes_on(until: bool, status: u8) -> bool
-    ensures { result ≡ running.goes_on until status }
-{
-    if until { status != 0 } else { status == 0 }
-}
-
-/// Whether the status lets the pipeline behind `&&`, or else `||`, run.
-pub(crate) fn goes_with(and: bool, status: u8) -> bool
-    ensures { result ≡ running.goes_with and status }
-{
-    if and { status == 0 } else { status != 0 }
-}
-
-/// The status of the body in a turn, or none where the loop ends with it.
-pub(crate) fn body_status(turn: Turn, status: u8) -> Option<u8>
-    ensures { result ≡ running.body_status turn status }
-{
-    match turn {
-        Turn::Broken => None,
-        Turn::Whole | Turn::Continued => Some(status),
-    }
-}
-
-/// Whether the loop ends with it.
-pub(crate) fn is_broken(turn: Turn) -> bool
-    ensures { result ≡ running.is_broken turn }
-{
-    match turn {
-        Turn::Broken => true,
-        Turn::Whole | Turn::Continued => false,
-    }
-}
-
-/// What `!` makes of a status.
-pub(crate) fn opposite(status: u8) -> u8
-    ensures { result ≡ running.opposite status }
-{
-    if status == 0 { 1 } else { 0 }
+/// How a stretch of a job's work ends.
+#[derive(Drop)]
+pub enum Turn {
+    /// At a line that begins a make. The job goes on once the make has ended.
+    Sub(SubLine),
+    /// With the job's end.
+    Ended(Outcome),
 }

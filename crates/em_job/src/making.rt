@@ -164,9 +164,9 @@ fn job_of(
 
 /// The specs of a plan's jobs, each with the number at which it stands.
 ///
-/// The variables and the assignments are copied once and shared; each job of the plan is copied once, and copies of its
-/// spec share it. A search for each name says whether it is phony; what `.SILENT` and `.IGNORE`
-/// list is gone over for each job.
+/// The variables and the assignments are copied once and shared; each job of the plan is copied
+/// once, and copies of its spec share it. A search for each name says whether it is phony; what
+/// `.SILENT` and `.IGNORE` list is gone over for each job.
 pub fn specs(
     alloc: Global,
     plan: &Plan,

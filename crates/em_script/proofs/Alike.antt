@@ -66,11 +66,11 @@ held_is deeper scene m (Sets name value t) = λ i. own (assigned name value) >>=
 held_is deeper scene m (Asks s t) = λ i. output deeper scene s >>= (λ text. held_is deeper scene m (t text) i)
 
 -- the shape of a command, and of a compound one, by its variant
-abbrev command_by_variant : CommandBody → Shape
+abbrev pub command_by_variant : CommandBody → Shape
 command_by_variant (Command-F.Simple c) = variant 0 (simple_shape c)
 command_by_variant (Command-F.Compound c rs) = variant 1 (pair (compound_shape c) (row (map redirect_shape rs.items)))
 
-command_is : (c : Command) → command_shape c ≡ command_by_variant (out-Command c)
+pub command_is : (c : Command) → command_shape c ≡ command_by_variant (out-Command c)
 command_is c = ap command_shape (sym (roll-out-Command c)) ∙ at (out-Command c)
   where
     at : (x : CommandBody) → command_shape (roll-Command x) ≡ command_by_variant x
@@ -109,7 +109,7 @@ module _ (deeper : Deeper) (H : (s t : Script) → script_shape s ≡ script_sha
   unfolding added
   added_alike scene so_far v w e = λ i. word_alike scene mode.Fields v w e i >>= (λ z. done (so_far ++ fields_in z))
 
-  fields_alike : (scene : Scene) (xs ys : List Word) → row (map word_shape xs) ≡ row (map word_shape ys) → (so_far : List (List ℕ)) → fields deeper scene so_far xs ≡ fields deeper scene so_far ys
+  pub fields_alike : (scene : Scene) (xs ys : List Word) → row (map word_shape xs) ≡ row (map word_shape ys) → (so_far : List (List ℕ)) → fields deeper scene so_far xs ≡ fields deeper scene so_far ys
   fields_alike scene = in_pairs word_shape (λ xs ys. (so_far : List (List ℕ)) → fields deeper scene so_far xs ≡ fields deeper scene so_far ys) (λ so_far. refl)
       (λ x y xs ys e k so_far. λ i. added_alike scene so_far x y e i >>= (λ more. k more i))
 
@@ -138,12 +138,12 @@ module _ (deeper : Deeper) (H : (s t : Script) → script_shape s ≡ script_sha
       let h = sym (redirect_shape_is a) ∙ e ∙ redirect_shape_is b in
       λ i. λ s. whole_alike scene (out-Redirect a).target (out-Redirect b).target (second_same (second_same h)) i >>= (λ text. redirected (number_same (first_same h) i) (kind_same (first_same (second_same h)) i) text s)
 
-  redirects_alike : (scene : Scene) (xs ys : List Redirect) → row (map redirect_shape xs) ≡ row (map redirect_shape ys) → redirects deeper scene xs ≡ redirects deeper scene ys
+  pub redirects_alike : (scene : Scene) (xs ys : List Redirect) → row (map redirect_shape xs) ≡ row (map redirect_shape ys) → redirects deeper scene xs ≡ redirects deeper scene ys
   redirects_alike scene = in_pairs redirect_shape (λ xs ys. redirects deeper scene xs ≡ redirects deeper scene ys) refl
       (λ x y xs ys e k. λ i. λ s. redirect_alike scene x y e i s >>= (λ next. if_open next (k i)))
 
   -- a simple command
-  act_alike : (scene : Scene) (xs ys : List Assigned) → row (map assigned_shape xs) ≡ row (map assigned_shape ys) → act deeper scene xs ≡ act deeper scene ys
+  pub act_alike : (scene : Scene) (xs ys : List Assigned) → row (map assigned_shape xs) ≡ row (map assigned_shape ys) → act deeper scene xs ≡ act deeper scene ys
   unfolding act
   act_alike scene xs ys e = λ i. λ words s. assignments_alike scene (is_none words) xs ys e i >>= (λ u. ends_alone deeper scene (is_none words) words s)
 
@@ -258,7 +258,7 @@ module _ (deeper : Deeper) (H : (s t : Script) → script_shape s ≡ script_sha
       λ i. stages_alike scene (out-Pipeline a).stages.items (out-Pipeline b).stages.items (second_same h) i >>= (λ u. turned (flag_same (first_same h) i))
 
   -- lists
-  joined_one_alike : (scene : Scene) (a b : Joined) → joined_shape a ≡ joined_shape b → joined_one deeper scene a ≡ joined_one deeper scene b
+  pub joined_one_alike : (scene : Scene) (a b : Joined) → joined_shape a ≡ joined_shape b → joined_one deeper scene a ≡ joined_one deeper scene b
   unfolding joined_one
   joined_one_alike scene a b e =
       let h = sym (joined_shape_is a) ∙ e ∙ joined_shape_is b in

@@ -15,7 +15,9 @@ use Rattle.em_exec.specs.Exec.{run, closed}
 use Rattle.em_script.specs.declared.line.Line.{Line}
 use Rattle.em_script.specs.declared.line.Line.TheVariants.{Script, Wrong, Refused}
 use Rattle.em_script.specs.Lines.{IsWrong, Unexpected, Unclosed, IsRefused, IsRead, run_line}
+use Rattle.em_script.specs.Strands.{Meaning, sub_of, IsMeant}
 use Rattle.em_script.proofs.Alike.{scripts_alike}
+use Rattle.em_script.proofs.Subs.{subs_alike}
 
 pub alike : (s t : tree.Script) → script_shape s ≡ script_shape t → run s ≡ run t
 unfolding run
@@ -55,3 +57,20 @@ one_meaning text Wrong Wrong h g = refl
 one_meaning text Wrong (Refused d) h g = same_line text _ _ (wrong text h) (refused text d g)
 one_meaning text (Refused c) Wrong h g = same_line text _ _ (refused text c h) (wrong text g)
 one_meaning text (Refused c) (Refused d) h g = same_line text _ _ (refused text c h) (refused text d g)
+
+one_sub : (text : List ℕ) (a b : Line) → IsRead text a → IsRead text b → sub_of a ≡ sub_of b
+one_sub text (Script s) (Script t) h g = subs_alike s t (only_tree (lexed text) s t h g)
+one_sub text (Script s) Wrong h g = no_line text s _ h (wrong text g)
+one_sub text (Script s) (Refused c) h g = no_line text s _ h (refused text c g)
+one_sub text Wrong (Script t) h g = no_line text t _ g (wrong text h)
+one_sub text (Refused c) (Script t) h g = no_line text t _ g (refused text c h)
+one_sub text Wrong Wrong h g = refl
+one_sub text Wrong (Refused d) h g = refl
+one_sub text (Refused c) Wrong h g = refl
+one_sub text (Refused c) (Refused d) h g = refl
+
+pub one_text : (text : List ℕ) (a b : Meaning) → IsMeant text a → IsMeant text b → a ≡ b
+one_text text a b h g =
+    let run = one_meaning text h.line g.line h.read g.read in
+    let sub = one_sub text h.line g.line h.read g.read in
+    h.is ∙ (λ i. record { run = run i; sub = sub i }) ∙ sym g.is

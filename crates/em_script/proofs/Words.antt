@@ -22,14 +22,14 @@ use Rattle.em_script.proofs.Asking.{asking, then_asking, close_asking, value_ask
 use Rattle.em_script.proofs.Shaped.{first_same, second_same, inner_same, place_same, bytes_same, flag_same, in_pairs}
 
 -- a piece's shape and what it is
-data View (p : WordPiece) : Type 0 where
+pub data View (p : WordPiece) : Type 0 where
   text : (t : List ℕ) → piece_shape p ≡ pair (flag (out-WordPiece p).quoted) (variant 0 (bytes t)) → what_in p ≡ WordWhat-F.Bytes t → View p
   value : (v : Value) → piece_shape p ≡ pair (flag (out-WordPiece p).quoted) (variant 1 (value_shaped v)) → what_in p ≡ WordWhat-F.Value v → View p
   argument : (v : Value) → piece_shape p ≡ pair (flag (out-WordPiece p).quoted) (variant 2 (value_shaped v)) → what_in p ≡ WordWhat-F.Argument v → View p
   end : piece_shape p ≡ pair (flag (out-WordPiece p).quoted) (variant 3 nothing) → what_in p ≡ WordWhat-F.End → View p
   output : (s : Script) → piece_shape p ≡ pair (flag (out-WordPiece p).quoted) (variant 4 (script_shape s)) → what_in p ≡ WordWhat-F.Output s → View p
 
-view : (p : WordPiece) → View p
+pub view : (p : WordPiece) → View p
 view p = at (what_cases (out-WordPiece p).what)
   where
     shape : (x : WordWhat) (a : Shape) → (out-WordPiece p).what ≡ x → what_shape x ≡ a → piece_shape p ≡ pair (flag (out-WordPiece p).quoted) a

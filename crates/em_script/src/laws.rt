@@ -3,6 +3,7 @@ ghost use Rattle.std.specs.Prelude.{◌≡◌, ℕ, List};
 ghost use Rattle.em_exec.specs.Exec.{run};
 ghost use Rattle.em_gram.specs.Same.{script_shape};
 ghost use Rattle.em_script.specs.Lines.{IsRead, run_line};
+ghost use Rattle.em_script.specs.Strands.{IsMeant, Meaning};
 ghost use Rattle.em_script.specs.declared.line.Line.{Line};
 ghost use Rattle.em_syntax.specs.declared.tree.Script.{Script};
 
@@ -15,4 +16,9 @@ pub fn law_alike()
 pub fn law_one_meaning()
     ensures { (text : List ℕ) (a b : Line) → IsRead text a → IsRead text b
         → run_line a ≡ run_line b }
+{}
+
+/// The same of all that a text means: the words of a make within a make come about alike too.
+pub fn law_one_text()
+    ensures { (text : List ℕ) (a b : Meaning) → IsMeant text a → IsMeant text b → a ≡ b }
 {}

@@ -1,11 +1,13 @@
 //! A line for the shell.
 ghost use Rattle.std.specs.Prelude.{IfOk};
+ghost use Rattle.em_exec.specs.Subs.{words_if};
 ghost use Rattle.em_script.specs.Lines.{IsRead, run_line};
+ghost use Rattle.em_script.specs.Strands.{sub_of};
 ghost use Rattle.em_view.specs.Ends.{is_want};
 ghost use Rattle.em_view.specs.Steps.{Does};
 
 use em_base::{Construct, NoMemory, Text};
-use em_exec::exec;
+use em_exec::{SubWords, exec};
 use em_gram::{GramNo, parse};
 use em_syntax as tree;
 use em_view::{Desk, ExecNo, View};
@@ -57,6 +59,32 @@ impl Line {
                 Ok(2)
             }
             Line::Refused(construct) => Err(ExecNo::Refused(construct.copy(alloc)?)),
+        }
+    }
+
+    /// What a line comes to that begins a make within a make: one command `emake` or `make`, alone
+    /// or behind `cd W &&`. Its words are expanded as `run` expands them, in the directory that
+    /// `cd` gives, but no make is run. Where W isn't one field, the whole line has run. Any other
+    /// line has no words, and for it nothing is done.
+    ///
+    /// Errors and cost are those of `run` for what is expanded or has run. What was written is
+    /// appended to `out`, also before an error.
+    pub fn sub_words<V: View>(
+        &self,
+        alloc: Global,
+        shell: &mut Shell,
+        desk: &mut Desk<V>,
+        out: &mut Text,
+    ) -> Result<Option<SubWords>, ExecNo>
+        ensures { Does is_want V.tells desk.old desk.new
+            (record { shell = shell.old; output = out.old })
+            (record { shell = shell.new; output = out.new })
+            result (words_if (sub_of self.now)) }
+    {
+        match self {
+            Line::Script(script) => em_exec::sub_words(alloc, script, shell, desk, out),
+            Line::Wrong => Ok(None),
+            Line::Refused(_) => Ok(None),
         }
     }
 }

@@ -3,11 +3,11 @@ use Rattle.em_view.proofs.Doing.{out_s}
 use Rattle.em_exec.proofs.Closing.{closing}
 use Rattle.em_exec.proofs.script.exec.Goals as goal
 
-pub returns-in_err-copy : goal.returns-in_err-copy
-returns-in_err-copy g c = out_s _ refl c.from_residual.ensures.1
+pub returns-in_err-here : goal.returns-in_err-here
+returns-in_err-here g c = out_s _ refl c.from_residual.ensures.1
 
-pub returns-in_err-input : goal.returns-in_err-input
-returns-in_err-input g c = out_s _ refl c.from_residual-in_err-input.ensures.1
+pub returns-in_err-scene : goal.returns-in_err-scene
+returns-in_err-scene g c = out_s _ refl c.from_residual-in_err-scene.ensures.1
 
 pub returns : goal.returns
-returns g c = closing _ (rw (c.new-here.ensures, c.in_ok-copy.ensures, c.in_ok-input.ensures) at c.script_in-ended.ensures) c.close.ensures
+returns g c = closing _ (rw (c.in_ok-here.ensures, c.in_ok-scene.ensures) at c.script_in-ended.ensures) c.close.ensures
