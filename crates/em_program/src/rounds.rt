@@ -282,8 +282,8 @@ fn round<H: Host>(
     remade_step(alloc, left - 1, site, cwd, found, goals, host)
 }
 
-/// The first build at the site. It takes what reading and planning take, and a copy of the tree where
-/// makefiles are to be made.
+/// The first build at the site. It takes what reading and planning take, and a copy of the tree
+/// where makefiles are to be made.
 pub fn first<H: Host>(alloc: Global, site: Site, host: &mut H) -> Result<Step, Stop>
     requires { IsSite site }
     ensures told { Follows (rounds.first site) result (H.told host.old) (H.told host.new) }
@@ -345,7 +345,8 @@ fn moved(alloc: Global, order: Order, done: JobsDone) -> Result<Site, NoMemory>
     })
 }
 
-/// What is built behind the makefiles of a round: where one changed the next round's, else the goals.
+/// What is built behind the makefiles of a round: where one changed the next round's, else the
+/// goals.
 pub fn behind<H: Host>(
     alloc: Global,
     remaking: Remaking,

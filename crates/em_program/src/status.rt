@@ -53,8 +53,8 @@ pub fn has_ended(order: &Order, outcomes: &[Outcome]) -> bool
     outcomes.iter().any(|o| ends(order, o))
 }
 
-/// The run's status, by the outcomes of its last build, and of the builds before; `asked` tells that
-/// it was only asked whether something is to be made, and `broken` that the new image breaks a
+/// The run's status, by the outcomes of its last build, and of the builds before; `asked` tells
+/// that it was only asked whether something is to be made, and `broken` that the new image breaks a
 /// limit. Linear in all of them.
 pub fn status_of(asked: bool, broken: bool, earlier: &[Outcome], outcomes: &[Outcome]) -> Verdict
     ensures { result ≡ statuses.status_of asked broken earlier.now outcomes.now }

@@ -94,27 +94,27 @@ fn notes_in(alloc: Global, answer: Result<Finished, Stop>) -> Seq<Note>
 
 /// Does all that the program does, in this order: reads the words, the image, the history and the
 /// makefiles, plans, runs the jobs, says the closing text and replaces the image, the history and
-/// the report. Makefiles that rules make are made first, as goals of a build of their own: where one
-/// changed, the makefiles are read anew, at most eight times. A generated project is built beside
-/// the host: only a summary is said, and nothing is replaced. `--explain` says what a report tells,
-/// `--help` and `--version` print a page, and nothing else is done.
+/// the report. Makefiles that rules make are made first, as goals of a build of their own: where
+/// one changed, the makefiles are read anew, at most eight times. A generated project is built
+/// beside the host: only a summary is said, and nothing is replaced. `--explain` says what a report
+/// tells, `--help` and `--version` print a page, and nothing else is done.
 ///
 /// Over a host that tells its files and what was printed, and with a status other than 3 and 7, the
 /// printed bytes grew by exactly what the serial runs of the builds say, the image is that of the
 /// last one, and the status is that of all of them, for every number of workers that the words
-/// order, and whatever the history tells (`law_history`). The history tells the notes of all builds,
-/// the report those of the last one. At 3 and 7 a front of this was done. No other file is touched.
-/// Status 3 comes only where a call on the host failed, and where one failed the status is 3 or 7
-/// and nothing more is called.
+/// order, and whatever the history tells (`law_history`). The history tells the notes of all
+/// builds, the report those of the last one. At 3 and 7 a front of this was done. No other file is
+/// touched. Status 3 comes only where a call on the host failed, and where one failed the status is
+/// 3 or 7 and nothing more is called.
 ///
 /// Over such a host a job's note has one run, or two and why: its first run was answered otherwise
 /// than the serial run is, isn't what the board was asked, is another job's, or was given up for
 /// want of memory. With one worker each note has one run. With more the call may wait.
 ///
 /// Besides the jobs themselves it takes time linear in the image, in the history, in what is read
-/// of makefiles and in the plans, with searches by name or path for each name and each change, and a
-/// sort of the pairs that were learnt; with more than one worker also what a board takes of them. A
-/// round that makes makefiles copies the tree, whose files share their bytes.
+/// of makefiles and in the plans, with searches by name or path for each name and each change, and
+/// a sort of the pairs that were learnt; with more than one worker also what a board takes of them.
+/// A round that makes makefiles copies the tree, whose files share their bytes.
 pub fn emake<R: Threads + Wait + Sync, H: Host>(
     rt: &R,
     alloc: Global,
