@@ -33,14 +33,14 @@ use Rattle.em_job.specs.declared.prepare.Opened.{Opened}
 use Rattle.em_job.specs.declared.prepare.Placed.{Placed}
 use Rattle.em_job.specs.declared.prepare.Prepared.{Prepared}
 use Rattle.em_job.specs.declared.prepare.Prepared.TheVariants.{Ended, Lines}
-use Rattle.em_job.specs.declared.carry.Turn.{Turn}
-use Rattle.em_job.specs.declared.carry.Turn.TheVariants as turn
+use Rattle.em_job.specs.declared.carry.LineEnd.{LineEnd}
+use Rattle.em_job.specs.declared.carry.LineEnd.TheVariants as line_end
 use Rattle.em_job.specs.declared.ready.Ready.{Ready}
 use Rattle.em_job.specs.declared.stop.Stop.{Stop}
 use Rattle.em_job.specs.declared.stop.Stop.TheVariants as stop
 use Rattle.em_job.specs.Stops.{Acts, early, of_expand}
-use Rattle.em_job.specs.Deciding.{ending_of, await_job, together, await_jobs, unasked, awaited, await_normal, await_order, prerequisites, path_of, stamp_by, stamp_of, stamps_of, newer_among, with_newer, is_newer, is_one_absent, is_due, reasons, unruled, by_recipe, decision as decided}
-use Rattle.em_job.specs.Preparing.{Autos, say, no_evals, expand_at, placed, expand_lines, recipe_of, expand_recipe, no_rule, by_decision, decide, if_fine, prepare}
+use Rattle.em_job.specs.Deciding.{ending_of, await_job, together, await_jobs, unasked, awaited, await_normal, await_order, behind, prerequisites, path_of, stamp_by, stamp_of, stamps_of, newer_among, with_newer, is_newer, is_one_absent, is_due, reasons, unruled, by_recipe, decision as decided}
+use Rattle.em_job.specs.Preparing.{Autos, say, no_evals, expand_at, placed, expand_lines, recipe_of, expand_recipe, no_rule, by_decision, decide, if_fine, prepare_with, prepare}
 use Rattle.em_job.specs.Carrying.{AreRead, lines_in, course_of, echo, does_run, if_runs, run_line, is_lenient, after_line, fail, delete, turn_of, lines_by, lines_from, carry_out}
 use Rattle.em_job.specs.Effects.{saying, silence, steps, closed, job, begin, result_of, lines_on, no_end, Makes}
 use Rattle.em_job.specs.Ends.{is_idle, is_silent, AreUnforced}
@@ -80,25 +80,29 @@ module _ {S E : Type 0} where
       stays = λ s o w. still_there k h (m s o w).0 (m s o w).1 s o (first.stays s o w);
     }
 
-reads_job : (dry : Bool) (n : ℕ) → Reads (await_job dry n)
+reads_job : (dry : Bool) (n : ℕ) → Reads (await_job None dry n)
 unfolding await_job
 reads_job dry n = reads_then (reads_below early (spares_outcome n)) (λ o. reads_done _)
 
-reads_jobs : (dry : Bool) (ns : List ℕ) (so_far : Ending) → Reads (await_jobs dry ns so_far)
+reads_jobs : (dry : Bool) (ns : List ℕ) (so_far : Ending) → Reads (await_jobs None dry ns so_far)
 reads_jobs dry [] so_far = reads_done _
 reads_jobs dry (n ∷ ns) so_far = reads_then (reads_job dry n) (λ e. reads_jobs dry ns (together so_far e))
 
-reads_normal : (dry : Bool) (ps : List Pre) (so_far : List Awaited) (fine : Bool) → Reads (await_normal dry ps so_far fine)
+reads_normal : (dry : Bool) (ps : List Pre) (so_far : List Awaited) (fine : Bool) → Reads (await_normal None dry ps so_far fine)
 reads_normal dry [] so_far fine = reads_done _
 reads_normal dry (p ∷ ps) so_far fine = reads_then (reads_jobs dry p.jobs unasked) (λ e. reads_normal dry ps (so_far ++ awaited p e ∷ []) (fine && e.fine))
 
-reads_order : (ps : List Pre) (fine : Bool) → Reads (await_order ps fine)
+reads_order : (ps : List Pre) (fine : Bool) → Reads (await_order None ps fine)
 reads_order [] fine = reads_done _
 reads_order (p ∷ ps) fine = reads_then (reads_jobs false p.jobs unasked) (λ e. reads_order ps (fine && e.fine))
 
-reads_prerequisites : (j : Job) → Reads (prerequisites j)
+unknown : (ps : List Pre) → behind ps None ≡ None
+unknown [] = refl
+unknown (p ∷ ps) = unknown ps
+
+reads_prerequisites : (j : Job) → Reads (prerequisites None j)
 unfolding prerequisites
-reads_prerequisites j = reads_then (reads_normal j.flags.dry j.plan.normal [] true) (λ n. reads_then (reads_order j.plan.order n.1) (λ f. reads_done _))
+reads_prerequisites j = reads_then (reads_normal j.flags.dry j.plan.normal [] true) (λ n. reads_then (rw (unknown j.plan.normal) (reads_order j.plan.order n.1)) (λ f. reads_done _))
 
 reads_stamp : (cwd name : List ℕ) → Reads (stamp_of cwd name)
 unfolding stamp_of
@@ -138,7 +142,7 @@ spares_fine j normal false = all_done _
 spares_fine j normal true = all_then (reads_stamps j.cwd j.plan.targets []).spares (λ owns. all_then (reads_newer j owns normal []).spares (λ newer. spares_decided j owns newer _))
 
 spares_prepare : (j : Job) → SparesAll (prepare j)
-unfolding prepare
+unfolding prepare_with
 spares_prepare j = all_then (reads_prerequisites j).spares (λ p. spares_fine j p.0 p.1)
 
 -- ---- a job that ends before its recipe
@@ -207,7 +211,7 @@ idle_fine j normal false = idle_ended _
 idle_fine j normal true = idle_then (reads_stamps j.cwd j.plan.targets []) (λ owns. idle_then (reads_newer j owns normal []) (λ newer. idle_decided j owns newer _))
 
 idle_prepare : (j : Job) → Idle (prepare j)
-unfolding prepare
+unfolding prepare_with
 idle_prepare j = idle_then (reads_prerequisites j) (λ p. idle_fine j p.0 p.1)
 
 -- ---- a job whose recipe has begun ends as made, or as failed
@@ -219,20 +223,20 @@ Works (Err p) = Unit {0}
 record Busy (m : Acts Outcome) : Type 0 where
   by : (s : Spoken) (o : Oracle) (w : Workspace) → Works (m s o w).0
 
-abbrev Turns : Result (Turn × Spoken) (Stop × Spoken) → Type 0
-Turns (Ok (turn.Next env, t)) = Unit {0}
-Turns (Ok (turn.Ended o, t)) = is_idle o ≡ false
+abbrev Turns : Result (LineEnd × Spoken) (Stop × Spoken) → Type 0
+Turns (Ok (line_end.Next env, t)) = Unit {0}
+Turns (Ok (line_end.Ended o, t)) = is_idle o ≡ false
 Turns (Err p) = Unit {0}
 
-record BusyTurn (m : Acts Turn) : Type 0 where
+record BusyTurn (m : Acts LineEnd) : Type 0 where
   by : (s : Spoken) (o : Oracle) (w : Workspace) → Turns (m s o w).0
 
 module _ {A : Type 0} where
-  turns_on : (k : A → Acts Turn) → ((a : A) → BusyTurn (k a)) → (r : Result (A × Spoken) (Stop × Spoken)) (v : Workspace) (o : Oracle) → Turns (go_on r v (λ p. k p.0 p.1) o).0
+  turns_on : (k : A → Acts LineEnd) → ((a : A) → BusyTurn (k a)) → (r : Result (A × Spoken) (Stop × Spoken)) (v : Workspace) (o : Oracle) → Turns (go_on r v (λ p. k p.0 p.1) o).0
   turns_on k h (Ok p) v o = (h p.0).by p.1 o v
   turns_on k h (Err p) v o = tt
 
-  turn_then : (m : Acts A) {k : A → Acts Turn} → ((a : A) → BusyTurn (k a)) → BusyTurn (and_then m k)
+  turn_then : (m : Acts A) {k : A → Acts LineEnd} → ((a : A) → BusyTurn (k a)) → BusyTurn (and_then m k)
   unfolding and_then ◌>>=◌
   turn_then m {k} h = record { by = λ s o w. turns_on k h (m s o w).0 (m s o w).1 o }
 
@@ -244,11 +248,11 @@ module _ {A : Type 0} where
   unfolding and_then ◌>>=◌
   busy_then m {k} h = record { by = λ s o w. works_on k h (m s o w).0 (m s o w).1 o }
 
-turn_next : (env : Option Entries) → BusyTurn (done (turn.Next env))
+turn_next : (env : Option Entries) → BusyTurn (done (line_end.Next env))
 unfolding done
 turn_next env = record { by = λ s o w. tt }
 
-turn_by : {m n : Acts Turn} (b : Bool) → BusyTurn m → BusyTurn n → BusyTurn (cond b m n)
+turn_by : {m n : Acts LineEnd} (b : Bool) → BusyTurn m → BusyTurn n → BusyTurn (cond b m n)
 turn_by true h g = h
 turn_by false h g = g
 
@@ -259,8 +263,8 @@ busy_fail j befores p status = busy_then _ (λ u. busy_then _ (λ v. busy_failed
     busy_failed : Busy (done (outcome.Failed status))
     busy_failed = record { by = λ s o w. refl }
 
-abbrev to_end : Outcome → Acts Turn
-to_end o = done (turn.Ended o)
+abbrev to_end : Outcome → Acts LineEnd
+to_end o = done (line_end.Ended o)
 
 stopped : (m : Acts Outcome) → Busy m → BusyTurn (and_then m to_end)
 unfolding and_then ◌>>=◌ done
@@ -274,10 +278,10 @@ busy_turn : (j : Job) (x : Opened) (env : Option Entries) (r : Ready) → BusyTu
 unfolding turn_of
 busy_turn j x env r = turn_then _ (λ ran. turn_by _ (turn_next ran.0) (turn_by (is_lenient j r.placed) (turn_then _ (λ u. turn_next ran.0)) (stopped _ (busy_fail j x.stamps r.placed.place ran.1))))
 
-lines_go : (rest : Option Entries → Acts Outcome) → ((env : Option Entries) → Busy (rest env)) → (r : Result (Turn × Spoken) (Stop × Spoken)) (v : Workspace) (o : Oracle) → Turns r → Works (go_on r v (λ p. lines_by rest p.0 p.1) o).0
+lines_go : (rest : Option Entries → Acts Outcome) → ((env : Option Entries) → Busy (rest env)) → (r : Result (LineEnd × Spoken) (Stop × Spoken)) (v : Workspace) (o : Oracle) → Turns r → Works (go_on r v (λ p. lines_by rest p.0 p.1) o).0
 unfolding done
-lines_go rest h (Ok (turn.Next env, t)) v o e = (h env).by t o v
-lines_go rest h (Ok (turn.Ended out, t)) v o e = e
+lines_go rest h (Ok (line_end.Next env, t)) v o e = (h env).by t o v
+lines_go rest h (Ok (line_end.Ended out, t)) v o e = e
 lines_go rest h (Err p) v o e = tt
 
 busy_lines : (j : Job) (x : Opened) (env : Option Entries) (rs : List Ready) → Busy (lines_from j x env rs)
@@ -408,7 +412,7 @@ module _ (Q : Outcome → Type 0) where
     prepared_fine normal true = prepared_then _ (λ owns. prepared_then _ (λ newer. prepared_decided j owns newer _ (all owns newer)))
 
     prepared_all : IsPrepared (prepare j)
-    unfolding prepare
+    unfolding prepare_with
     prepared_all = prepared_then _ (λ p. prepared_fine p.0 p.1)
 
     -- the steps end so, with the files as they were
@@ -488,7 +492,7 @@ module _ (j : Job) (dry : j.flags.dry ≡ true) where
   shown_only l e = ap (λ (b : Bool). not b || l.command.marks.forced) dry ∙ e
 
   dry_turn : (x : Opened) (env : Option Entries) (r : Ready) (s : Spoken) (o : Oracle) (w : Workspace) → r.placed.command.marks.forced ≡ false
-      → turn_of j x env r s o w ≡ (Ok (turn.Next env, record s { said = s.said ++ echo j r.placed }), w)
+      → turn_of j x env r s o w ≡ (Ok (line_end.Next env, record s { said = s.said ++ echo j r.placed }), w)
   unfolding turn_of run_line and_then ◌>>=◌ own done
   dry_turn x env r s o w e =
       ap (λ (b : Bool). and_then (and_then (own (say (echo j r.placed))) (λ u. if_runs j x.autos env r.placed r.line b)) (λ ran. after_line j x.stamps r.placed ran.0 ran.1) s o w) (shown_only r.placed e)
@@ -507,7 +511,7 @@ module _ (j : Job) (dry : j.flags.dry ≡ true) where
       record {
         at = λ s. record {
           by = λ o w.
-              ap (λ (z : Result (Turn × Spoken) (Stop × Spoken) × Workspace). (go_on z.0 z.1 (λ q. lines_by (λ next. lines_from j x next rs) q.0 q.1) o).1.changes) (dry_turn x env r s o w forced)
+              ap (λ (z : Result (LineEnd × Spoken) (Stop × Spoken) × Workspace). (go_on z.0 z.1 (λ q. lines_by (λ next. lines_from j x next rs) q.0 q.1) o).1.changes) (dry_turn x env r s o w forced)
               ∙ (more.at (record s { said = s.said ++ echo j r.placed })).by o w;
         };
       }

@@ -18,7 +18,7 @@ use Rattle.em_job.specs.declared.ready.Ready.{Ready}
 use Rattle.em_job.specs.declared.stop.Stop.{Stop}
 use Rattle.em_job.specs.Preparing.{Autos, say, prepare}
 use Rattle.em_job.specs.Stops.{of_line}
-use Rattle.em_job.specs.Carrying.{AreRead, environment_once, session_of, said_in, shell_of, in_shell, run, if_runs, does_run, echo, run_line, after_line, turn_of, lines_by, lines_from, course_of, carry_out}
+use Rattle.em_job.specs.Carrying.{AreRead, environment_once, shell_of, run_in, in_shell, run, if_runs, does_run, echo, run_line, after_line, turn_of, lines_by, lines_from, course_of, carry_out}
 use Rattle.em_job.specs.Effects.{saying, steps, closed, job, begin, no_end, Makes}
 
 abbrev Alike : Line → Line → Type 0
@@ -26,7 +26,7 @@ Alike a b = script.run_line a ≡ script.run_line b
 
 same_shell : (j : Job) (env : Entries) (p : Place) (a b : Line) → Alike a b → in_shell j env p a ≡ in_shell j env p b
 unfolding in_shell
-same_shell j env p a b h = λ i. within (session_of (shell_of j env)) said_in (of_line p) (h i)
+same_shell j env p a b h = λ i. run_in p (h i) (shell_of j env)
 
 same_run : (j : Job) (autos : Autos) (env : Option Entries) (p : Place) (a b : Line) → Alike a b → run j autos env p a ≡ run j autos env p b
 unfolding run

@@ -14,7 +14,8 @@ use Rattle.em_view.specs.declared.no.DeskNo.{DeskNo}
 use Rattle.em_view.specs.declared.no.DeskNo.TheVariants as desk
 use Rattle.em_view.specs.Actions.{attempt}
 use Rattle.em_view.specs.Rows.{kind_at, stamp_at, remove}
-use Rattle.em_view.specs.Steps.{done, refuse, own, below, within}
+use Rattle.em_view.specs.declared.done.ExecNo.{ExecNo}
+use Rattle.em_view.specs.Steps.{Steps, done, refuse, own, below, within}
 use Rattle.em_view.specs.Do.{◌>>=◌}
 use Rattle.em_vars.specs.declared.var.Var.{Var}
 use Rattle.em_vars.specs.declared.var.Flavour.{Flavour}
@@ -36,9 +37,9 @@ use Rattle.em_job.specs.declared.prepare.Prepared.TheVariants.{Ended, Lines}
 use Rattle.em_job.specs.declared.ready.Ready.{Ready}
 use Rattle.em_job.specs.declared.ready.Course.{Course}
 use Rattle.em_job.specs.declared.ready.Course.TheVariants as course
-use Rattle.em_job.specs.declared.carry.Turn.{Turn}
-use Rattle.em_job.specs.declared.carry.Turn.TheVariants as turn
-use Rattle.em_job.specs.declared.carry.Turn.TheVariants.{Next}
+use Rattle.em_job.specs.declared.carry.LineEnd.{LineEnd}
+use Rattle.em_job.specs.declared.carry.LineEnd.TheVariants as line_end
+use Rattle.em_job.specs.declared.carry.LineEnd.TheVariants.{Next}
 use Rattle.em_job.specs.declared.stop.Stop.{Stop}
 use Rattle.em_job.specs.declared.stop.Stop.TheVariants.{Spent, NoMemory}
 use Rattle.em_job.specs.Stops.{Acts, of_desk, of_line}
@@ -140,9 +141,13 @@ said_in s session = record s { said = session.output }
 abbrev pub shell_of : Job → Entries → Shell
 shell_of j env = record { vars = env; cwd = j.cwd; status = 0 }
 
+-- steps in a shell, which ends with them
+unfoldable pub run_in : Place → Steps Session ExecNo ℕ → Shell → Acts ℕ
+run_in p m shell = within (session_of shell) said_in (of_line p) m
+
 -- its status
 unfoldable pub in_shell : Job → Entries → Place → Line → Acts ℕ
-in_shell j env p line = within (session_of (shell_of j env)) said_in (of_line p) (script.run_line line)
+in_shell j env p line = run_in p (script.run_line line) (shell_of j env)
 
 unfoldable pub run : Job → Autos → Option Entries → Place → Line → Acts (Option Entries × ℕ)
 run j autos env p line = do
@@ -223,27 +228,27 @@ abbrev pub is_lenient : Job → Placed → Bool
 is_lenient j l = j.lenient || l.command.marks.lenient
 
 -- what follows a line with this status
-abbrev pub after_line : Job → List (Option ℕ) → Placed → Option Entries → ℕ → Acts Turn
+abbrev pub after_line : Job → List (Option ℕ) → Placed → Option Entries → ℕ → Acts LineEnd
 after_line j befores l next status = if status == 0 then done (Next next) else if is_lenient j l then ignore else stop
   where
-    ignore : Acts Turn
+    ignore : Acts LineEnd
     ignore = do
       u ← own (say (messages.ignored l.place j.plan.target status))
       done (Next next)
 
-    stop : Acts Turn
+    stop : Acts LineEnd
     stop = do
       o ← fail j befores l.place status
-      done (turn.Ended o)
+      done (line_end.Ended o)
 
-unfoldable pub turn_of : Job → Opened → Option Entries → Ready → Acts Turn
+unfoldable pub turn_of : Job → Opened → Option Entries → Ready → Acts LineEnd
 turn_of j x env r = do
   ran ← run_line j x.autos env r.placed r.line
   after_line j x.stamps r.placed ran.0 ran.1
 
-abbrev pub lines_by : (Option Entries → Acts Outcome) → Turn → Acts Outcome
+abbrev pub lines_by : (Option Entries → Acts Outcome) → LineEnd → Acts Outcome
 lines_by rest (Next env) = rest env
-lines_by rest (turn.Ended o) = done o
+lines_by rest (line_end.Ended o) = done o
 
 abbrev pub lines_from : Job → Opened → Option Entries → List Ready → Acts Outcome
 lines_from j x env [] = done outcome.Made

@@ -1,17 +1,19 @@
 -- Whether a job remakes its targets: what it asks of its prerequisites' jobs and of stamps, and what
 -- follows from that.
---     prerequisites j         the outcomes of all jobs of the prerequisites, normal ones and then order-only ones
+--     prerequisites known j   the outcomes of all jobs of the prerequisites, normal ones and then order-only ones
 --     stamp_of cwd name       the stamp of what the name says; a name that is no path is absent and isn't asked
 --     stamps_of cwd names ..  the stamps of these names, in order, behind those so far
 --     newer_among ..          the normal prerequisites that make remaking due
 --     is_due, decision        remaking is due; what becomes of the job
-use Rattle.std.specs.Prelude.{ℕ, nat_lt, ◌==◌, Bool, true, false, not, ◌&&◌, ◌||◌, List, [], ◌∷◌, ◌++◌, length, Option, Some, None, if◌then◌else◌}
+use Rattle.std.specs.Prelude.{ℕ, nat_lt, ◌==◌, Bool, true, false, not, ◌&&◌, ◌||◌, List, [], ◌∷◌, ◌++◌, length, drop, slice_get, Option, Some, None, if◌then◌else◌}
+use Rattle.std.specs.Option.{option_map}
 use Rattle.std.specs.List.{list_any}
 use Rattle.std.specs.Str.{bytes_eq}
 use Rattle.em_path.specs.declared.path.PathNo.{PathNo}
 use Rattle.em_path.specs.Reading.{read_fault, resolved_text}
 use Rattle.em_tree.specs.declared.outcome.Outcome.{Outcome}
 use Rattle.em_tree.specs.declared.outcome.Outcome.TheVariants as outcome
+use Rattle.em_view.specs.Actions.{spend}
 use Rattle.em_view.specs.Rows.{stamp_at}
 use Rattle.em_view.specs.Rows as rows
 use Rattle.em_view.specs.Steps.{done, below}
@@ -43,10 +45,28 @@ is_renewed dry _ = false
 abbrev pub ending_of : Bool → Option Outcome → Ending
 ending_of dry o = record { fine = goes_on o; renewed = is_renewed dry o }
 
+-- the outcomes that a job is told, one for each job about which it asks, in the order in which it
+-- asks; without them it asks the desk
+abbrev pub Known : Type 0
+Known = Option (List Outcome)
+
+-- those that are left once so many were taken
+abbrev pub later : ℕ → Known → Known
+later n known = option_map (drop n) known
+
+abbrev pub behind : List Pre → Known → Known
+behind [] known = known
+behind (p ∷ ps) known = behind ps (later (length p.jobs) known)
+
+-- what it is told costs a unit, as the desk's answer does
+abbrev pub outcome_by : Known → ℕ → Acts (Option Outcome)
+outcome_by None job = below early (rows.outcome job)
+outcome_by (Some os) job = below early (spend 1) >>= (λ u. done (slice_get os 0))
+
 -- how the job of this number ended
-unfoldable pub await_job : Bool → ℕ → Acts Ending
-await_job dry job = do
-  o ← below early (rows.outcome job)
+unfoldable pub await_job : Known → Bool → ℕ → Acts Ending
+await_job known dry job = do
+  o ← outcome_by known job
   done (ending_of dry o)
 
 -- what the ends of two jobs mean together: a job goes on with both, and one is enough to make
@@ -55,11 +75,11 @@ abbrev pub together : Ending → Ending → Ending
 together e x = record { fine = e.fine && x.fine; renewed = e.renewed || x.renewed }
 
 -- what the jobs of these numbers mean, all of them, with what was so far
-abbrev pub await_jobs : Bool → List ℕ → Ending → Acts Ending
-await_jobs dry [] so_far = done so_far
-await_jobs dry (k ∷ ks) so_far = do
-  e ← await_job dry k
-  await_jobs dry ks (together so_far e)
+abbrev pub await_jobs : Known → Bool → List ℕ → Ending → Acts Ending
+await_jobs known dry [] so_far = done so_far
+await_jobs known dry (k ∷ ks) so_far = do
+  e ← await_job known dry k
+  await_jobs (later 1 known) dry ks (together so_far e)
 
 -- before the first job
 abbrev pub unasked : Ending
@@ -69,22 +89,22 @@ abbrev pub awaited : Pre → Ending → Awaited
 awaited p e = record { name = p.name; renewed = e.renewed }
 
 -- the prerequisites so far, and whether the job goes on with all of them
-abbrev pub await_normal : Bool → List Pre → List Awaited → Bool → Acts (List Awaited × Bool)
-await_normal dry [] so_far fine = done (so_far, fine)
-await_normal dry (p ∷ ps) so_far fine = do
-  e ← await_jobs dry p.jobs unasked
-  await_normal dry ps (so_far ++ awaited p e ∷ []) (fine && e.fine)
+abbrev pub await_normal : Known → Bool → List Pre → List Awaited → Bool → Acts (List Awaited × Bool)
+await_normal known dry [] so_far fine = done (so_far, fine)
+await_normal known dry (p ∷ ps) so_far fine = do
+  e ← await_jobs known dry p.jobs unasked
+  await_normal (later (length p.jobs) known) dry ps (so_far ++ awaited p e ∷ []) (fine && e.fine)
 
-abbrev pub await_order : List Pre → Bool → Acts Bool
-await_order [] fine = done fine
-await_order (p ∷ ps) fine = do
-  e ← await_jobs false p.jobs unasked
-  await_order ps (fine && e.fine)
+abbrev pub await_order : Known → List Pre → Bool → Acts Bool
+await_order known [] fine = done fine
+await_order known (p ∷ ps) fine = do
+  e ← await_jobs known false p.jobs unasked
+  await_order (later (length p.jobs) known) ps (fine && e.fine)
 
-unfoldable pub prerequisites : Job → Acts (List Awaited × Bool)
-prerequisites j = do
-  normal ← await_normal j.flags.dry j.plan.normal [] true
-  fine ← await_order j.plan.order normal.1
+unfoldable pub prerequisites : Known → Job → Acts (List Awaited × Bool)
+prerequisites known j = do
+  normal ← await_normal known j.flags.dry j.plan.normal [] true
+  fine ← await_order (behind j.plan.normal known) j.plan.order normal.1
   done (normal.0, fine)
 
 abbrev pub path_by : Option PathNo → List ℕ → List ℕ → Option (List ℕ)

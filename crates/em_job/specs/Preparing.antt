@@ -1,8 +1,9 @@
 -- What a job does before the first line of its recipe runs: it decides, and expands all lines.
 --     expand_at j autos p text    the expansion of a text at a place; a text for `eval` in it is refused
 --     expand_lines ..             the lines for the shell
---     prepare j                   the whole: how the job ends, or what it is to run
-use Rattle.std.specs.Prelude.{ℕ, Bool, true, false, List, [], ◌∷◌, ◌++◌, map, unwrap_or, Option, Result, Ok, Err}
+--     prepare_with known j        the whole: how the job ends, or what it is to run, where these outcomes are known
+--     prepare j                   the same where the desk is asked for outcomes
+use Rattle.std.specs.Prelude.{ℕ, Bool, true, false, List, [], ◌∷◌, ◌++◌, map, unwrap_or, Option, None, Result, Ok, Err}
 use Rattle.em_base.specs.declared.construct.Construct.TheVariants as construct
 use Rattle.em_base.specs.declared.place.Place.{Place}
 use Rattle.em_tree.specs.declared.outcome.Outcome.TheVariants as outcome
@@ -26,7 +27,7 @@ use Rattle.em_job.specs.declared.prepare.Prepared.TheVariants.{Ended, Lines}
 use Rattle.em_job.specs.declared.stop.Stop.{Stop}
 use Rattle.em_job.specs.declared.stop.Stop.TheVariants.{Refused}
 use Rattle.em_job.specs.Stops.{Acts, of_expand}
-use Rattle.em_job.specs.Deciding.{prerequisites, stamps_of, newer_among, reasons, decision}
+use Rattle.em_job.specs.Deciding.{Known, prerequisites, stamps_of, newer_among, reasons, decision}
 
 -- the text stands behind what was said
 abbrev pub say : List ℕ → Spoken → Result (Unit {0} × Spoken) (Stop × Spoken)
@@ -92,7 +93,10 @@ abbrev pub if_fine : Job → List Awaited → Bool → Acts Prepared
 if_fine j normal true = decide j normal
 if_fine j normal false = done (Ended outcome.Skipped)
 
-unfoldable pub prepare : Job → Acts Prepared
-prepare j = do
-  p ← prerequisites j
+unfoldable pub prepare_with : Known → Job → Acts Prepared
+prepare_with known j = do
+  p ← prerequisites known j
   if_fine j p.0 p.1
+
+abbrev pub prepare : Job → Acts Prepared
+prepare j = prepare_with None j

@@ -1,5 +1,5 @@
 //! What a job asks of the jobs of its prerequisites.
-ghost use Rattle.std.specs.Prelude.{◌≡◌, ◌&&◌, [], ◌∷◌, ◌++◌, true, OnOk};
+ghost use Rattle.std.specs.Prelude.{◌≡◌, ◌&&◌, [], ◌∷◌, ◌++◌, true, None, option_map, slice_get, OnOk};
 ghost use Rattle.em_expand.specs.declared.spoken.Spoken.{Spoken};
 ghost use Rattle.em_job.specs.Stops.{is_free};
 ghost use Rattle.em_job.specs.Deciding as deciding;
@@ -22,8 +22,8 @@ pub(crate) struct Awaited {
 }
 
 /// Whether a job goes on with a prerequisite that ended so.
-fn goes_on(outcome: &Option<Outcome>) -> bool
-    ensures { result ≡ deciding.goes_on outcome.now }
+fn goes_on(outcome: Option<&Outcome>) -> bool
+    ensures { result ≡ deciding.goes_on (option_map (λ o. o.now) outcome.entry) }
 {
     matches!(
         outcome,
@@ -32,8 +32,8 @@ fn goes_on(outcome: &Option<Outcome>) -> bool
 }
 
 /// Whether it makes remaking due by itself.
-fn is_renewed(dry: bool, outcome: &Option<Outcome>) -> bool
-    ensures { result ≡ deciding.is_renewed dry outcome.now }
+fn is_renewed(dry: bool, outcome: Option<&Outcome>) -> bool
+    ensures { result ≡ deciding.is_renewed dry (option_map (λ o. o.now) outcome.entry) }
 {
     match outcome {
         Some(Outcome::Counted) => true,
@@ -52,8 +52,8 @@ struct Ending {
 }
 
 /// What an outcome means.
-fn ending_of(dry: bool, outcome: &Option<Outcome>) -> Ending
-    ensures { result ≡ deciding.ending_of dry outcome.now }
+fn ending_of(dry: bool, outcome: Option<&Outcome>) -> Ending
+    ensures { result ≡ deciding.ending_of dry (option_map (λ o. o.now) outcome.entry) }
 {
     Ending {
         fine: goes_on(outcome),
@@ -61,13 +61,62 @@ fn ending_of(dry: bool, outcome: &Option<Outcome>) -> Ending
     }
 }
 
-/// How a job of a prerequisite ended.
-fn await_job<V: View>(desk: &mut Desk<V>, dry: bool, job: u32) -> Result<Ending, Stop>
+/// The outcomes that are left once so many were taken.
+fn later(known: Option<&[Outcome]>, taken: usize) -> Option<&[Outcome]>
+    ensures { option_map (λ o. o.now) result
+        ≡ deciding.later taken (option_map (λ o. o.now) known.entry) }
+{
+    let outcomes = known?;
+    let (_, left) = outcomes.split_at(taken.min(outcomes.len()));
+    Some(left)
+}
+
+/// Those that are left behind these prerequisites.
+fn behind<'a>(known: Option<&'a [Outcome]>, pres: &[Pre]) -> Option<&'a [Outcome]>
+    ensures { option_map (λ o. o.now) result
+        ≡ deciding.behind pres.now (option_map (λ o. o.now) known.entry) }
+{
+    let mut left = known;
+    for pre in pres {
+        left = later(left, pre.jobs.len());
+    }
+    left
+}
+
+/// How a job of a prerequisite ended, by the desk's answer.
+fn await_desk<V: View>(desk: &mut Desk<V>, dry: bool, job: u32) -> Result<Ending, Stop>
     ensures { (s : Spoken) → Does is_free V.tells desk.old desk.new s s result
-        (deciding.await_job dry job) }
+        (deciding.await_job None dry job) }
 {
     match desk.outcome(job) {
-        Ok(outcome) => Ok(ending_of(dry, &outcome)),
+        Ok(outcome) => Ok(ending_of(dry, outcome.as_ref())),
+        Err(e) => Err(early(e)),
+    }
+}
+
+/// The next of the outcomes.
+fn next_of(outcomes: &[Outcome]) -> Option<&Outcome>
+    ensures { option_map (λ o. o.now) result ≡ slice_get outcomes.now 0 }
+{
+    outcomes.first()
+}
+
+/// How a job of a prerequisite ended: the first of the outcomes that are known, for a unit, or else
+/// the desk's answer.
+fn await_job<V: View>(
+    desk: &mut Desk<V>,
+    known: Option<&[Outcome]>,
+    dry: bool,
+    job: u32,
+) -> Result<Ending, Stop>
+    ensures { (s : Spoken) → Does is_free V.tells desk.old desk.new s s result
+        (deciding.await_job (option_map (λ o. o.now) known.entry) dry job) }
+{
+    let Some(outcomes) = known else {
+        return await_desk(desk, dry, job);
+    };
+    match desk.take(1) {
+        Ok(()) => Ok(ending_of(dry, next_of(outcomes))),
         Err(e) => Err(early(e)),
     }
 }
@@ -83,17 +132,25 @@ fn together(so_far: Ending, ending: Ending) -> Ending
 }
 
 /// How the jobs of one prerequisite ended, taken together. All of them are asked.
-fn await_jobs<V: View>(desk: &mut Desk<V>, dry: bool, jobs: &[u32]) -> Result<Ending, Stop>
+fn await_jobs<V: View>(
+    desk: &mut Desk<V>,
+    known: Option<&[Outcome]>,
+    dry: bool,
+    jobs: &[u32],
+) -> Result<Ending, Stop>
     ensures { (s : Spoken) → Does is_free V.tells desk.old desk.new s s result
-        (deciding.await_jobs dry jobs.now deciding.unasked) }
+        (deciding.await_jobs (option_map (λ o. o.now) known.entry) dry jobs.now
+        deciding.unasked) }
 {
+    let mut left = known;
     let mut so_far = Ending {
         fine: true,
         renewed: false,
     };
     for job in jobs {
-        let ending = await_job(desk, dry, *job)?;
+        let ending = await_job(desk, left, dry, *job)?;
         so_far = together(so_far, ending);
+        left = later(left, 1);
     }
     Ok(so_far)
 }
@@ -123,31 +180,41 @@ fn both(a: bool, b: bool) -> bool
 fn await_normal<V: View>(
     alloc: Global,
     desk: &mut Desk<V>,
+    known: Option<&[Outcome]>,
     dry: bool,
     pres: &[Pre],
 ) -> Result<(Seq<Awaited>, bool), Stop>
     ensures { (s : Spoken) → Does is_free V.tells desk.old desk.new s s result
-        (deciding.await_normal dry pres.now [] true) }
+        (deciding.await_normal (option_map (λ o. o.now) known.entry) dry pres.now [] true) }
 {
+    let mut left = known;
     let mut so_far = Seq::new(alloc);
     let mut fine = true;
     for pre in pres {
-        let ending = await_jobs(desk, dry, pre.jobs.items())?;
+        let ending = await_jobs(desk, left, dry, pre.jobs.items())?;
         put_awaited(alloc, &mut so_far, pre, ending)?;
         fine = both(fine, ending.fine);
+        left = later(left, pre.jobs.len());
     }
     Ok((so_far, fine))
 }
 
 /// Whether the job goes on with all of these, and did so before.
-fn await_order<V: View>(desk: &mut Desk<V>, pres: &[Pre], before: bool) -> Result<bool, Stop>
+fn await_order<V: View>(
+    desk: &mut Desk<V>,
+    known: Option<&[Outcome]>,
+    pres: &[Pre],
+    before: bool,
+) -> Result<bool, Stop>
     ensures { (s : Spoken) → Does is_free V.tells desk.old desk.new s s result
-        (deciding.await_order pres.now before) }
+        (deciding.await_order (option_map (λ o. o.now) known.entry) pres.now before) }
 {
+    let mut left = known;
     let mut fine = before;
     for pre in pres {
-        let ending = await_jobs(desk, false, pre.jobs.items())?;
+        let ending = await_jobs(desk, left, false, pre.jobs.items())?;
         fine = both(fine, ending.fine);
+        left = later(left, pre.jobs.len());
     }
     Ok(fine)
 }
@@ -156,12 +223,15 @@ fn await_order<V: View>(desk: &mut Desk<V>, pres: &[Pre], before: bool) -> Resul
 pub(crate) fn prerequisites<V: View>(
     alloc: Global,
     desk: &mut Desk<V>,
+    known: Option<&[Outcome]>,
     job: &Job,
 ) -> Result<(Seq<Awaited>, bool), Stop>
     ensures { (s : Spoken) → Does is_free V.tells desk.old desk.new s s result
-        (deciding.prerequisites job.now) }
+        (deciding.prerequisites (option_map (λ o. o.now) known.entry) job.now) }
 {
-    let (normal, fine) = await_normal(alloc, desk, job.flags.dry, job.plan.normal.items())?;
-    let fine = await_order(desk, job.plan.order.items(), fine)?;
+    let pres = job.plan.normal.items();
+    let (normal, fine) = await_normal(alloc, desk, known, job.flags.dry, pres)?;
+    let left = behind(known, pres);
+    let fine = await_order(desk, left, job.plan.order.items(), fine)?;
     Ok((normal, fine))
 }

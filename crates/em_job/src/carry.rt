@@ -41,16 +41,16 @@ fn is_zero(status: u8) -> bool
     status == 0
 }
 
-/// What a line comes to.
+/// What follows a line.
 #[derive(Drop)]
-enum Turn {
+pub enum LineEnd {
     /// The next line runs, with these variables in its shell if they were made.
     Next(Option<Vars>),
     Ended(Outcome),
 }
 
 /// What follows a line that ended with this status.
-fn after_line<V: View>(
+pub fn after_line<V: View>(
     alloc: Global,
     desk: &mut Desk<V>,
     spoken: &mut Spoken,
@@ -59,19 +59,19 @@ fn after_line<V: View>(
     placed: &Placed,
     next: Option<Vars>,
     status: u8,
-) -> Result<Turn, Stop>
+) -> Result<LineEnd, Stop>
     ensures { Does is_free V.tells desk.old desk.new spoken.old spoken.new result
         (carrying.after_line job.now stamps.now placed.now next status) }
 {
     if is_zero(status) {
-        return Ok(Turn::Next(next));
+        return Ok(LineEnd::Next(next));
     }
     if is_lenient(job, placed) {
         say_ignored(spoken, job, &placed.place, status)?;
-        return Ok(Turn::Next(next));
+        return Ok(LineEnd::Next(next));
     }
     let outcome = fail(alloc, desk, spoken, job, stamps, &placed.place, status)?;
-    Ok(Turn::Ended(outcome))
+    Ok(LineEnd::Ended(outcome))
 }
 
 /// Runs a line.
@@ -83,7 +83,7 @@ fn run_turn<V: View>(
     opened: &Opened,
     env: Option<Vars>,
     ready: &Ready,
-) -> Result<Turn, Stop>
+) -> Result<LineEnd, Stop>
     ensures { Does is_free V.tells desk.old desk.new spoken.old spoken.new result
         (carrying.turn_of job.now opened.now env ready.now) }
 {
@@ -110,8 +110,8 @@ fn run_lines<V: View>(
     for ready in lines {
         let turned = run_turn(alloc, desk, spoken, job, opened, env, ready)?;
         match turned {
-            Turn::Next(next) => env = next,
-            Turn::Ended(outcome) => return Ok(outcome),
+            LineEnd::Next(next) => env = next,
+            LineEnd::Ended(outcome) => return Ok(outcome),
         }
     }
     Ok(Outcome::Made)

@@ -15,7 +15,12 @@ mod spec;
 mod stop;
 mod work;
 
+pub use carry::{LineEnd, after_line};
 pub use em_task::{Flags, Job, SharedPairs, SharedVars};
+pub use line::{does_run, echo, environment_once, run_in, shell_of};
 pub use making::specs;
+pub use prepare::{Opened, Placed, Prepared, prepare_job};
+pub use ready::{Ready, read_lines};
 pub use spec::JobSpec;
+pub use stop::{Stop, end_of, of_desk, of_line, put_stop, refused};
 pub use work::JobWork;

@@ -3,6 +3,7 @@ ghost use Rattle.std.specs.Prelude.{◌≡◌, IfOk};
 ghost use Rattle.em_job.specs.Stops.{is_free};
 ghost use Rattle.em_job.specs.Carrying as carrying;
 ghost use Rattle.em_job.specs.Preparing as preparing;
+ghost use Rattle.em_script.specs.Lines.{run_line};
 ghost use Rattle.em_view.specs.Steps.{Does, Works};
 
 use crate::environment::environment;
@@ -18,7 +19,7 @@ use em_word::Shell;
 use std::alloc::Global;
 
 /// The job's shell variables, made if they weren't yet.
-fn environment_once<V: View>(
+pub fn environment_once<V: View>(
     alloc: Global,
     desk: &mut Desk<V>,
     spoken: &mut Spoken,
@@ -37,7 +38,7 @@ fn environment_once<V: View>(
 }
 
 /// The shell in which a line starts.
-fn shell_of(alloc: Global, job: &Job, env: &Vars) -> Result<Shell, NoMemory>
+pub fn shell_of(alloc: Global, job: &Job, env: &Vars) -> Result<Shell, NoMemory>
     ensures { IfOk result (λ s. s ≡ carrying.shell_of job.now env.now) }
 {
     Ok(Shell {
@@ -45,6 +46,25 @@ fn shell_of(alloc: Global, job: &Job, env: &Vars) -> Result<Shell, NoMemory>
         cwd: job.cwd.copy()?,
         status: 0,
     })
+}
+
+/// Runs a line in this shell, which ends with it.
+pub fn run_in<V: View>(
+    alloc: Global,
+    desk: &mut Desk<V>,
+    spoken: &mut Spoken,
+    place: &Place,
+    line: &Line,
+    shell: Shell,
+) -> Result<u8, Stop>
+    ensures { Does is_free V.tells desk.old desk.new spoken.old spoken.new result
+        (carrying.run_in place.now (run_line line.now) shell) }
+{
+    let mut shell = shell;
+    match line.run(alloc, &mut shell, desk, &mut spoken.said) {
+        Ok(status) => Ok(status),
+        Err(e) => Err(of_line(alloc, place, e)),
+    }
 }
 
 /// Runs a line in a shell of its own.
@@ -60,11 +80,8 @@ fn in_shell<V: View>(
     ensures { Does is_free V.tells desk.old desk.new spoken.old spoken.new result
         (carrying.in_shell job.now env.now place.now line.now) }
 {
-    let mut shell = shell_of(alloc, job, env)?;
-    match line.run(alloc, &mut shell, desk, &mut spoken.said) {
-        Ok(status) => Ok(status),
-        Err(e) => Err(of_line(alloc, place, e)),
-    }
+    let shell = shell_of(alloc, job, env)?;
+    run_in(alloc, desk, spoken, place, line, shell)
 }
 
 /// Whether the line is echoed.
@@ -75,14 +92,14 @@ fn is_shown(job: &Job, placed: &Placed) -> bool
 }
 
 /// Whether it runs.
-fn does_run(job: &Job, placed: &Placed) -> bool
+pub fn does_run(job: &Job, placed: &Placed) -> bool
     ensures { result ≡ carrying.does_run job.now placed.now }
 {
     !job.flags.dry || placed.command.marks.forced
 }
 
 /// Echoes the line, where it is echoed.
-fn echo(spoken: &mut Spoken, job: &Job, placed: &Placed) -> Result<(), Stop>
+pub fn echo(spoken: &mut Spoken, job: &Job, placed: &Placed) -> Result<(), Stop>
     ensures { Works is_free spoken.old spoken.new result
         (preparing.say (carrying.echo job.now placed.now)) }
 {

@@ -1,5 +1,5 @@
 //! What a job does before the first line of its recipe runs.
-ghost use Rattle.std.specs.Prelude.{◌≡◌, [], ◌++◌, map, OnOk};
+ghost use Rattle.std.specs.Prelude.{◌≡◌, [], ◌++◌, map, option_map, OnOk};
 ghost use Rattle.em_job.specs.Stops.{is_free};
 ghost use Rattle.em_job.specs.Preparing as preparing;
 ghost use Rattle.em_recipe.specs.Messages as messages;
@@ -19,23 +19,23 @@ use std::alloc::Global;
 
 /// A line for the shell, and the place of the recipe's line of which it comes.
 #[derive(Drop)]
-pub(crate) struct Placed {
-    pub(crate) place: Place,
-    pub(crate) command: Command,
+pub struct Placed {
+    pub place: Place,
+    pub command: Command,
 }
 
 /// A recipe that is to run.
 #[derive(Drop)]
-pub(crate) struct Opened {
+pub struct Opened {
     /// The targets' stamps before it, in order.
-    pub(crate) stamps: Seq<Option<u64>>,
+    pub stamps: Seq<Option<u64>>,
     /// The automatic variables.
-    pub(crate) autos: Seq<OwnVar>,
+    pub autos: Seq<OwnVar>,
 }
 
 /// What is left to do of a job.
 #[derive(Drop)]
-pub(crate) enum Prepared {
+pub enum Prepared {
     Ended(Outcome),
     Lines(Opened, Seq<Placed>),
 }
@@ -198,17 +198,19 @@ fn decide<V: View>(
     }
 }
 
-/// All that a job does before the first line of its recipe runs.
-pub(crate) fn prepare<V: View>(
+/// All that a job does before the first line of its recipe runs. The outcomes of its prerequisites'
+/// jobs may be known.
+pub fn prepare_job<V: View>(
     alloc: Global,
     desk: &mut Desk<V>,
     spoken: &mut Spoken,
+    known: Option<&[Outcome]>,
     job: &Job,
 ) -> Result<Prepared, Stop>
     ensures { Does is_free V.tells desk.old desk.new spoken.old spoken.new result
-        (preparing.prepare job.now) }
+        (preparing.prepare_with (option_map (λ o. o.now) known.entry) job.now) }
 {
-    let (normal, fine) = prerequisites(alloc, desk, job)?;
+    let (normal, fine) = prerequisites(alloc, desk, known, job)?;
     if !fine {
         return Ok(Prepared::Ended(Outcome::Skipped));
     }

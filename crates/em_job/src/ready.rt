@@ -11,9 +11,9 @@ use std::alloc::Global;
 
 /// A line for the shell, and what it is by the grammar.
 #[derive(Drop)]
-pub(crate) struct Ready {
-    pub(crate) placed: Placed,
-    pub(crate) line: Line,
+pub struct Ready {
+    pub placed: Placed,
+    pub line: Line,
 }
 
 /// What is left to do of a job, with each line read.
@@ -24,7 +24,7 @@ pub(crate) enum Course {
 }
 
 /// Reads the lines.
-fn read_lines(alloc: Global, lines: Seq<Placed>) -> Result<Seq<Ready>, NoMemory>
+pub fn read_lines(alloc: Global, lines: Seq<Placed>) -> Result<Seq<Ready>, NoMemory>
     ensures { IfOk result (λ rs. AreRead lines rs) }
 {
     let mut ready = Seq::new(alloc);

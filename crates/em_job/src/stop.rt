@@ -15,7 +15,7 @@ use std::alloc::{AllocError, AllocFailed, Global};
 
 /// Why a job goes no further. What it has changed and said stands.
 #[derive(Drop)]
-pub(crate) enum Stop {
+pub enum Stop {
     /// Fuel was spent before a line was begun.
     Early,
     /// Fuel was spent in this line.
@@ -72,7 +72,7 @@ fn spent(alloc: Global, place: &Place) -> Stop
 }
 
 /// A desk's refusal at a line.
-pub(crate) fn of_desk(alloc: Global, place: &Place, e: DeskNo) -> Stop
+pub fn of_desk(alloc: Global, place: &Place, e: DeskNo) -> Stop
     ensures { is_free result ≡ false → result ≡ stops.of_desk place.now e }
 {
     match e {
@@ -82,7 +82,7 @@ pub(crate) fn of_desk(alloc: Global, place: &Place, e: DeskNo) -> Stop
 }
 
 /// A construct in a line isn't supported.
-pub(crate) fn refused(alloc: Global, place: &Place, construct: Construct) -> Stop
+pub fn refused(alloc: Global, place: &Place, construct: Construct) -> Stop
     ensures { is_free result ≡ false → result ≡ Refused construct place.now }
 {
     match place.copy(alloc) {
@@ -117,7 +117,7 @@ pub(crate) fn of_expand(alloc: Global, place: &Place, e: ExpandNo) -> Stop
 }
 
 /// Why a line has no status.
-pub(crate) fn of_line(alloc: Global, place: &Place, e: ExecNo) -> Stop
+pub fn of_line(alloc: Global, place: &Place, e: ExecNo) -> Stop
     ensures { is_free result ≡ false → result ≡ stops.of_line place.now e }
 {
     match e {
@@ -128,7 +128,7 @@ pub(crate) fn of_line(alloc: Global, place: &Place, e: ExecNo) -> Stop
 }
 
 /// Says why the job stopped.
-pub(crate) fn put_stop(out: &mut Text, target: &[u8], stop: &Stop) -> Result<(), NoMemory>
+pub fn put_stop(out: &mut Text, target: &[u8], stop: &Stop) -> Result<(), NoMemory>
     ensures { OnOk result (out.new ≡ out.old ++ stops.stop_text target.now stop.now) }
 {
     match stop {
@@ -141,7 +141,7 @@ pub(crate) fn put_stop(out: &mut Text, target: &[u8], stop: &Stop) -> Result<(),
 }
 
 /// How a job ends that stopped so.
-pub(crate) fn end_of(stop: Stop) -> Outcome
+pub fn end_of(stop: Stop) -> Outcome
     ensures { result ≡ stops.end_of stop }
 {
     match stop {

@@ -4,7 +4,7 @@ ghost use Rattle.em_job.specs.Effects.{closed};
 ghost use Rattle.em_view.specs.Steps.{with_state};
 
 use crate::carry::carry_out;
-use crate::prepare::prepare;
+use crate::prepare::prepare_job;
 use crate::ready::read;
 use crate::spec::JobSpec;
 use crate::stop::{Stop, end_of, put_stop};
@@ -56,7 +56,7 @@ impl Work<JobSpec> for JobWork {
         let job = spec.get();
         let mut desk = Desk::new(alloc, view, job.base, job.job, Fuel::new(job.fuel));
         let mut spoken = Spoken::new(alloc);
-        let prepared = prepare(alloc, &mut desk, &mut spoken, job);
+        let prepared = prepare_job(alloc, &mut desk, &mut spoken, None, job);
         let course = read(alloc, prepared)?;
         let ended = carry_out(alloc, &mut desk, &mut spoken, job, course);
         let (output, outcome) = close(job.plan.target.bytes(), ended, spoken)?;

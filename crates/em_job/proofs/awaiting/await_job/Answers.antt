@@ -6,8 +6,8 @@ use Rattle.em_job.proofs.awaiting.await_job.Goals as goal
 
 pub returns-in-Ok : goal.returns-in-Ok
 unfolding deciding.await_job
-returns-in-Ok g c = λ s. then_s _ (below_ok stops.early c.in-Ok.ensures.performs) (rw c.ending_of.ensures finish_s)
+returns-in-Ok g c = λ s. rw c.in-Some.is (then_s _ (then_s _ (below_ok stops.early c.in-Ok.ensures.performs) finish_s) (rw (c.ending_of.ensures, c.next_of.ensures) finish_s))
 
 pub returns-in-Err : goal.returns-in-Err
 unfolding deciding.await_job
-returns-in-Err g c = λ s. exit_s _ (below_err stops.early early_free (λ h. c.early.ensures) c.in-Err.ensures.performs)
+returns-in-Err g c = λ s. rw c.in-Some.is (exit_s _ (exit_s _ (below_err stops.early early_free (λ h. c.early.ensures) c.in-Err.ensures.performs)))

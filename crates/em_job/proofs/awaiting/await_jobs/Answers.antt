@@ -9,7 +9,7 @@ returns-in_err-ending g c = λ s. let left = next_at c.args.jobs.now c.loop-job.
 
 pub loop-job-preserved : goal.loop-job-preserved
 loop-job-preserved g c = λ s. let left = next_at c.args.jobs.now c.loop-job.job-index 0 c.loop-job-test.true in
-    rw c.together-so_far.ensures (more_s _ (rw left at c.loop-job.invariant s) (c.in_ok-ending.ensures s))
+    rw (c.together-so_far.ensures, c.later-left.ensures) (more_s _ (rw left at c.loop-job.invariant s) (c.in_ok-ending.ensures s))
 
 pub returns : goal.returns
 returns g c = λ s.

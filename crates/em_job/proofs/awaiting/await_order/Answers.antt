@@ -8,7 +8,7 @@ returns-in_err-ending g c = λ s. let left = left_at c.args.pres.now c.loop-pre.
 
 pub loop-pre-preserved : goal.loop-pre-preserved
 loop-pre-preserved g c = λ s. let left = left_at c.args.pres.now c.loop-pre.pre-index c.pre-item.result c.loop-pre-test.true c.pre-item.is in
-    rw c.both-fine.ensures (more_s _ (rw left at c.loop-pre.invariant s) (rw c.items.ensures at c.in_ok-ending.ensures s))
+    rw (c.both-fine.ensures, c.later-left.ensures, c.len.ensures) (more_s _ (rw left at c.loop-pre.invariant s) (rw c.items.ensures at c.in_ok-ending.ensures s))
 
 pub returns : goal.returns
 returns g c = λ s.

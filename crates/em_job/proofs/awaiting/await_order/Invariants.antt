@@ -1,4 +1,4 @@
-use Rattle.std.proofs.Common.{drop}
+use Rattle.std.proofs.Common.{drop, option_map}
 use Rattle.em_view.proofs.Doing.{Goes}
 use Rattle.em_expand.specs.declared.spoken.Spoken.{Spoken}
 use Rattle.em_job.specs.Stops.{is_free}
@@ -6,4 +6,4 @@ use Rattle.em_job.specs.Deciding as deciding
 use Rattle.em_job.proofs.awaiting.await_order.Given as goal
 
 abbrev pub invariant-loop-pre : goal.invariant-loop-pre
-invariant-loop-pre g l = (s : Spoken) → Goes is_free g.V.View.tells l.initial.desk l.desk s s (deciding.await_order l.pres l.before) (deciding.await_order (drop l.pre-index l.pres) l.fine)
+invariant-loop-pre g l = (s : Spoken) → Goes is_free g.V.View.tells l.initial.desk l.desk s s (deciding.await_order (option_map (λ o. o.now) l.known) l.pres l.before) (deciding.await_order (option_map (λ o. o.now) l.left) (drop l.pre-index l.pres) l.fine)

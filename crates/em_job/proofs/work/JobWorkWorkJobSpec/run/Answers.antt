@@ -13,14 +13,14 @@ pub new-requires-2 : goal.new-requires-2
 new-requires-2 g c =
     let j = c.in_ok-spec.spec in
     let reading = c.in_ok-course.ensures in
-    let mid = c.prepare-prepared.new.desk in
+    let mid = c.prepare_job-prepared.new.desk in
     let new = c.carry_out-ended.new.desk in
-    let s = c.prepare-prepared.new.spoken in
+    let s = c.prepare_job-prepared.new.spoken in
     let t = c.carry_out-ended.new.spoken in
     let r = c.carry_out-ended.result in
-    let p = c.prepare-prepared.result in
+    let p = c.prepare_job-prepared.result in
     let begun = rw (c.new.ensures, c.get-job.ensures.job) at c.new-desk.ensures in
-    let prepared = rw (c.get-job.ensures.job, c.new-spoken.ensures) at c.prepare-prepared.ensures in
+    let prepared = rw (c.get-job.ensures.job, c.new-spoken.ensures) at c.prepare_job-prepared.ensures in
     let carried : Carried g.V.View.tells mid new s t j r (courses reading.ready p) = subst (λ (x : Result Course Stop). Carried g.V.View.tells mid new s t j r x) reading.is (rw c.get-job.ensures.job at c.carry_out-ended.ensures.ok, c.carry_out-ended.ensures.err) in
     let ends = rw (c.bytes.ensures, c.get-job.ensures.job) at c.in_ok-output.ensures in
     let on = onward g.V.View.tells mid new s t r j reading.ready p carried in
@@ -38,13 +38,13 @@ pub returns-clause-told : goal.returns-clause-told
 returns-clause-told g c =
     let j = c.in_ok-spec.spec in
     let reading = c.in_ok-course.ensures in
-    let mid = c.prepare-prepared.new.desk in
+    let mid = c.prepare_job-prepared.new.desk in
     let new = c.carry_out-ended.new.desk in
-    let s = c.prepare-prepared.new.spoken in
+    let s = c.prepare_job-prepared.new.spoken in
     let t = c.carry_out-ended.new.spoken in
     let r = c.carry_out-ended.result in
-    let p = c.prepare-prepared.result in
+    let p = c.prepare_job-prepared.result in
     let begun = rw (c.new.ensures, c.get-job.ensures.job) at c.new-desk.ensures in
-    let prepared = rw (c.get-job.ensures.job, c.new-spoken.ensures) at c.prepare-prepared.ensures in
+    let prepared = rw (c.get-job.ensures.job, c.new-spoken.ensures) at c.prepare_job-prepared.ensures in
     let carried : Carried g.V.View.tells mid new s t j r (courses reading.ready p) = subst (λ (x : Result Course Stop). Carried g.V.View.tells mid new s t j r x) reading.is (rw c.get-job.ensures.job at c.carry_out-ended.ensures.ok, c.carry_out-ended.ensures.err) in
     rw (c.new-2.ensures, c.from_vec.ensures, c.close-usage.ensures.usage) (told begun (whole j reading.ready p prepared carried).performs)
