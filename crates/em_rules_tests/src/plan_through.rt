@@ -41,6 +41,7 @@ static ANSWERS: [(&str, &str, &[u8]); 4] = [
 ];
 
 /// What came of it, and what was asked for it.
+#[derive(Drop)]
 struct Ran {
     plan: Result<Plan, PlanNo>,
     text: Text,
