@@ -9,8 +9,6 @@ mod kinds;
 #[cfg(test)]
 mod plan;
 #[cfg(test)]
-mod plan_through;
-#[cfg(test)]
 mod remake;
 #[cfg(test)]
 mod rules;
