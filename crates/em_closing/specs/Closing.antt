@@ -41,6 +41,13 @@ abbrev pub is_made : Outcome → Bool
 is_made outcome.Made = true
 is_made _ = false
 
+-- it makes the build a failure
+abbrev pub is_faulty : Outcome → Bool
+is_faulty (outcome.Failed status) = true
+is_faulty outcome.NoRule = true
+is_faulty (outcome.Halted text place) = true
+is_faulty _ = false
+
 abbrev pub was_made : Option Outcome → Bool
 was_made (Some outcome.Made) = true
 was_made _ = false

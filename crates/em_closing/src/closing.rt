@@ -57,6 +57,19 @@ pub fn has_made(outcomes: &[Outcome]) -> bool
     outcomes.iter().any(is_made)
 }
 
+/// Whether one of them makes the build a failure: a job that failed, has no rule or was halted.
+/// Linear in them.
+pub fn has_faulty(outcomes: &[Outcome]) -> bool
+    ensures { result ≡ list_any closing.is_faulty outcomes.now }
+{
+    outcomes.iter().any(|o| {
+        matches!(
+            o,
+            Outcome::Failed(_) | Outcome::NoRule | Outcome::Halted { .. }
+        )
+    })
+}
+
 fn any_made(outcomes: &[Outcome], jobs: &[u32]) -> bool
     ensures { result ≡ list_any (λ k. closing.was_made (slice_get outcomes.now k)) jobs.now }
 {

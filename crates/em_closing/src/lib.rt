@@ -6,6 +6,6 @@ mod goals;
 mod lines;
 mod refusals;
 
-pub use closing::{closing_text, has_made};
+pub use closing::{closing_text, has_faulty, has_made};
 pub use goals::{Goal, goals_of};
 pub use refusals::{dir_line, fault_line, plan_line, stopped, word_line};

@@ -7,6 +7,7 @@ mod Ending
 mod Cases
 mod Leading
 mod Closing
+mod Burning
 mod Lawful
 mod Truth
 mod Literal

@@ -197,6 +197,11 @@ closed_with s (Ok (Ran, h)) = Ok (Status h.shell.status, left_by h s)
 closed_with s (Err (End e, h)) = Err (e, left_by h s)
 closed_with s (Err (j, h)) = Ok (Status h.shell.status, left_by h s)
 
+-- an error of the desk has ended the line
+abbrev pub is_ended : {A : Type 0} → Result A Jump → Bool
+is_ended (Err (End e)) = true
+is_ended _ = false
+
 unfoldable pub words_of : SubForm → Steps Session ExecNo SubWords
 words_of f = λ s o w. (closed_with s (heard (script_at 64) (in_copy []) f (begun s.shell) o w).0, (heard (script_at 64) (in_copy []) f (begun s.shell) o w).1)
 

@@ -4,6 +4,7 @@ ghost use Rattle.em_command.specs.Jumps.{is_free, of_desk};
 ghost use Rattle.em_command.specs.declared.here.Here.{Here as State};
 ghost use Rattle.em_exec.specs.Running as steps;
 ghost use Rattle.em_exec.specs.Copies.{unwritten};
+ghost use Rattle.em_exec.specs.Subs.{is_ended};
 ghost use Rattle.em_exec.specs.Words.{in_copy};
 ghost use Rattle.em_view.specs.Actions.{spend};
 ghost use Rattle.em_view.specs.Performs.{is_free as free_in};
@@ -58,7 +59,7 @@ pub(crate) fn body_of(text: Text) -> Result<Body, NoMemory>
 pub(crate) fn charge_unit<V: View>(desk: &mut Desk<V>) -> Result<(), Jump>
     ensures does { (h : State)
         → Does is_free V.tells desk.old desk.new h h result (below of_desk (spend 1)) }
-    ensures burns { IfOk result (λ u. desk.new.work.fuel < desk.old.work.fuel) }
+    ensures burns { is_ended result ≡ false → desk.new.work.fuel < desk.old.work.fuel }
 {
     match desk.take(1) {
         Ok(()) => Ok(()),

@@ -1,9 +1,9 @@
 //! The words of a line that begins a make within a make.
-ghost use Rattle.std.specs.Prelude.{◌≡◌, false, Some, drop, option_map};
+ghost use Rattle.std.specs.Prelude.{◌≡◌, ◌<◌, false, Some, drop, option_map, IfOk, IfSome};
 ghost use Rattle.em_command.specs.Jumps.{is_free};
 ghost use Rattle.em_exec.specs.Running.{script_at};
 ghost use Rattle.em_exec.specs.Subs as subs;
-ghost use Rattle.em_exec.specs.Subs.{Alone, Behind};
+ghost use Rattle.em_exec.specs.Subs.{Alone, Behind, is_ended};
 ghost use Rattle.em_syntax.specs.declared.tree.Joined.{out-Joined};
 ghost use Rattle.em_view.specs.Ends.{is_want};
 ghost use Rattle.em_view.specs.Performs.{is_free as free_in};
@@ -79,8 +79,9 @@ fn charged<V: View>(
     here: &mut Here,
     desk: &mut Desk<V>,
 ) -> Result<Seq<Text>, Jump>
-    ensures { Does is_free V.tells desk.old desk.new here.old here.new result
+    ensures does { Does is_free V.tells desk.old desk.new here.old here.new result
         (subs.charged (script_at left) scene.now simple.now) }
+    ensures burns { is_ended result ≡ false → desk.new.work.fuel < desk.old.work.fuel }
 {
     charge_unit(desk)?;
     fields_in(alloc, left, simple, scene, here, desk)
@@ -135,8 +136,9 @@ fn heard_alone<V: View>(
     here: &mut Here,
     desk: &mut Desk<V>,
 ) -> Result<Heard, Jump>
-    ensures { Does is_free V.tells desk.old desk.new here.old here.new result
+    ensures does { Does is_free V.tells desk.old desk.new here.old here.new result
         (subs.heard (script_at left) scene.now (Alone make.now)) }
+    ensures burns { is_ended result ≡ false → desk.new.work.fuel < desk.old.work.fuel }
 {
     let words = charged(alloc, left, make, scene, here, desk)?;
     Ok(Heard::Told(behind_first(words)))
@@ -153,8 +155,9 @@ fn heard_behind<V: View>(
     here: &mut Here,
     desk: &mut Desk<V>,
 ) -> Result<Heard, Jump>
-    ensures { Does is_free V.tells desk.old desk.new here.old here.new result
+    ensures does { Does is_free V.tells desk.old desk.new here.old here.new result
         (subs.heard (script_at left) scene.now (Behind cd.now joined.now make.now)) }
+    ensures burns { is_ended result ≡ false → desk.new.work.fuel < desk.old.work.fuel }
 {
     let words = charged(alloc, left, cd, scene, here, desk)?;
     by_fields(
@@ -202,10 +205,11 @@ fn words_alone<V: View>(
     desk: &mut Desk<V>,
     out: &mut Text,
 ) -> Result<SubWords, ExecNo>
-    ensures { Does is_want V.tells desk.old desk.new
+    ensures does { Does is_want V.tells desk.old desk.new
         (record { shell = shell.old; output = out.old })
         (record { shell = shell.new; output = out.new })
         result (subs.words_of (Alone make.now)) }
+    ensures burns { IfOk result (λ w. desk.new.work.fuel < desk.old.work.fuel) }
 {
     let mut here = begin(alloc, shell)?;
     let scene = line_scene(alloc)?;
@@ -223,10 +227,11 @@ fn words_behind<V: View>(
     desk: &mut Desk<V>,
     out: &mut Text,
 ) -> Result<SubWords, ExecNo>
-    ensures { Does is_want V.tells desk.old desk.new
+    ensures does { Does is_want V.tells desk.old desk.new
         (record { shell = shell.old; output = out.old })
         (record { shell = shell.new; output = out.new })
         result (subs.words_of (Behind cd.now joined.now make.now)) }
+    ensures burns { IfOk result (λ w. desk.new.work.fuel < desk.old.work.fuel) }
 {
     let mut here = begin(alloc, shell)?;
     let scene = line_scene(alloc)?;
@@ -242,11 +247,13 @@ fn pipeline_words<V: View>(
     desk: &mut Desk<V>,
     out: &mut Text,
 ) -> Result<Option<SubWords>, ExecNo>
-    ensures { Does is_want V.tells desk.old desk.new
+    ensures does { Does is_want V.tells desk.old desk.new
         (record { shell = shell.old; output = out.old })
         (record { shell = shell.new; output = out.new })
         result (subs.words_if (option_map subs.words_of (option_map Alone
         (subs.command_alone subs.begins_with_make pipeline.now)))) }
+    ensures burns { IfOk result
+        (λ w. IfSome w (λ x. desk.new.work.fuel < desk.old.work.fuel)) }
 {
     match make_in(pipeline) {
         Some(make) => Ok(Some(words_alone(alloc, make, shell, desk, out)?)),
@@ -263,11 +270,13 @@ fn joined_make<V: View>(
     desk: &mut Desk<V>,
     out: &mut Text,
 ) -> Result<Option<SubWords>, ExecNo>
-    ensures { Does is_want V.tells desk.old desk.new
+    ensures does { Does is_want V.tells desk.old desk.new
         (record { shell = shell.old; output = out.old })
         (record { shell = shell.new; output = out.new })
         result (subs.words_if (option_map subs.words_of (subs.behind joined.now (Some cd.now)
         (subs.command_alone subs.begins_with_make (out-Joined joined.now).next)))) }
+    ensures burns { IfOk result
+        (λ w. IfSome w (λ x. desk.new.work.fuel < desk.old.work.fuel)) }
 {
     if !joined.and {
         return Ok(None);
@@ -287,12 +296,14 @@ fn joined_words<V: View>(
     desk: &mut Desk<V>,
     out: &mut Text,
 ) -> Result<Option<SubWords>, ExecNo>
-    ensures { Does is_want V.tells desk.old desk.new
+    ensures does { Does is_want V.tells desk.old desk.new
         (record { shell = shell.old; output = out.old })
         (record { shell = shell.new; output = out.new })
         result (subs.words_if (option_map subs.words_of (subs.behind joined.now
         (subs.command_alone subs.is_cd first.now)
         (subs.command_alone subs.begins_with_make (out-Joined joined.now).next)))) }
+    ensures burns { IfOk result
+        (λ w. IfSome w (λ x. desk.new.work.fuel < desk.old.work.fuel)) }
 {
     match cd_in(first) {
         Some(cd) => joined_make(alloc, cd, joined, shell, desk, out),
@@ -309,10 +320,12 @@ fn words_in<V: View>(
     desk: &mut Desk<V>,
     out: &mut Text,
 ) -> Result<Option<SubWords>, ExecNo>
-    ensures { Does is_want V.tells desk.old desk.new
+    ensures does { Does is_want V.tells desk.old desk.new
         (record { shell = shell.old; output = out.old })
         (record { shell = shell.new; output = out.new })
         result (subs.words_if (option_map subs.words_of (subs.form_by first.now rest.now))) }
+    ensures burns { IfOk result
+        (λ w. IfSome w (λ x. desk.new.work.fuel < desk.old.work.fuel)) }
 {
     match rest {
         [] => pipeline_words(alloc, first, shell, desk, out),
@@ -334,7 +347,7 @@ fn words_in<V: View>(
 /// The units are taken in this order: 1 for `cd`, those of W's expansion, 1 for the command, those
 /// of asking for W, which are 1 and 1 for each link that is followed, and those of the words.
 /// Without a `cd` they are 1 for the command, and those of the words. An expansion, and an ordinary
-/// line, cost what they do in `exec`.
+/// line, cost what they do in `exec`. So where the answer isn't `None`, at least one is gone.
 ///
 /// What is written to the streams 1 and 2 is appended to `out`, in the order of writing, also
 /// before an error. After it the shell has its variables, and the working directory behind the
@@ -355,10 +368,12 @@ pub fn sub_words<V: View>(
     desk: &mut Desk<V>,
     out: &mut Text,
 ) -> Result<Option<SubWords>, ExecNo>
-    ensures { Does is_want V.tells desk.old desk.new
+    ensures does { Does is_want V.tells desk.old desk.new
         (record { shell = shell.old; output = out.old })
         (record { shell = shell.new; output = out.new })
         result (subs.words_if (option_map subs.words_of (subs.sub_form script.now))) }
+    ensures burns { IfOk result
+        (λ w. IfSome w (λ x. desk.new.work.fuel < desk.old.work.fuel)) }
 {
     match script.list.as_slice() {
         [] => Ok(None),

@@ -3,12 +3,10 @@
 --     covers names n           a special target speaks of the name
 --     job_of .. i plan         the job of this number
 --     jobs_of ..               all of them
-use Rattle.std.specs.Prelude.{ℕ, suc, ◌||◌, Bool, true, false, not, List, [], ◌∷◌, ◌++◌, ◌≡◌}
+use Rattle.std.specs.Prelude.{ℕ, suc, ◌||◌, Bool, true, List, [], ◌∷◌, ◌++◌, ◌≡◌}
 use Rattle.std.specs.List.{filter}
 use Rattle.em_path.specs.Paths.{root_text}
 use Rattle.em_path.specs.Reading.{resolved_text}
-use Rattle.em_tree.specs.declared.outcome.Outcome.{Outcome}
-use Rattle.em_tree.specs.declared.outcome.Outcome.TheVariants as outcome
 use Rattle.em_cmdline.specs.declared.order.Order.{Order}
 use Rattle.em_rules.specs.declared.book.Book.{Book}
 use Rattle.em_rules.specs.declared.special.Names.{Names}
@@ -16,25 +14,13 @@ use Rattle.em_rules.specs.declared.special.Names.TheVariants as names
 use Rattle.em_rules.specs.Rules.{is_in, is_phony, special}
 use Rattle.em_plan.specs.declared.planned.PlanJob.{PlanJob}
 use Rattle.em_recipe.specs.Automatic.{names_of}
-use Rattle.em_task.specs.declared.job.Flags.{Flags}
+pub use Rattle.em_task.specs.Endings.{ends_after, flags_of}
 use Rattle.em_task.specs.declared.job.Job.{Job}
 use Rattle.em_job.specs.declared.making.Common.{Common}
-
-abbrev pub ends_after : Flags → Outcome → Bool
-ends_after flags (outcome.Halted t p) = true
-ends_after flags (outcome.Refused c p) = true
-ends_after flags outcome.Spent = true
-ends_after flags (outcome.Failed status) = not flags.keep_going
-ends_after flags outcome.NoRule = not flags.keep_going
-ends_after flags outcome.Made = flags.question
-ends_after flags _ = false
 
 abbrev pub covers : Names → List ℕ → Bool
 covers names.All n = true
 covers (names.Listed ns) n = is_in ns n
-
-abbrev pub flags_of : Order → Flags
-flags_of o = record { keep_going = o.keep_going; dry = o.dry; question = o.question; silent = o.silent; ignore = o.ignore; always = o.always }
 
 module _ (book : Book) (order : Order) (base : ℕ) where
   abbrev pub job_of : ℕ → PlanJob → Job

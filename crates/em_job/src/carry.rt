@@ -49,7 +49,14 @@ pub enum LineEnd {
     Ended(Outcome),
 }
 
-/// What follows a line that ended with this status.
+/// What follows a line that ended with this status: the next line, after status 0 and where the
+/// line's failures are ignored, which is then said; else the job has failed, which is said too, and
+/// under `.DELETE_ON_ERROR` its targets that have changed are deleted. `stamps` are those that the
+/// targets had before the recipe.
+///
+/// Errors: `Spent` at the line, by the deletion; and `NoMemory`, which may come freely. What was
+/// done and said till then stands. The cost is that of what is said, and for each target that may
+/// be deleted at most two questions and one removal.
 pub fn after_line<V: View>(
     alloc: Global,
     desk: &mut Desk<V>,

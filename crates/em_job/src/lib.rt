@@ -18,7 +18,7 @@ mod work;
 pub use carry::{LineEnd, after_line};
 pub use em_task::{Flags, Job, SharedPairs, SharedVars};
 pub use line::{does_run, echo, environment_once, run_in, shell_of};
-pub use making::specs;
+pub use making::{spec_of, specs};
 pub use prepare::{Opened, Placed, Prepared, prepare_job};
 pub use ready::{Ready, read_lines};
 pub use spec::JobSpec;

@@ -18,7 +18,12 @@ use em_view::{Desk, View};
 use em_word::Shell;
 use std::alloc::Global;
 
-/// The job's shell variables, made if they weren't yet.
+/// The job's shell variables, made if they weren't yet: then the exported variables of the makefile
+/// are expanded in their order, at this place, with the job's fuel.
+///
+/// Errors, all at the place: `Spent`, `Refused` and `Halted` by such an expansion; and `NoMemory`,
+/// which may come freely. What was said till then stands. The cost is that of the expansions; one
+/// step where the variables are there.
 pub fn environment_once<V: View>(
     alloc: Global,
     desk: &mut Desk<V>,
@@ -37,7 +42,8 @@ pub fn environment_once<V: View>(
     }
 }
 
-/// The shell in which a line starts.
+/// The shell in which a line starts: these variables, the job's working directory, and status 0.
+/// `NoMemory` alone is an error, and may come freely. The variables are copied.
 pub fn shell_of(alloc: Global, job: &Job, env: &Vars) -> Result<Shell, NoMemory>
     ensures { IfOk result (λ s. s ≡ carrying.shell_of job.now env.now) }
 {
@@ -48,7 +54,12 @@ pub fn shell_of(alloc: Global, job: &Job, env: &Vars) -> Result<Shell, NoMemory>
     })
 }
 
-/// Runs a line in this shell, which ends with it.
+/// Runs a line in this shell, which ends with it, and gives its status. What it writes is added to
+/// what was said.
+///
+/// Errors, both at the place: `Spent`, and `Refused` for a construct that isn't supported; and
+/// `NoMemory`, which may come freely. What the line did till then stands. The cost is that of
+/// `Line::run`.
 pub fn run_in<V: View>(
     alloc: Global,
     desk: &mut Desk<V>,
@@ -91,14 +102,17 @@ fn is_shown(job: &Job, placed: &Placed) -> bool
     job.flags.dry || !(job.quiet || placed.command.marks.silent)
 }
 
-/// Whether it runs.
+/// Whether the line runs: all lines do but under `-n`, and there those that are marked with `+`.
+/// One step.
 pub fn does_run(job: &Job, placed: &Placed) -> bool
     ensures { result ≡ carrying.does_run job.now placed.now }
 {
     !job.flags.dry || placed.command.marks.forced
 }
 
-/// Echoes the line, where it is echoed.
+/// Says the line's text, with a newline, where it is echoed: under `-n` always, else unless it is
+/// marked with `@` or the job is quiet. Want of memory alone is an error, and may come freely; a
+/// part of the text may then have been said. A step for each byte of the text.
 pub fn echo(spoken: &mut Spoken, job: &Job, placed: &Placed) -> Result<(), Stop>
     ensures { Works is_free spoken.old spoken.new result
         (preparing.say (carrying.echo job.now placed.now)) }

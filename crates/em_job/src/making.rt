@@ -81,20 +81,6 @@ struct Common {
     assigned: SharedPairs,
 }
 
-/// What an order says of all jobs.
-fn flags_of(order: &Order) -> Flags
-    ensures { result ≡ making.flags_of order.now }
-{
-    Flags {
-        keep_going: order.keep_going,
-        dry: order.dry,
-        question: order.question,
-        silent: order.silent,
-        ignore: order.ignore,
-        always: order.always,
-    }
-}
-
 /// The working directory of an order.
 fn dir_of(alloc: Global, order: &Order) -> Result<Path, NoMemory>
     requires { read_fault root_text order.now.dir ≡ None }
@@ -117,8 +103,16 @@ fn assigned_of(alloc: Global, order: &Order) -> Result<SharedPairs, NoMemory>
     SharedPairs::new(alloc, pairs)
 }
 
-fn common_of(alloc: Global, book: &Book, order: &Order, base: u64) -> Result<Common, NoMemory>
-    requires { read_fault root_text order.now.dir ≡ None }
+/// What all jobs have in common, with these variables, which are the book's.
+fn common_of(
+    alloc: Global,
+    book: &Book,
+    vars: SharedVars,
+    order: &Order,
+    base: u64,
+) -> Result<Common, NoMemory>
+    requires vars { vars ≡ book.now.vars }
+    requires dir { read_fault root_text order.now.dir ≡ None }
     ensures { IfOk result (λ c. making.IsCommon book.now order.now base c) }
 {
     let special = book.special(alloc)?;
@@ -126,9 +120,9 @@ fn common_of(alloc: Global, book: &Book, order: &Order, base: u64) -> Result<Com
         base,
         fuel: order.fuel,
         cwd: dir_of(alloc, order)?,
-        flags: flags_of(order),
+        flags: Flags::of_order(order),
         special,
-        vars: SharedVars::new(alloc, book.vars.copy(alloc)?)?,
+        vars,
         assigned: assigned_of(alloc, order)?,
     })
 }
@@ -162,6 +156,33 @@ fn job_of(
     })
 }
 
+/// The spec of one job of a plan, with this number: what `specs` has at that place. It is for who
+/// makes the jobs of a plan one by one, with the book's variables, which they share.
+///
+/// `NoMemory` alone is an error, and may come freely. The assignments are copied for this job, as is
+/// the job of the plan; the rest is as of `specs`.
+pub fn spec_of(
+    alloc: Global,
+    book: &Book,
+    vars: &SharedVars,
+    order: &Order,
+    base: u64,
+    number: u32,
+    planned: &PlanJob,
+) -> Result<JobSpec, NoMemory>
+    requires vars { vars.now ≡ book.now.vars }
+    requires base { base ≤ 2 ^ 62 }
+    requires fuel { order.now.fuel ≤ 1000000 }
+    requires dir { read_fault root_text order.now.dir ≡ None }
+    ensures { IfOk result
+        (λ s. s ≡ making.job_of book.now order.now base number planned.now) }
+{
+    let common = common_of(alloc, book, vars.copy()?, order, base)?;
+    let job = job_of(alloc, book, &common, number, planned)?;
+    let spec = JobSpec::new(alloc, job)?;
+    Ok(spec)
+}
+
 /// The specs of a plan's jobs, each with the number at which it stands.
 ///
 /// The variables and the assignments are copied once and shared; each job of the plan is copied
@@ -180,7 +201,8 @@ pub fn specs(
     requires jobs { length plan.now.jobs ≤ 65536 }
     ensures { IfOk result (λ ss. ss.items ≡ making.jobs_of book.now order.now base plan.now.jobs) }
 {
-    let common = common_of(alloc, book, order, base)?;
+    let vars = SharedVars::new(alloc, book.vars.copy(alloc)?)?;
+    let common = common_of(alloc, book, vars, order, base)?;
     let mut specs = Vec::new(alloc);
     let mut number: u32 = 0;
     for planned in plan.jobs.items() {

@@ -198,8 +198,16 @@ fn decide<V: View>(
     }
 }
 
-/// All that a job does before the first line of its recipe runs. The outcomes of its prerequisites'
-/// jobs may be known.
+/// All that a job does before the first line of its recipe runs: it asks for the outcomes of its
+/// prerequisites' jobs, decides whether its targets are to be remade, and expands its recipe. The
+/// outcomes may be known, those of the normal prerequisites' jobs in order and then those of the
+/// order-only ones; where there are too few, the job ends as if such a job hadn't been made. Each
+/// costs a unit, as asking for it does.
+///
+/// Errors: `Early` where fuel ends before the recipe is begun; at a line of the recipe `Spent`,
+/// `Refused` and `Halted` by its expansion; and `NoMemory`, which may come freely. What was said
+/// till then stands. The cost is a question for each outcome, two for each target and prerequisite
+/// that may count, and that of the expansions.
 pub fn prepare_job<V: View>(
     alloc: Global,
     desk: &mut Desk<V>,

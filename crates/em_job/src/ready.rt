@@ -23,7 +23,8 @@ pub(crate) enum Course {
     Run(Opened, Seq<Ready>),
 }
 
-/// Reads the lines.
+/// Reads the lines by the shell's grammar; a line with a fault is kept as such. `NoMemory` alone is
+/// an error, and may come freely. The time is linear in the lines' length; no text is copied.
 pub fn read_lines(alloc: Global, lines: Seq<Placed>) -> Result<Seq<Ready>, NoMemory>
     ensures { IfOk result (λ rs. AreRead lines rs) }
 {

@@ -95,13 +95,7 @@ impl Spec for JobSpec {
     }
 
     fn ends(&self, o: &Outcome) -> bool {
-        let flags = self.get().flags;
-        match o {
-            Outcome::Halted { .. } | Outcome::Refused { .. } | Outcome::Spent => true,
-            Outcome::Failed(_) | Outcome::NoRule => !flags.keep_going,
-            Outcome::Made => flags.question,
-            Outcome::Upto | Outcome::Counted | Outcome::Skipped => false,
-        }
+        self.get().flags.ends_after(o)
     }
 
     fn copy(&self, _alloc: Global) -> Result<JobSpec, NoMemory> {

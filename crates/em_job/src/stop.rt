@@ -71,7 +71,8 @@ fn spent(alloc: Global, place: &Place) -> Stop
     }
 }
 
-/// A desk's refusal at a line.
+/// A desk's refusal at the line of this place: `Spent` there, whatever it refused, or `NoMemory`.
+/// `NoMemory` may come freely; else the place is copied.
 pub fn of_desk(alloc: Global, place: &Place, e: DeskNo) -> Stop
     ensures { is_free result ≡ false → result ≡ stops.of_desk place.now e }
 {
@@ -81,7 +82,8 @@ pub fn of_desk(alloc: Global, place: &Place, e: DeskNo) -> Stop
     }
 }
 
-/// A construct in a line isn't supported.
+/// A construct in the line of this place isn't supported. `NoMemory` may come freely; else the
+/// place is copied.
 pub fn refused(alloc: Global, place: &Place, construct: Construct) -> Stop
     ensures { is_free result ≡ false → result ≡ Refused construct place.now }
 {
@@ -116,7 +118,8 @@ pub(crate) fn of_expand(alloc: Global, place: &Place, e: ExpandNo) -> Stop
     }
 }
 
-/// Why a line has no status.
+/// Why the line of this place has no status: its fuel was spent, or a construct in it isn't
+/// supported. `NoMemory` may come freely; else the place is copied.
 pub fn of_line(alloc: Global, place: &Place, e: ExecNo) -> Stop
     ensures { is_free result ≡ false → result ≡ stops.of_line place.now e }
 {
@@ -127,7 +130,9 @@ pub fn of_line(alloc: Global, place: &Place, e: ExecNo) -> Stop
     }
 }
 
-/// Says why the job stopped.
+/// Appends to `out` the line that says why the job of this target stopped; nothing for `NoMemory`.
+/// Its error is want of memory, and may come freely; a part of the line may then stand in `out`. A
+/// step for each byte of the line.
 pub fn put_stop(out: &mut Text, target: &[u8], stop: &Stop) -> Result<(), NoMemory>
     ensures { OnOk result (out.new ≡ out.old ++ stops.stop_text target.now stop.now) }
 {
@@ -140,7 +145,8 @@ pub fn put_stop(out: &mut Text, target: &[u8], stop: &Stop) -> Result<(), NoMemo
     }
 }
 
-/// How a job ends that stopped so.
+/// How a job ends that stopped so. It takes no memory, and one step; nothing is copied. Want of
+/// memory, which is no end of a job, is read as spent fuel.
 pub fn end_of(stop: Stop) -> Outcome
     ensures { result ≡ stops.end_of stop }
 {

@@ -16,7 +16,7 @@ use Rattle.em_run.specs.Serial.{Made, Ran, IsSerial, outputs_of, outcomes_of, st
 use Rattle.em_run.specs.Serial as run
 use Rattle.em_task.specs.declared.job.Flags.{Flags}
 use Rattle.em_task.specs.declared.job.Job.{Job}
-use Rattle.em_job.specs.Effects.{Makes}
+use Rattle.em_nesting.specs.Nested.{MakesAll}
 use Rattle.em_job.specs.Making.{ends_after, flags_of}
 use Rattle.em_workers.specs.declared.builder.Built.{Built}
 use Rattle.em_workers.specs.declared.no.BuildNo.{BuildNo}
@@ -41,12 +41,12 @@ use Rattle.em_program.proofs.Steady.{ok_err}
 
 -- ---- the outcomes tell whether a job ended the run
 
-early_by : (f : Flags) (s : State) (js : List Job) (made : List Made) → All (λ (j : Job). j.flags ≡ f) js → Ran Makes ends s js made → run.is_early Makes ends js made ≡ list_any (ends_after f) (outcomes_of made)
+early_by : (f : Flags) (s : State) (js : List Job) (made : List Made) → All (λ (j : Job). j.flags ≡ f) js → Ran MakesAll ends s js made → run.is_early MakesAll ends js made ≡ list_any (ends_after f) (outcomes_of made)
 early_by f s [] [] same ran = refl
 early_by f s (j ∷ js) [] same ran = refl
 early_by f s [] (m ∷ ms) same ran = absurd ran
 early_by f s (j ∷ js) (m ∷ ms) same ran =
-    ap (λ (g : Flags). ends_after g m.effect.outcome || run.is_early Makes ends js ms) (All-head (λ (i : Job). i.flags ≡ f) j js same)
+    ap (λ (g : Flags). ends_after g m.effect.outcome || run.is_early MakesAll ends js ms) (All-head (λ (i : Job). i.flags ≡ f) j js same)
     ∙ ap (λ (b : Bool). ends_after f m.effect.outcome || b) (early_by f (after m.effect s) js ms (All-tail (λ (i : Job). i.flags ≡ f) j js same) ran.1.1)
 
 outcomes_after : (s : State) (made : List Made) → (state_after s made).outcomes ≡ s.outcomes ++ outcomes_of made
@@ -59,14 +59,14 @@ whole_by true m n h = refl
 whole_by false m n h = let e : m ≡ n = h refl in grind (arith, e)
 
 module _ (p : Project) (ready : IsReady p) where
-  pub ended_so : (b : Build) → Ran Makes ends p.start p.specs b.made → has_ended p.terms.order (left_by p b).outcomes ≡ is_early p b
+  pub ended_so : (b : Build) → Ran MakesAll ends p.start p.specs b.made → has_ended p.terms.order (left_by p b).outcomes ≡ is_early p b
   ended_so b ran =
       ap (λ (os : List Outcome). has_ended p.terms.order os) (outcomes_after p.start b.made ∙ ap (λ (os : List Outcome). os ++ outcomes_of b.made) ready.bare)
       ∙ sym (early_by (flags_of p.terms.order) p.start p.specs b.made ready.flags ran)
 
 -- ---- the jobs have run
 
-pub runs : (p : Project) {d : JobsDone} {x y : Option Outside} → d.terms ≡ p.terms → Builds Makes ends p.start p.specs p.terms.order.workers (Ok d.built) x y → IsRan p (Ok d) x y
+pub runs : (p : Project) {d : JobsDone} {x y : Option Outside} → d.terms ≡ p.terms → Builds MakesAll ends p.start p.specs p.terms.order.workers (Ok d.built) x y → IsRan p (Ok d) x y
 runs p {d} same b = record {
   build = record { made = b.made; notes = d.built.notes };
   has = record { ran = b.ran; noted = b.built.notes; alone = b.built.alone };
@@ -106,7 +106,7 @@ not_end build_no.Host verdict e = absurd cc
 not_end build_no.NoMemory verdict e = absurd cc
 
 -- on the way
-pub breaks : (p : Project) {no : BuildNo} {r : Result JobsDone Stop} {x y : Option Outside} → IsErrAnd r (λ s. s ≡ stop_of_build no) → Builds Makes ends p.start p.specs p.terms.order.workers (Err no) x y → IsRan p r x y
+pub breaks : (p : Project) {no : BuildNo} {r : Result JobsDone Stop} {x y : Option Outside} → IsErrAnd r (λ s. s ≡ stop_of_build no) → Builds MakesAll ends p.start p.specs p.terms.order.workers (Err no) x y → IsRan p r x y
 breaks p {r = Ok d} is b = absurd is
 breaks p {no} {r = Err s} {x} {y} is b = record {
   build = record { made = b.made; notes = clean 0 b.made };

@@ -23,7 +23,7 @@ use Rattle.em_run.specs.Serial.{Made, outputs_of, Ran, IsSerial}
 use Rattle.em_cmdline.specs.declared.order.HistoryMode.{HistoryMode}
 use Rattle.em_cmdline.specs.declared.order.HistoryMode.TheVariants as mode
 use Rattle.em_cmdline.specs.declared.order.Order.{Order}
-use Rattle.em_job.specs.Effects.{Makes}
+use Rattle.em_nesting.specs.Nested.{MakesAll}
 use Rattle.em_engine.specs.declared.note.Note.{Note}
 use Rattle.em_workers.specs.Builds.{IsOnce}
 use Rattle.em_workers.specs.Notes.{AreNotes}
@@ -156,7 +156,7 @@ run_from (b ∷ bs) st = do
 -- each job has run so in the serial run, once, or twice and for a cause that is so on the state that
 -- the jobs before it left; one worker has run each job once
 pub record HasRun (p : Project) (b : Build) : Type 0 where
-  pub ran : Ran Makes ends p.start p.specs b.made
+  pub ran : Ran MakesAll ends p.start p.specs b.made
   pub noted : AreNotes p.start [] b.made b.notes
   pub alone : p.terms.order.workers ≡ 1 → All IsOnce b.notes
 
@@ -185,7 +185,7 @@ AllBehind bs (Some next) P = AllAt bs (next empty).end P
 
 abbrev pub AreAll : List Build → Step → Type 0
 AreAll [] st = ⊥
-AreAll (b ∷ bs) st = IsSerial Makes ends st.project.start st.project.specs b.made × AllBehind bs (goes_on st b) (AreAll bs)
+AreAll (b ∷ bs) st = IsSerial MakesAll ends st.project.start st.project.specs b.made × AllBehind bs (goes_on st b) (AreAll bs)
 
 abbrev pub notes_of : List Build → List Note
 notes_of builds = flat_map (λ b. b.notes) builds
@@ -218,7 +218,7 @@ unit_in (Err e) = Err e
 
 -- what the jobs of a project leave, once all have run or one has ended the run
 pub record IsDone (p : Project) (b : Build) (d : JobsDone) : Type 0 where
-  pub serial : IsSerial Makes ends p.start p.specs b.made
+  pub serial : IsSerial MakesAll ends p.start p.specs b.made
   pub terms : d.terms ≡ p.terms
   pub state : d.built.state ≡ left_by p b
   pub fuel : d.built.fuel ≡ fuel_of b.made

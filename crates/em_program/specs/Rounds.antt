@@ -30,7 +30,7 @@ use Rattle.em_learning.specs.Learnt.{learnt}
 use Rattle.em_engine.specs.declared.note.Note.{Note}
 use Rattle.em_run.specs.Serial as run
 use Rattle.em_run.specs.Serial.{Made, state_after}
-use Rattle.em_job.specs.Effects.{Makes}
+use Rattle.em_nesting.specs.Nested.{MakesAll}
 use Rattle.em_program.specs.declared.project.Project.{Project}
 use Rattle.em_program.specs.declared.project.Terms.{Terms}
 use Rattle.em_program.specs.declared.rounds.Remaking.{Remaking}
@@ -117,7 +117,7 @@ pub record Build : Type 0 where
 
 -- a job ended the run
 abbrev pub is_early : Project → Build → Bool
-is_early p b = run.is_early Makes ends p.specs b.made
+is_early p b = run.is_early MakesAll ends p.specs b.made
 
 abbrev pub left_by : Project → Build → State
 left_by p b = state_after p.start b.made

@@ -7,6 +7,7 @@ use Rattle.em_tree.specs.declared.outcome.Outcome.{Outcome}
 use Rattle.em_tree.specs.declared.outcome.Outcome.TheVariants as outcome
 use Rattle.em_cmdline.specs.declared.order.Order.{Order}
 use Rattle.em_closing.specs.Closing.{is_made}
+pub use Rattle.em_closing.specs.Closing.{is_faulty}
 use Rattle.em_job.specs.Making.{ends_after, flags_of}
 use Rattle.em_program.specs.declared.verdict.Verdict.{Verdict}
 use Rattle.em_program.specs.declared.verdict.Verdict.TheVariants.{Done, Outdated, Faulty, Refused, Spent}
@@ -18,12 +19,6 @@ is_spent _ = false
 abbrev pub is_refused : Outcome → Bool
 is_refused (outcome.Refused construct place) = true
 is_refused _ = false
-
-abbrev pub is_faulty : Outcome → Bool
-is_faulty (outcome.Failed n) = true
-is_faulty outcome.NoRule = true
-is_faulty (outcome.Halted text place) = true
-is_faulty _ = false
 
 abbrev pub has_ended : Order → List Outcome → Bool
 has_ended order outcomes = list_any (ends_after (flags_of order)) outcomes

@@ -17,7 +17,7 @@ use crate::verdict::Verdict;
 use em_base::{NoMemory, Seq};
 use em_engine::Note;
 use em_host::Host;
-use em_job::{JobSpec, JobWork};
+use em_nesting::{MakeSpec, MakeWork};
 use em_run::Work;
 use em_workers::{Built, Gate, OpenGate, build};
 use std::alloc::Global;
@@ -55,7 +55,7 @@ fn copied(alloc: Global, waits: &[Seq<u32>]) -> Result<Seq<Seq<u32>>, NoMemory>
 }
 
 /// Runs the jobs of the project, with the workers of its order.
-fn ran<R: Threads + Wait + Sync, W: Work<JobSpec> + Sync, G: Gate + Sync, H: Host>(
+fn ran<R: Threads + Wait + Sync, W: Work<MakeSpec> + Sync, G: Gate + Sync, H: Host>(
     rt: &R,
     alloc: Global,
     project: Project,
@@ -141,7 +141,7 @@ pub fn run_from<R: Threads + Wait + Sync, H: Host>(
     ensures faults { H.faults host.new ≡ faults_after result (H.faults host.old) }
 {
     let Step { project, remaking } = step;
-    let work = JobWork::new();
+    let work = MakeWork::new();
     let done = ran(rt, alloc, project, &work, &OpenGate, host)?;
     let early = has_ended(&done.terms.order, done.built.state.outcomes.items());
     match remaking {

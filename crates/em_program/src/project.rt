@@ -16,8 +16,8 @@ use em_closing::{Goal, dir_line, fault_line, goals_of, plan_line};
 use em_cmdline::Order;
 use em_history::History;
 use em_host::Host;
-use em_job::{JobSpec, specs};
 use em_learning::waits_with;
+use em_nesting::{MakeSpec, specs};
 use em_path::{Path, PathNo};
 use em_plan::laws::{law_limit, law_waits};
 use em_plan::{Plan, PlanNo, plan};
@@ -47,7 +47,7 @@ pub struct Project {
     /// The tree from which it starts, with no outcomes.
     pub start: State,
     /// One for each job of the plan, in its order.
-    pub specs: Seq<JobSpec>,
+    pub specs: Seq<MakeSpec>,
 }
 
 /// The refusal of `-C`.

@@ -5,8 +5,9 @@ ghost use Rattle.em_job.specs.Making.{ends_after, flags_of};
 ghost use Rattle.em_program.specs.Statuses as statuses;
 
 use crate::verdict::Verdict;
-use em_closing::has_made;
+use em_closing::{has_faulty, has_made};
 use em_cmdline::Order;
+use em_task::Flags;
 use em_tree::Outcome;
 
 fn has_spent(outcomes: &[Outcome]) -> bool
@@ -23,27 +24,11 @@ fn has_refused(outcomes: &[Outcome]) -> bool
         .any(|o| matches!(o, Outcome::Refused { .. }))
 }
 
-fn has_faulty(outcomes: &[Outcome]) -> bool
-    ensures { result ≡ list_any statuses.is_faulty outcomes.now }
-{
-    outcomes.iter().any(|o| {
-        matches!(
-            o,
-            Outcome::Failed(_) | Outcome::NoRule | Outcome::Halted { .. }
-        )
-    })
-}
-
 /// Whether the run ends after a job with this outcome.
 fn ends(order: &Order, outcome: &Outcome) -> bool
     ensures { result ≡ ends_after (flags_of order.now) outcome.now }
 {
-    match outcome {
-        Outcome::Halted { .. } | Outcome::Refused { .. } | Outcome::Spent => true,
-        Outcome::Failed(_) | Outcome::NoRule => !order.keep_going,
-        Outcome::Made => order.question,
-        Outcome::Upto | Outcome::Counted | Outcome::Skipped => false,
-    }
+    Flags::of_order(order).ends_after(outcome)
 }
 
 /// Whether a job ended the run, of which these are the outcomes.

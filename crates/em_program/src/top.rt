@@ -12,7 +12,7 @@ ghost use Rattle.em_workers.specs.Builds.{IsOnce};
 ghost use Rattle.em_workers.specs.Notes.{AreNotes};
 ghost use Rattle.em_run.specs.Serial.{Made, Ran, IsSerial};
 ghost use Rattle.em_task.specs.declared.job.Job.{Job};
-ghost use Rattle.em_job.specs.Effects.{Makes};
+ghost use Rattle.em_nesting.specs.Nested.{MakesAll};
 ghost use Rattle.em_program.specs.Course.{faults_after};
 ghost use Rattle.em_program.specs.Endings.{verdict_in, notes_in};
 ghost use Rattle.em_program.specs.Headline.{Headline, Exits, Reaches, exit_status};
@@ -33,8 +33,8 @@ use em_base::{NoMemory, Seq, Text};
 use em_engine::Note;
 use em_history::laws::{law_one_history, law_united};
 use em_host::Host;
-use em_job::JobSpec;
-use em_job::laws::law_one_effect;
+use em_nesting::MakeSpec;
+use em_nesting::laws::law_one_effect;
 use em_run::law_one_run;
 use std::alloc::Global;
 use std::env::Args;
@@ -137,12 +137,12 @@ pub fn emake<R: Threads + Wait + Sync, H: Host>(
 /// Jobs have one serial run at most, and jobs that have run so are a front of it.
 pub fn law_one_build()
     ensures front { (start : State) (jobs : List Job) (a b : List Made)
-        → Ran Makes ends start jobs a → IsSerial Makes ends start jobs b → a ≡ take (length a) b }
+        → Ran MakesAll ends start jobs a → IsSerial MakesAll ends start jobs b → a ≡ take (length a) b }
     ensures one { (start : State) (jobs : List Job) (a b : List Made)
-        → IsSerial Makes ends start jobs a → IsSerial Makes ends start jobs b → a ≡ b }
+        → IsSerial MakesAll ends start jobs a → IsSerial MakesAll ends start jobs b → a ≡ b }
 {
     law_one_effect();
-    law_one_run::<JobSpec>();
+    law_one_run::<MakeSpec>();
 }
 
 /// Where each job was run once, as with one worker, nothing is learnt, and a history that is merged

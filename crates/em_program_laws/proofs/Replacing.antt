@@ -25,7 +25,7 @@ use Rattle.em_cmdline.specs.Pages.{page_in}
 use Rattle.em_cmdline.specs.Words.{Differ, HasNames, HasSource, is_one, refusal, order_of, unreadable, causes, first_some, found as rows_of, when}
 use Rattle.em_program_laws.proofs.Sound.{has_names, has_source}
 use Rattle.em_run.specs.Serial.{outputs_of, IsSerial}
-use Rattle.em_job.specs.Effects.{Makes}
+use Rattle.em_nesting.specs.Nested.{MakesAll}
 use Rattle.em_engine.specs.declared.note.Note.{Note}
 use Rattle.em_program.specs.declared.project.Project.{Project}
 use Rattle.em_program.specs.declared.project.Terms.{Terms}
@@ -144,7 +144,7 @@ module _ (t : Terms) (notes : List Note) (image fuel text : List ℕ) (s : State
   pub replaced_leaves : get (left (replaced t notes (Some image) fuel text s) f) image ≡ image_closed (written s) (get f image)
   replaced_leaves = behind_closed ∙ closed_leaves (written s)
 
-serial_whole : (p : Project) (b : Build) → IsSerial Makes ends p.start p.specs b.made → is_whole p b ≡ true
+serial_whole : (p : Project) (b : Build) → IsSerial MakesAll ends p.start p.specs b.made → is_whole p b ≡ true
 serial_whole p b serial = by_cases (is_early p b) (λ e. is_early p b ≡ e → (e || length b.made == length p.specs) ≡ true)
     (λ _ _. refl)
     (λ _ isnt. let e : length b.made ≡ length p.specs = serial.whole isnt in grind (arith, e)) refl
@@ -191,7 +191,7 @@ module _ (words : List (List ℕ)) (name : List ℕ) (image : (order_of words).i
       tree_behind_is st b on None e all some = tree_ends st b on some
       tree_behind_is st b on (Some next) e all some = tree_at_end next (goes_on_good words st b next on e) (next empty).end refl all some
 
-      tree_whole : (st : Step) (b : Build) → IsOn words st → IsSerial Makes ends st.project.start st.project.specs b.made → AllBehind bs (goes_on st b) (AreAll bs) → tree_behind (tree_left bs) st b (goes_on st b) ≡ Some t → Leaves (after_jobs (run_from bs) st b)
+      tree_whole : (st : Step) (b : Build) → IsOn words st → IsSerial MakesAll ends st.project.start st.project.specs b.made → AllBehind bs (goes_on st b) (AreAll bs) → tree_behind (tree_left bs) st b (goes_on st b) ≡ Some t → Leaves (after_jobs (run_from bs) st b)
       tree_whole st b on serial all some =
           ap (λ w. get (left (cond w (next_or_last (run_from bs) st b (goes_on st b)) broken_off) f) name) (serial_whole st.project b serial)
           ∙ tree_behind_is st b on (goes_on st b) refl all some
@@ -243,7 +243,7 @@ module _ (bs : List Build) (f : Files) (v : Tally) (later : (n : Step) → (word
   has_behind st b words on None e all ended = refl
   has_behind st b words on (Some next) e all ended = has_at next words (goes_on_good words st b next on e) (next empty).end refl all ended
 
-  has_whole : (st : Step) (b : Build) (words : List (List ℕ)) → IsOn words st → IsSerial Makes ends st.project.start st.project.specs b.made → AllBehind bs (goes_on st b) (AreAll bs) → (after_jobs (run_from bs) st b f).end ≡ Ok v
+  has_whole : (st : Step) (b : Build) (words : List (List ℕ)) → IsOn words st → IsSerial MakesAll ends st.project.start st.project.specs b.made → AllBehind bs (goes_on st b) (AreAll bs) → (after_jobs (run_from bs) st b f).end ≡ Ok v
       → IsSome (tree_behind (tree_left bs) st b (goes_on st b))
   has_whole st b words on serial all ended = has_behind st b words on (goes_on st b) refl all
       (sym (ap (λ w. (cond w (next_or_last (run_from bs) st b (goes_on st b)) broken_off f).end) (serial_whole st.project b serial)) ∙ ended)

@@ -24,7 +24,7 @@ pub enum After {
 pub const PROJECT: &[u8] =
     b"EMTREE 1\nd 5 /\nf 5 240 /Makefile\nSRC := main.c util.c\nOBJ := $(SRC:.c=.o)\n.PHONY: all clean edit\nall: config.h prog\nprog: $(OBJ)\n\tcat $^ > $@\n%.o: %.c\n\tcat $< config.h > $@\nconfig.h: config.in\n\techo '#define N 1' > $@\nedit:\n\ttouch main.c\nclean:\n\trm -f $(OBJ) prog config.h\n\nf 5 2 /config.in\n1\n\nf 5 5 /main.c\nmain\n\nf 5 5 /util.c\nutil\n\n.\n";
 
-pub static BUILDS: [Build; 63] = [
+pub static BUILDS: [Build; 68] = [
     Build {
         words: "-I i",
         before: Some(b"EMTREE 1\nd 1 /\nf 1 15 /Makefile\nall:\n\t@echo hi\n\n.\n"),
@@ -539,5 +539,52 @@ pub static BUILDS: [Build; 63] = [
         printed: b"cat main.c config.h > main.o\ncat main.o util.o > prog\n",
         status: 0,
         after: After::Any,
+    },
+    // a make within a make
+    Build {
+        words: "-I i",
+        before: Some(
+            b"EMTREE 1\nd 5 /\nf 5 21 /Makefile\nall:\n\t$(MAKE) -C d x\n\nd 5 /d\nf 5 15 /d/Makefile\nx:\n\techo 1 > x\n\n.\n",
+        ),
+        printed: b"emake -C d x\necho 1 > x\n",
+        status: 0,
+        after: After::Is(
+            b"EMTREE 1\nd 5 /\nf 5 21 /Makefile\nall:\n\t$(MAKE) -C d x\n\nd 6 /d\nf 5 15 /d/Makefile\nx:\n\techo 1 > x\n\nf 7 2 /d/x\n1\n\n.\n",
+        ),
+    },
+    Build {
+        words: "-I i",
+        before: Some(
+            b"EMTREE 1\nd 5 /\nf 5 21 /Makefile\nall:\n\t$(MAKE) -C d x\n\nd 6 /d\nf 5 15 /d/Makefile\nx:\n\techo 1 > x\n\nf 7 2 /d/x\n1\n\n.\n",
+        ),
+        printed: b"emake -C d x\nemake: 'x' is up to date.\n",
+        status: 0,
+        after: After::Same,
+    },
+    Build {
+        words: "-I i",
+        before: Some(
+            b"EMTREE 1\nd 5 /\nf 5 24 /Makefile\nall:\n\tcd d && $(MAKE) x\n\nd 5 /d\nf 5 15 /d/Makefile\nx:\n\techo 1 > x\n\n.\n",
+        ),
+        printed: b"cd d && emake x\necho 1 > x\n",
+        status: 0,
+        after: After::Any,
+    },
+    Build {
+        words: "-I i",
+        before: Some(
+            b"EMTREE 1\nd 5 /\nf 5 21 /Makefile\nall:\n\t$(MAKE) -C d x\n\nd 5 /d\nf 5 10 /d/Makefile\nx:\n\tfalse\n\n.\n",
+        ),
+        printed: b"emake -C d x\nfalse\nemake: *** [Makefile:2: x] Error 1\nemake: *** [Makefile:2: all] Error 2\n",
+        status: 2,
+        after: After::Same,
+    },
+    // a makefile that calls itself
+    Build {
+        words: "-I i",
+        before: Some(b"EMTREE 1\nd 5 /\nf 5 15 /Makefile\nall:\n\t@$(MAKE)\n\n.\n"),
+        printed: b"emake: *** [Makefile:2: all] Refused: depth.  Stop.\n",
+        status: 4,
+        after: After::Same,
     },
 ];

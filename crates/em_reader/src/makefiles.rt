@@ -251,9 +251,9 @@ fn noting<V: View>(
 
 /// Reads the makefile that the order asks for, over any desk: its `-f`, else the first of
 /// `GNUmakefile`, `makefile` and `Makefile` that is a file in the working directory, as GNU make
-/// does. The exported variables of `defaults` are there at the start, as defaults. What is said on
-/// the way is appended to `said`, also before a fault; the first fault in reading order comes with
-/// its place.
+/// does. The variables of `defaults` that a make hands to a shell, the exported ones and those of
+/// its command line, are there at the start, as exported defaults. What is said on the way is
+/// appended to `said`, also before a fault; the first fault in reading order comes with its place.
 ///
 /// The time is linear in what is read and expanded, with a few searches by name for each name in a
 /// rule. A byte of a rule's line is copied at most eight times: when lines are joined, when the

@@ -2,28 +2,34 @@
 --     start_vars goals assigned cwd defaults    the variables at the start
 --     start cwd vars said                       nothing is read yet
 --     goal_of book text                         the default goal, where `.DEFAULT_GOAL` has this text
-use Rattle.std.specs.Prelude.{ℕ, ◌==◌, ◌&&◌, ◌||◌, not, Bool, false, List, [], ◌∷◌, fold, find, Option, Some, None, codes, if◌then◌else◌}
+use Rattle.std.specs.Prelude.{ℕ, ◌==◌, ◌&&◌, ◌||◌, not, Bool, true, false, List, [], ◌∷◌, fold, find, Option, Some, None, codes, if◌then◌else◌}
 use Rattle.std.specs.List.{list_any}
 use Rattle.std.specs.Option.{option_or}
 use Rattle.em_base.specs.Blanks.{trimmed}
 use Rattle.em_rules.specs.declared.rule.Rule.{Rule}
 use Rattle.em_rules.specs.declared.book.Book.{Book}
 use Rattle.em_rules.specs.Books.{new_book}
-use Rattle.em_vars.specs.Entries.{Entries}
+use Rattle.em_vars.specs.Entries.{Entries, value_of}
 use Rattle.em_vars.specs.declared.var.Var.{Var}
 use Rattle.em_vars.specs.declared.var.Flavour.TheVariants as flavour
+use Rattle.em_vars.specs.declared.var.Origin.{Origin}
 use Rattle.em_vars.specs.declared.var.Origin.TheVariants as origin
 use Rattle.em_wordlist.specs.Words as words
 use Rattle.em_statement.specs.Split.{is_empty}
 use Rattle.em_reading.specs.declared.reading.Reading.{Reading}
-use Rattle.em_reading.specs.Variables.{set, var}
+use Rattle.em_reading.specs.Variables.{set, var, was_exported}
 use Rattle.em_reading.specs.Changes.{Change, good}
 
 -- ---- the variables at the start
 
--- those that are exported, as defaults
+abbrev pub is_of_order : Origin → Bool
+is_of_order origin.CommandLine = true
+is_of_order _ = false
+
+-- those that a make hands to a shell, the exported ones and those of its command line, are
+-- exported defaults
 abbrev pub given_one : Entries → List ℕ × Var → Entries
-given_one vars e = if e.1.exported then set vars e.0 (record e.1 { origin = origin.Default }) else vars
+given_one vars e = if e.1.exported || is_of_order e.1.origin then set vars e.0 (record e.1 { origin = origin.Default; exported = true }) else vars
 
 abbrev pub given_at : Entries → Option (List ℕ × Var) → Entries
 given_at vars None = vars
@@ -40,9 +46,9 @@ abbrev pub with_defaults : Entries → List ℕ → List (List ℕ) → Entries
 with_defaults vars cwd goals =
     set (set (set vars (codes "MAKE") (default (codes "emake"))) (codes "CURDIR") (default cwd)) (codes "MAKECMDGOALS") (default (words.joined goals))
 
--- the assignments of the command line
+-- the assignments of the command line; what is exported stays so
 abbrev pub with_assigned : Entries → List ℕ × List ℕ → Entries
-with_assigned vars a = set vars a.0 (var origin.CommandLine flavour.Simple false a.1)
+with_assigned vars a = set vars a.0 (var origin.CommandLine flavour.Simple (was_exported (value_of vars a.0)) a.1)
 
 abbrev pub start_vars : List (List ℕ) → List (List ℕ × List ℕ) → List ℕ → Entries → Entries
 start_vars goals assigned cwd defaults = fold with_assigned (with_defaults (given defaults) cwd goals) assigned

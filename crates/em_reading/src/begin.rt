@@ -1,10 +1,10 @@
 //! How a reading begins.
-ghost use Rattle.std.specs.Prelude.{◌≡◌, fold, slice_get, IfOk, OnOk};
-ghost use Rattle.em_reading.specs.Start.{default, given, given_at, given_one, start, start_vars, with_assigned, with_defaults};
+ghost use Rattle.std.specs.Prelude.{◌≡◌, ◌||◌, fold, slice_get, IfOk, OnOk};
+ghost use Rattle.em_reading.specs.Start.{default, is_of_order, given, given_at, given_one, start, start_vars, with_assigned, with_defaults};
 ghost use Rattle.em_reading.specs.Variables as variables;
 
 use crate::reading::Reading;
-use crate::vars::{set, var};
+use crate::vars::{set, var, was_exported};
 use em_base::{NoMemory, Seq, Text};
 use em_cond::Nest;
 use em_expand::Spoken;
@@ -14,18 +14,32 @@ use em_vars::{Flavour, Origin, Var, Vars};
 use em_wordlist::join_texts;
 use std::alloc::Global;
 
-/// The variable as a default, if it is exported.
+/// Whether a command line assigns it.
+fn is_of_order(origin: Origin) -> bool
+    ensures { result ≡ is_of_order origin }
+{
+    matches!(origin, Origin::CommandLine)
+}
+
+/// Whether a make hands it to a shell.
+fn is_given(v: &Var) -> bool
+    ensures { result ≡ v.now.exported || is_of_order v.now.origin }
+{
+    v.exported || is_of_order(v.origin)
+}
+
+/// The variable as an exported default, if a make hands it to a shell.
 fn give_one(alloc: Global, vars: &mut Vars, name: &[u8], v: &Var) -> Result<(), NoMemory>
     ensures { OnOk result (vars.new ≡ given_one vars.old (name.now, v.now)) }
 {
-    if !v.exported {
+    if !is_given(v) {
         return Ok(());
     }
     let v = var(Origin::Default, v.flavour, true, v.text.copy(alloc)?);
     set(alloc, vars, name, v)
 }
 
-/// The variable of this number as a default, if it is exported.
+/// The variable of this number as an exported default, if a make hands it to a shell.
 fn give_at(alloc: Global, vars: &mut Vars, defaults: &Vars, i: usize) -> Result<(), NoMemory>
     ensures { OnOk result (vars.new ≡ given_at vars.old (slice_get defaults.now i)) }
 {
@@ -35,7 +49,7 @@ fn give_at(alloc: Global, vars: &mut Vars, defaults: &Vars, i: usize) -> Result<
     }
 }
 
-/// The exported variables, as defaults.
+/// The variables that a make hands to a shell, as exported defaults.
 fn given(alloc: Global, defaults: &Vars) -> Result<Vars, NoMemory>
     ensures { IfOk result (λ vars. vars ≡ given defaults.now) }
 {
@@ -67,13 +81,14 @@ fn set_defaults(alloc: Global, vars: &mut Vars, cwd: &[u8], goals: &[Text]) -> R
     set_default(alloc, vars, b"MAKECMDGOALS", join_texts(alloc, goals)?)
 }
 
-/// Makes an assignment of the command line.
+/// Makes an assignment of the command line. A variable that is exported stays so.
 fn set_assigned(alloc: Global, vars: &mut Vars, assigned: &(Text, Text)) -> Result<(), NoMemory>
     ensures { OnOk result (vars.new ≡ with_assigned vars.old assigned.now) }
 {
     let (name, value) = assigned;
     let text = value.copy(alloc)?;
-    let v = var(Origin::CommandLine, Flavour::Simple, false, text);
+    let exported = was_exported(vars.get(name.bytes()));
+    let v = var(Origin::CommandLine, Flavour::Simple, exported, text);
     set(alloc, vars, name.bytes(), v)
 }
 
@@ -91,10 +106,11 @@ fn set_all_assigned(
     Ok(())
 }
 
-/// The variables at the start: those of `defaults` that are exported, as defaults; `MAKE`, which is
-/// `emake`, `CURDIR`, the working directory, and `MAKECMDGOALS`, the goals, which are simple
-/// defaults; the assignments of the command line, which are simple. A copy of each text, and a
-/// search for each.
+/// The variables at the start: those of `defaults` that a make hands to a shell, the exported ones
+/// and those of its command line, as exported defaults; `MAKE`, which is `emake`, `CURDIR`, the
+/// working directory, and `MAKECMDGOALS`, the goals, which are simple defaults; the assignments of
+/// the command line, which are simple, and exported where the variable was. A copy of each text,
+/// and two searches for each.
 pub fn start_vars(
     alloc: Global,
     goals: &[Text],

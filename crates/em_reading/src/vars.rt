@@ -78,7 +78,7 @@ pub(crate) fn var(origin: Origin, flavour: Flavour, exported: bool, text: Text) 
 }
 
 /// Whether it is exported.
-fn was_exported(old: Option<&Var>) -> bool
+pub(crate) fn was_exported(old: Option<&Var>) -> bool
     ensures { result ≡ was_exported (option_copied old.entry) }
 {
     match old {

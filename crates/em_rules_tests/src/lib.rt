@@ -9,6 +9,8 @@ mod kinds;
 #[cfg(test)]
 mod plan;
 #[cfg(test)]
+mod plan_through;
+#[cfg(test)]
 mod remake;
 #[cfg(test)]
 mod rules;

@@ -64,7 +64,7 @@ fn show_found(found: Result<Option<Found>, DeskNo>, text: &mut Text) -> Result<(
 }
 
 /// The paths whose kinds were asked.
-fn show_asked(usage: &[Entry], text: &mut Text) -> Result<(), NoMemory> {
+pub fn show_asked(usage: &[Entry], text: &mut Text) -> Result<(), NoMemory> {
     for entry in usage {
         if let Question::Kind(path) = &entry.question {
             text.add(b" ")?;

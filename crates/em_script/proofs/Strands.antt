@@ -19,7 +19,7 @@ use Rattle.em_exec.specs.declared.turn.Turn.TheVariants.{Ended, Sub}
 use Rattle.em_script.specs.Strands.{Meaning, IsMeant, Strand, Read, Pause, Back, Plot, Going, reading, from_output, go, to, over, pause, IsTurn, Turned}
 
 -- the number of the next ask
-next_number : {V : Type 0} {tells : V → Told} {old new : DeskState V} (p : Grows tells old new) → length old.work.asked + length p.entries ≡ length new.work.asked
+pub next_number : {V : Type 0} {tells : V → Told} {old new : DeskState V} (p : Grows tells old new) → length old.work.asked + length p.entries ≡ length new.work.asked
 next_number {old} {new} p = omega (arith, ap length p.asked, length-append old.work.asked (map (λ (e : Entry). e.question) p.entries), length-map p.entries (λ (e : Entry). e.question))
 
 -- what a text means has come to this turn, and so has the text

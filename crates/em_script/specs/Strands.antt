@@ -9,9 +9,11 @@
 --     to, reading, over, pause, from_output      strands put together, as steps are
 --     Comes s t              once its texts are read, the strand s is the strand t
 --     Turned ..              a job was followed to its end, or to its next pause
-use Rattle.std.specs.Prelude.{◌≡◌, ℕ, List, length, Option, None, Result, Ok, Err}
+--     IfSub, IsSent          of the line with which it pauses: its make works in the directory that it orders, which is a path; and its units are in the range
+use Rattle.std.specs.Prelude.{◌≡◌, ◌≤◌, ℕ, List, length, Option, None, Result, Ok, Err}
 use Rattle.std.specs.Option.{option_map}
 use Rattle.em_base.specs.declared.memory.NoMemory.{NoMemory}
+use Rattle.em_path.specs.Paths.{IsPath}
 use Rattle.em_tree.specs.declared.outcome.Outcome.{Outcome}
 use Rattle.em_view.specs.declared.done.ExecNo.{ExecNo}
 use Rattle.em_view.specs.Actions.{Workspace, Oracle, AgreesFrom}
@@ -106,3 +108,13 @@ pub record Turned {V S : Type 0} (tells : V → Told) (old new : DeskState V) (b
   pub grows : Grows tells old new
   -- whatever answers these asks so makes the plot come to this turn, and this workspace
   pub plain : (o : Oracle) → AgreesFrom (length old.work.asked) o grows.entries → IsTurn result (plot before o old.work) after new.work back
+
+-- what holds of the line, where there is one
+abbrev pub IfSub : Result Turn NoMemory → (SubLine → Type 0) → Type 0
+IfSub (Ok (turn.Sub l)) P = P l
+IfSub _ P = Unit {0}
+
+pub record IsSent (l : SubLine) : Type 0 where
+  pub dir : l.order.dir ≡ l.shell.cwd
+  pub path : IsPath l.order.dir
+  pub units : l.order.fuel ≤ 1000000

@@ -1,5 +1,5 @@
 //! A line for the shell.
-ghost use Rattle.std.specs.Prelude.{IfOk};
+ghost use Rattle.std.specs.Prelude.{◌<◌, IfOk, IfSome};
 ghost use Rattle.em_exec.specs.Subs.{words_if};
 ghost use Rattle.em_script.specs.Lines.{IsRead, run_line};
 ghost use Rattle.em_script.specs.Strands.{sub_of};
@@ -67,8 +67,8 @@ impl Line {
     /// `cd` gives, but no make is run. Where W isn't one field, the whole line has run. Any other
     /// line has no words, and for it nothing is done.
     ///
-    /// Errors and cost are those of `run` for what is expanded or has run. What was written is
-    /// appended to `out`, also before an error.
+    /// Errors and cost are those of `run` for what is expanded or has run; where there are words, at
+    /// least one unit of fuel is gone. What was written is appended to `out`, also before an error.
     pub fn sub_words<V: View>(
         &self,
         alloc: Global,
@@ -76,10 +76,12 @@ impl Line {
         desk: &mut Desk<V>,
         out: &mut Text,
     ) -> Result<Option<SubWords>, ExecNo>
-        ensures { Does is_want V.tells desk.old desk.new
+        ensures does { Does is_want V.tells desk.old desk.new
             (record { shell = shell.old; output = out.old })
             (record { shell = shell.new; output = out.new })
             result (words_if (sub_of self.now)) }
+        ensures burns { IfOk result
+            (λ w. IfSome w (λ x. desk.new.work.fuel < desk.old.work.fuel)) }
     {
         match self {
             Line::Script(script) => em_exec::sub_words(alloc, script, shell, desk, out),

@@ -7,3 +7,5 @@ mod group;
 mod job;
 #[cfg(test)]
 mod script;
+#[cfg(test)]
+mod sub;

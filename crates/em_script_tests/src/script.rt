@@ -51,7 +51,7 @@ fn say_end(alloc: Global, out: &mut Text, end: &Result<u8, ExecNo>) -> Result<()
 }
 
 /// A shell in the root that has done nothing.
-fn shell(alloc: Global) -> Result<Shell, Fail> {
+pub fn shell(alloc: Global) -> Result<Shell, Fail> {
     Ok(Shell {
         vars: Vars::new(alloc)?,
         cwd: Path::root(),

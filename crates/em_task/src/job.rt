@@ -1,11 +1,14 @@
 //! A job, as data.
 ghost use Rattle.std.specs.Prelude.{◌≡◌, IfOk};
+ghost use Rattle.em_task.specs.Endings as endings;
 
 use crate::pairs::SharedPairs;
 use crate::shared::SharedVars;
 use em_base::{NoMemory, Seq, Text};
+use em_cmdline::Order;
 use em_path::Path;
 use em_plan::PlanJob;
+use em_tree::Outcome;
 use std::alloc::Global;
 
 /// What an order says of all jobs.
@@ -23,6 +26,36 @@ pub struct Flags {
     pub ignore: bool,
     /// `-B`
     pub always: bool,
+}
+
+impl Flags {
+    /// What this order says of all jobs. One step.
+    pub fn of_order(order: &Order) -> Flags
+        ensures { result ≡ endings.flags_of order.now }
+    {
+        Flags {
+            keep_going: order.keep_going,
+            dry: order.dry,
+            question: order.question,
+            silent: order.silent,
+            ignore: order.ignore,
+            always: order.always,
+        }
+    }
+
+    /// Whether a make with these flags ends after a job with this outcome: always after one that
+    /// was refused or halted, or has spent its fuel; without `-k` after one that failed or has no
+    /// rule; under `-q` after one whose target is to be made. One step.
+    pub fn ends_after(self, outcome: &Outcome) -> bool
+        ensures { result ≡ endings.ends_after self outcome.now }
+    {
+        match outcome {
+            Outcome::Halted { .. } | Outcome::Refused { .. } | Outcome::Spent => true,
+            Outcome::Failed(_) | Outcome::NoRule => !self.keep_going,
+            Outcome::Made => self.question,
+            Outcome::Upto | Outcome::Counted | Outcome::Skipped => false,
+        }
+    }
 }
 
 /// What there is to know of one job.

@@ -551,14 +551,14 @@ loop_in-returns-in-None g t c =
     from_fuel _ _ _ (rw (sym c.in_ok-scene.ensures) (end_s (rw more at inv.2) (then_s _ (c.in_ok-charge_unit.ensures.does _) (then_s _ (rw c.in-None.is at c.in_ok-status.ensures) finish_s))))
 
 pub loop_in-loop-scene-smaller : goal.loop_in-loop-scene-smaller
-loop_in-loop-scene-smaller g t c = omega (arith, c.in_ok-charge_unit.ensures.burns, c.in_ok-status.ensures.performs.grows.burns)
+loop_in-loop-scene-smaller g t c = omega (arith, c.in_ok-charge_unit.ensures.burns refl, c.in_ok-status.ensures.performs.grows.burns)
 
 pub loop_in-loop-scene-preserved : goal.loop_in-loop-scene-preserved
 loop_in-loop-scene-preserved g t c =
     let inv = c.loop-scene.invariant in
     let more = above _ _ inv.1 in (
       inv.0 - 1,
-      omega (arith, inv.1, c.in_ok-charge_unit.ensures.burns, c.in_ok-status.ensures.performs.grows.burns),
+      omega (arith, inv.1, c.in_ok-charge_unit.ensures.burns refl, c.in_ok-status.ensures.performs.grows.burns),
       λ new u r p. end_s (rw more at inv.2) (then_s _ (c.in_ok-charge_unit.ensures.does _) (then_s _ (rw c.in-Some.is at c.in_ok-status.ensures) p)),
     )
 

@@ -1,0 +1,2 @@
+mod Valid
+mod Placing

@@ -1,0 +1,4 @@
+mod Following
+mod Laps
+mod Whole
+mod Bare

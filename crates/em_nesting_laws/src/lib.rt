@@ -1,0 +1,4 @@
+//! Laws: what a job comes to with makes within it.
+#![tactic(auto)]
+
+pub mod jobs;

@@ -1,0 +1,2 @@
+mod Pausing
+mod Shells

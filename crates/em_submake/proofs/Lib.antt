@@ -1,0 +1,5 @@
+mod Going
+mod Turning
+pub mod Paths
+mod Trying
+mod Unique
