@@ -24,7 +24,7 @@ pub enum After {
 pub const PROJECT: &[u8] =
     b"EMTREE 1\nd 5 /\nf 5 240 /Makefile\nSRC := main.c util.c\nOBJ := $(SRC:.c=.o)\n.PHONY: all clean edit\nall: config.h prog\nprog: $(OBJ)\n\tcat $^ > $@\n%.o: %.c\n\tcat $< config.h > $@\nconfig.h: config.in\n\techo '#define N 1' > $@\nedit:\n\ttouch main.c\nclean:\n\trm -f $(OBJ) prog config.h\n\nf 5 2 /config.in\n1\n\nf 5 5 /main.c\nmain\n\nf 5 5 /util.c\nutil\n\n.\n";
 
-pub static BUILDS: [Build; 68] = [
+pub static BUILDS: [Build; 63] = [
     Build {
         words: "-I i",
         before: Some(b"EMTREE 1\nd 1 /\nf 1 15 /Makefile\nall:\n\t@echo hi\n\n.\n"),
@@ -540,7 +540,10 @@ pub static BUILDS: [Build; 68] = [
         status: 0,
         after: After::Any,
     },
-    // a make within a make
+];
+
+/// Makes within a make, in the same form.
+pub static MAKES: [Build; 5] = [
     Build {
         words: "-I i",
         before: Some(

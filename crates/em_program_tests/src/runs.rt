@@ -1,5 +1,5 @@
 //! Whole runs over a host in memory.
-use crate::builds::{After, BUILDS, Build};
+use crate::builds::{After, BUILDS, Build, MAKES};
 use em_base::{Seq, Text};
 use em_host::MemHost;
 use em_program::emake;
@@ -94,6 +94,27 @@ fn try_builds<R: Abort + Threads + Wait + Sync>(
 fn builds_come_out_as_told(rt: HostRuntime) -> Result<(), Fail> {
     for workers in ["", "-j 8"] {
         try_builds(&rt, rt.alloc(), workers)?;
+    }
+    Ok(())
+}
+
+/// The same of the builds with makes within a make.
+fn try_makes<R: Abort + Threads + Wait + Sync>(
+    rt: &R,
+    alloc: Global,
+    workers: &str,
+) -> Result<(), Fail> {
+    let mut host = MemHost::new(alloc);
+    for (number, build) in MAKES.iter().enumerate() {
+        try_build(rt, alloc, workers, number, build, &mut host)?;
+    }
+    Ok(())
+}
+
+#[test]
+fn makes_within_makes_come_out_as_told(rt: HostRuntime) -> Result<(), Fail> {
+    for workers in ["", "-j 8"] {
+        try_makes(&rt, rt.alloc(), workers)?;
     }
     Ok(())
 }
