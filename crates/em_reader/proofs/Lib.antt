@@ -3,4 +3,3 @@ mod Pieces
 mod States
 mod Wholes
 mod Passed
-mod Plain
