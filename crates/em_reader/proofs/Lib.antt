@@ -3,3 +3,4 @@ mod Pieces
 mod States
 mod Wholes
 mod Passed
+mod Plain

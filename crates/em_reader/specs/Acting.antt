@@ -57,6 +57,10 @@ matches_of p word = do
   names ← wildcard_glyphs p (glyphs_of word)
   done (or_itself word names)
 
+-- what it is in every pattern
+abbrev pub is_itself : ℕ → Bool
+is_itself b = not ((b == 42) || ((b == 63) || (b == 91)))
+
 abbrev pub matched_word : Place → List ℕ → Reads (List (List ℕ))
 matched_word p word = if is_pattern (glyphs_of word) then matches_of p word else done (word ∷ [])
 

@@ -1,11 +1,11 @@
 //! What a statement does when its texts are expanded.
-ghost use Rattle.std.specs.Prelude.{◌≡◌, ◌++◌, ◌∷◌, [], IfOk};
-ghost use Rattle.std.specs.List.{list_any};
+ghost use Rattle.std.specs.Prelude.{◌≡◌, ◌++◌, ◌∷◌, ◌&&◌, [], IfOk};
+ghost use Rattle.std.specs.List.{list_all, list_any};
 ghost use Rattle.em_reader.specs.Acting as acting;
 ghost use Rattle.em_reader.specs.Acting.{has_colon, is_pattern_rule, known, matched, or_itself, rule_of};
 ghost use Rattle.em_namefn.specs.Wildcards.{glyphs_of};
 ghost use Rattle.em_reading.specs.Faults.{is_free};
-ghost use Rattle.em_statement.specs.Heads.{head_of};
+ghost use Rattle.em_statement.specs.Heads.{head_of, refusal_of};
 ghost use Rattle.em_view.specs.Steps.{Does};
 ghost use Rattle.em_wordlist.specs.Stems.{is_percent};
 
@@ -13,9 +13,11 @@ use em_base::{NoMemory, Place, Seq, Text, is_blank};
 use em_glob::{Glyph, is_pattern};
 use em_namefn::glyphs_of;
 use em_pathname::matching_names;
-use em_reading::{Expanded, Fault, Heard, ReadNo, Reading, at, desk_fault, refused};
+use em_reading::{Fault, Heard, ReadNo, Reading, at, desk_fault, refused};
 use em_rules::{RecipeLine, Rule};
-use em_statement::{Head, RuleLine, Statement, colons_in, is_empty, read_head, refused_in_head};
+use em_statement::{
+    Head, RuleLine, Statement, colons_in, is_empty, read_head, refused_in_head, refused_in_read,
+};
 use em_view::{Desk, View};
 use std::alloc::Global;
 
@@ -101,6 +103,13 @@ fn appended(so_far: Seq<Text>, more: Seq<Text>) -> Result<Seq<Text>, NoMemory>
     Ok(Seq::from_vec(all))
 }
 
+/// Whether the word has none of the bytes that are more than themselves in a pattern.
+fn is_plain(word: &[u8]) -> bool
+    ensures { result ≡ list_all acting.is_itself word.now }
+{
+    word.iter().all(|b| !matches!(*b, b'*' | b'?' | b'['))
+}
+
 /// The names that words stand for: each with a wildcard is replaced by its matches in the tree, if
 /// it has some.
 pub(crate) fn matched<V: View>(
@@ -115,9 +124,13 @@ pub(crate) fn matched<V: View>(
 {
     let mut all = Seq::new(alloc);
     for word in words {
-        let word = word.copy(alloc)?;
-        let more = matched_word(alloc, desk, reading, place, word)?;
-        all = appended(all, more)?;
+        let copy = word.copy(alloc)?;
+        if is_plain(word.bytes()) {
+            all.push(copy)?;
+        } else {
+            let more = matched_word(alloc, desk, reading, place, copy)?;
+            all = appended(all, more)?;
+        }
     }
     Ok(all)
 }
@@ -218,7 +231,8 @@ fn is_nothing(text: &[u8], recipe: &Option<Text>) -> bool
     is_empty(text) && recipe.is_none()
 }
 
-/// What a line is by its head, when that is expanded whole.
+/// What a line is by its head, when that is expanded whole: what is refused in it, a rule, or
+/// nothing. The head is read once.
 fn rule_by<V: View>(
     alloc: Global,
     desk: &mut Desk<V>,
@@ -228,17 +242,19 @@ fn rule_by<V: View>(
     text: &[u8],
 ) -> Result<(), ReadNo>
     ensures { Does is_free V.tells desk.old desk.new reading.old reading.new result
-        (acting.rule_by place.now line.now text.now (head_of text.now)) }
+        (acting.unless_refused (refusal_of line.now.assigns text.now) place.now
+        (acting.rule_by place.now line.now text.now (head_of text.now))) }
 {
-    match read_head(alloc, text)? {
-        Some(head) => rule_with(alloc, desk, reading, place, line, head),
-        None => {
-            if is_nothing(text, &line.recipe) {
-                return Ok(());
-            }
-            Err(at(alloc, place, Fault::Separator))
+    let Some(head) = read_head(alloc, text)? else {
+        if is_nothing(text, &line.recipe) {
+            return Ok(());
         }
+        return Err(at(alloc, place, Fault::Separator));
+    };
+    if let Some(name) = refused_in_read(line.assigns, text, &head) {
+        return Err(refused(alloc, place, name));
     }
+    rule_with(alloc, desk, reading, place, line, head)
 }
 
 /// Whether a word ends where the text ends.
@@ -282,24 +298,15 @@ fn known(alloc: Global, written: &[u8], text: &[u8]) -> Result<Text, NoMemory>
     Ok(known)
 }
 
-/// The first thing that is refused in a rule's head, of which what stands behind a refused function
-/// isn't known but for its colons.
-fn refused_in_known(
-    alloc: Global,
-    line: &RuleLine,
-    head: &Expanded,
-) -> Result<Option<Text>, NoMemory>
-    ensures { IfOk result (λ r. r ≡ acting.refusal_in line.now head.now) }
+/// The first thing that is refused in a rule's head that begins with this text, of which what stands
+/// behind it, with a function that is refused, isn't known but for its colons.
+fn refused_in_known(alloc: Global, line: &RuleLine, text: &[u8]) -> Result<Option<Text>, NoMemory>
+    ensures { IfOk result (λ r. r
+        ≡ refusal_of (line.now.assigns && has_colon text.now) (known line.now.head text.now)) }
 {
-    let text = head.text.bytes();
-    match &head.refused {
-        None => refused_in_head(alloc, line.assigns, text),
-        Some(_) => {
-            let assigns = line.assigns && has_colon(text);
-            let known = known(alloc, line.head.bytes(), text)?;
-            refused_in_head(alloc, assigns, known.bytes())
-        }
-    }
+    let assigns = line.assigns && has_colon(text);
+    let known = known(alloc, line.head.bytes(), text)?;
+    refused_in_head(alloc, assigns, known.bytes())
 }
 
 /// The line of a rule.
@@ -314,13 +321,14 @@ fn rule_line<V: View>(
     ensures { Does is_free V.tells desk.old desk.new reading.old reading.new result
         (acting.rule_line place.now line.now heard.now) }
 {
-    if let Some(name) = refused_in_known(alloc, line, &heard.first)? {
+    let text = heard.first.text.bytes();
+    let Some(function) = &heard.first.refused else {
+        return rule_by(alloc, desk, reading, place, line, text);
+    };
+    if let Some(name) = refused_in_known(alloc, line, text)? {
         return Err(refused(alloc, place, name.bytes()));
     }
-    if let Some(name) = &heard.first.refused {
-        return Err(refused(alloc, place, name.bytes()));
-    }
-    rule_by(alloc, desk, reading, place, line, heard.first.text.bytes())
+    Err(refused(alloc, place, function.bytes()))
 }
 
 /// What a statement does, if it puts no text in.

@@ -16,6 +16,7 @@ use Rattle.em_statement.specs.declared.keyword.Keyword.TheVariants as keyword
 use Rattle.em_statement.specs.declared.statement.RuleLine.{RuleLine}
 use Rattle.em_statement.specs.Shapes.{shape}
 use Rattle.em_statement.specs.Split.{behind, first_word, after_word, is_empty}
+use Rattle.em_statement.specs.Heads.{behind_colon}
 use Rattle.em_statement.specs.Assignments.{sign_of, assignment_of}
 use Rattle.em_statement.specs.Keywords.{keyword_of}
 use Rattle.em_statement.specs.Conditions.{condition_by}
@@ -124,9 +125,9 @@ directive_of text = or_else (directive_behind (modified text).0 (modified text).
 
 -- ---- rules
 
--- an operator behind the rule's colon, in front of any other colon
+-- an operator behind the rule's colon, which may be `::`, in front of any other colon
 abbrev pub assigns : List ℕ → Bool
-assigns shape = option_map_or (λ at. is_some (sign_of (behind at shape))) (position (λ b. b == 58) shape) false
+assigns shape = option_map_or (λ at. is_some (sign_of (behind_colon (behind at shape)))) (position (λ b. b == 58) shape) false
 
 abbrev pub rule_of : List ℕ → Option (List ℕ) → RuleLine
 rule_of head recipe = record { head = head; assigns = assigns (shape head); recipe = recipe }

@@ -110,7 +110,7 @@ fn head_by(
 }
 
 /// What stands behind the rule's colon, which may be `::`.
-fn behind_colon(rest: &[u8]) -> &[u8]
+pub(crate) fn behind_colon(rest: &[u8]) -> &[u8]
     ensures { result.now ≡ heads.behind_colon rest.now }
 {
     match rest {

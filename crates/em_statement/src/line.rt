@@ -6,6 +6,7 @@ ghost use Rattle.em_statement.specs.Statements.{statement_of, rule_of, recipe_st
 
 use crate::assignment::sign_of;
 use crate::directive::{assignment_line, conditional, directive, keyword_in, modifiers};
+use crate::head::behind_colon;
 use crate::shape::shape;
 use crate::split::{after_word, before, behind, is_empty, place_of};
 use crate::statement::{RuleLine, Statement};
@@ -13,13 +14,13 @@ use em_base::{NoMemory, Text};
 use em_lines::{bare, comment_start};
 use std::alloc::Global;
 
-/// Whether an operator stands behind the first colon, in front of any other.
+/// Whether an operator stands behind the rule's colon, which may be `::`, in front of any other.
 fn assigns(shape: &[u8]) -> bool
     ensures { result ≡ statements.assigns shape.now }
 {
     match place_of(b':', shape) {
         None => false,
-        Some(at) => sign_of(behind(at, shape)).is_some(),
+        Some(at) => sign_of(behind_colon(behind(at, shape))).is_some(),
     }
 }
 

@@ -1,9 +1,9 @@
 //! What is refused in a rule's head.
-ghost use Rattle.std.specs.Prelude.{◌≡◌, ◌++◌, ◌∷◌, map, not, option_map, IfOk, IsErr, IsSome};
+ghost use Rattle.std.specs.Prelude.{◌≡◌, ◌++◌, ◌∷◌, map, not, option_map, Some, IfOk, IsErr, IsSome};
 ghost use Rattle.std.specs.List.{list_any, position};
 ghost use Rattle.em_rules.specs.Dots.{undotted};
 ghost use Rattle.em_statement.specs.Heads as heads;
-ghost use Rattle.em_statement.specs.Heads.{is_member, is_special, is_known, has_percent, is_lone_double, percent_refusal, target_refusal, prerequisite_refusal, colon_refusal, is_colon, refusal_of, first_of, is_mixed, is_followed};
+ghost use Rattle.em_statement.specs.Heads.{is_member, is_special, is_known, has_percent, is_lone_double, percent_refusal, target_refusal, prerequisite_refusal, colon_refusal, head_of, is_colon, refusal_of, first_of, is_mixed, is_followed};
 
 use crate::head::{Colons, Head, colons_of, head_at};
 use crate::split::{before, behind, from, place_of};
@@ -207,9 +207,10 @@ fn head_refusal(assigns: bool, colons: Colons, head: &Head) -> Option<&[u8]>
 /// The name of the leftmost construct that is refused in a rule's head, when it is expanded; `None`
 /// where there is none, and, also where memory is short, where no colon is in it. `assigns` tells
 /// that an assignment stands behind the colon. Refused are a `::` behind an `&`, a target with a
-/// `%`, a special target or the rule's colon, a `%` beside a target without one, a member of an
-/// archive, `\%`, an assignment (by the first target, if there is one), the special targets that
-/// aren't supported, `.SUFFIXES` with prerequisites and the prerequisite `.WAIT`; these names also
+/// `%` or a special target, and one that is the next colon behind the rule's; a `%` beside a target
+/// without one, a member of an archive, `\%`, an assignment (by the first target, if there is one),
+/// the special targets that aren't supported, `.SUFFIXES` with prerequisites and the prerequisite
+/// `.WAIT`; these names also
 /// with `./` in front. Steps for each byte, and one copy of each word.
 #[tactic(auto, unfolding(crate::specs::Heads::refusal_of))]
 pub fn refused_in_head(alloc: Global, assigns: bool, text: &[u8]) -> Result<Option<Text>, NoMemory>
@@ -225,4 +226,16 @@ pub fn refused_in_head(alloc: Global, assigns: bool, text: &[u8]) -> Result<Opti
         None => Ok(None),
         Some(name) => Ok(Some(Text::from_slice(alloc, name)?)),
     }
+}
+
+/// The same of a text whose head has been read, and is this. Takes no memory, and steps for each
+/// byte.
+#[tactic(auto, unfolding(crate::specs::Heads::refusal_of, crate::specs::Heads::head_of))]
+pub fn refused_in_read<'a>(assigns: bool, text: &[u8], head: &'a Head) -> Option<&'a [u8]>
+    requires { head_of text.now ≡ Some head.now }
+    ensures { option_map (λ r. r.now) result ≡ refusal_of assigns text.now }
+{
+    let at = place_of(b':', text)?;
+    let colons = colons_of(before(at, text), behind(at, text));
+    head_refusal(assigns, colons, head)
 }

@@ -297,7 +297,7 @@ const RULES: [RuleRow; 19] = [
     (b"a:b:=c", b"a:b:=c", true, None),
     (b"a: ; X = 1", b"a: ", false, Some(b" X = 1")),
     (b"a: b: X = 1", b"a: b: X = 1", false, None),
-    (b"a:: X = 1", b"a:: X = 1", false, None),
+    (b"a:: X = 1", b"a:: X = 1", true, None),
     (b"a: $(X=1)", b"a: $(X=1)", false, None),
     (b"a: # X = 1", b"a: ", false, None),
     (b"$(a:;b): c", b"$(a:;b): c", false, None),
