@@ -6,7 +6,7 @@ ghost use Rattle.em_closing.specs.Closing as closing;
 use crate::goals::Goal;
 use crate::lines::{put_not_remade, put_nothing_to_do, put_up_to_date};
 use em_base::{NoMemory, Text};
-use em_plan::{Plan, PlanJob};
+use em_plan::{Plan, SharedJob};
 use em_tree::Outcome;
 use std::alloc::Global;
 
@@ -39,11 +39,11 @@ fn failed_at(outcomes: &[Outcome], job: u32) -> bool
     )
 }
 
-fn recipe_at(plan: &[PlanJob], job: u32) -> bool
+fn recipe_at(plan: &[SharedJob], job: u32) -> bool
     ensures { result ≡ closing.has_recipe (slice_get plan.now job) }
 {
     match plan.get(job as usize) {
-        Some(job) => job.recipe.is_some(),
+        Some(job) => job.get().recipe.is_some(),
         None => false,
     }
 }
@@ -88,7 +88,7 @@ fn any_failed(outcomes: &[Outcome], jobs: &[u32]) -> bool
     jobs.iter().any(|k| failed_at(outcomes, *k))
 }
 
-fn any_recipe(plan: &[PlanJob], jobs: &[u32]) -> bool
+fn any_recipe(plan: &[SharedJob], jobs: &[u32]) -> bool
     ensures { result ≡ list_any (λ k. closing.has_recipe (slice_get plan.now k)) jobs.now }
 {
     jobs.iter().any(|k| recipe_at(plan, *k))

@@ -229,9 +229,9 @@ pub(crate) fn prerequisites<V: View>(
     ensures { (s : Spoken) → Does is_free V.tells desk.old desk.new s s result
         (deciding.prerequisites (option_map (λ o. o.now) known.entry) job.now) }
 {
-    let pres = job.plan.normal.items();
+    let pres = job.plan.get().normal.items();
     let (normal, fine) = await_normal(alloc, desk, known, job.flags.dry, pres)?;
     let left = behind(known, pres);
-    let fine = await_order(desk, left, job.plan.order.items(), fine)?;
+    let fine = await_order(desk, left, job.plan.get().order.items(), fine)?;
     Ok((normal, fine))
 }

@@ -24,7 +24,12 @@ fn say_ignored(spoken: &mut Spoken, job: &Job, place: &Place, status: u8) -> Res
     ensures { Works is_free spoken.old spoken.new result
         (preparing.say (messages.ignored place.now job.now.plan.target status)) }
 {
-    put_ignored(&mut spoken.said, place, job.plan.target.bytes(), status)?;
+    put_ignored(
+        &mut spoken.said,
+        place,
+        job.plan.get().target.bytes(),
+        status,
+    )?;
     Ok(())
 }
 

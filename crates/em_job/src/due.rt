@@ -174,14 +174,14 @@ fn is_one_absent(owns: &[Option<u64>]) -> bool
 fn is_unbound(job: &Job) -> bool
     ensures { result ≡ deciding.is_unbound job.now }
 {
-    job.plan.double && job.plan.normal.is_empty()
+    job.plan.get().double && job.plan.get().normal.is_empty()
 }
 
 fn is_due(job: &Job, owns: &[Option<u64>], newer: &[Text]) -> bool
     ensures { result ≡ deciding.is_due job.now owns.now newer.now }
 {
     job.flags.always
-        || job.plan.phony
+        || job.plan.get().phony
         || is_one_absent(owns)
         || is_unbound(job)
         || !newer.is_empty()
@@ -208,7 +208,7 @@ pub(crate) fn reasons(
     ensures { IfOk result (λ ns. ns ≡ deciding.reasons job.now owns.now newer) }
 {
     if job.flags.always || is_one_absent(owns) {
-        return names_of(alloc, job.plan.normal.items());
+        return names_of(alloc, job.plan.get().normal.items());
     }
     Ok(newer)
 }
@@ -228,11 +228,11 @@ fn unruled(is_one_absent: bool) -> Verdict
 pub(crate) fn decision(job: &Job, owns: &[Option<u64>], newer: &[Text]) -> Verdict
     ensures { result ≡ deciding.decision job.now owns.now newer.now }
 {
-    if !(job.plan.phony || job.plan.ruled) {
+    if !(job.plan.get().phony || job.plan.get().ruled) {
         return unruled(is_one_absent(owns));
     }
     let due = is_due(job, owns, newer);
-    match &job.plan.recipe {
+    match &job.plan.get().recipe {
         None if due => Verdict::Ended(Outcome::Counted),
         None => Verdict::Ended(Outcome::Upto),
         Some(_) if !due => Verdict::Ended(Outcome::Upto),

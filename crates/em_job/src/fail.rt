@@ -29,7 +29,12 @@ fn say_failed(spoken: &mut Spoken, job: &Job, place: &Place, status: u8) -> Resu
     ensures { Works is_free spoken.old spoken.new result
         (preparing.say (messages.failed place.now job.now.plan.target status)) }
 {
-    put_failed(&mut spoken.said, place, job.plan.target.bytes(), status)?;
+    put_failed(
+        &mut spoken.said,
+        place,
+        job.plan.get().target.bytes(),
+        status,
+    )?;
     Ok(())
 }
 
@@ -155,7 +160,7 @@ fn delete<V: View>(
     if !job.delete_on_error {
         return Ok(());
     }
-    let targets = job.plan.targets.items();
+    let targets = job.plan.get().targets.items();
     delete_each(alloc, desk, spoken, job, place, targets, befores)
 }
 

@@ -1,5 +1,5 @@
 //! The specs of a plan's jobs.
-ghost use Rattle.std.specs.Prelude.{◌≡◌, ◌≤◌, ◌^◌, ◌++◌, ℕ, None, length, IfOk, OnOk};
+ghost use Rattle.std.specs.Prelude.{◌≡◌, ◌≤◌, ◌^◌, ◌++◌, ◌∷◌, [], ℕ, None, length, IfOk, OnOk};
 ghost use Rattle.std.specs.List.{filter};
 ghost use Rattle.em_job.specs.Making as making;
 ghost use Rattle.em_path.specs.Paths.{root_text};
@@ -12,7 +12,7 @@ use crate::spec::JobSpec;
 use em_base::{NoMemory, Seq, Text};
 use em_cmdline::Order;
 use em_path::Path;
-use em_plan::{Plan, PlanJob, Pre};
+use em_plan::{Plan, PlanJob, Pre, SharedJob};
 use em_rules::{Book, Names, Rules, Special};
 use em_task::{Flags, Job, SharedPairs, SharedVars};
 use std::alloc::Global;
@@ -33,30 +33,51 @@ fn covers(names: &Names, name: &[u8]) -> bool
     }
 }
 
-/// Adds the names of the prerequisites.
-fn add_names(alloc: Global, names: &mut Vec<Text>, pres: &[Pre]) -> Result<(), NoMemory>
-    ensures { OnOk result (names.new.items ≡ names.old.items ++ names_of pres.now) }
+/// Adds the name, if it is phony.
+fn add_phony(
+    alloc: Global,
+    names: &mut Seq<Text>,
+    rules: &Rules,
+    name: &Text,
+) -> Result<(), NoMemory>
+    ensures { OnOk result (names.new
+        ≡ names.old ++ filter (is_phony rules.now) (name.now ∷ [])) }
 {
-    for pre in pres {
-        names.push(pre.name.copy(alloc)?)?;
+    if rules.is_phony(name.bytes()) {
+        names.push(name.copy(alloc)?)?;
     }
     Ok(())
 }
 
-/// The targets and the normal prerequisites.
-fn names_of(alloc: Global, plan: &PlanJob) -> Result<Vec<Text>, NoMemory>
-    ensures { IfOk result (λ ns. ns.items ≡ plan.now.targets ++ names_of plan.now.normal) }
+/// Adds the phony ones of the targets.
+fn add_targets(
+    alloc: Global,
+    names: &mut Seq<Text>,
+    rules: &Rules,
+    targets: &[Text],
+) -> Result<(), NoMemory>
+    ensures { OnOk result (names.new ≡ names.old ++ filter (is_phony rules.now) targets.now) }
 {
-    let mut names = plan.targets.copy(alloc)?.into_vec();
-    add_names(alloc, &mut names, plan.normal.items())?;
-    Ok(names)
+    for target in targets {
+        add_phony(alloc, names, rules, target)?;
+    }
+    Ok(())
 }
 
-/// Takes out the names that aren't phony.
-fn keep_phony(names: &mut Vec<Text>, rules: &Rules)
-    ensures { names.new.items ≡ filter (is_phony rules.now) names.old.items }
+/// Adds the phony ones of the prerequisites.
+fn add_pres(
+    alloc: Global,
+    names: &mut Seq<Text>,
+    rules: &Rules,
+    pres: &[Pre],
+) -> Result<(), NoMemory>
+    ensures { OnOk result (names.new
+        ≡ names.old ++ filter (is_phony rules.now) (names_of pres.now)) }
 {
-    names.retain(|n| rules.is_phony(n.bytes()));
+    for pre in pres {
+        add_phony(alloc, names, rules, &pre.name)?;
+    }
+    Ok(())
 }
 
 /// The phony names among the targets and the normal prerequisites.
@@ -64,9 +85,10 @@ fn phony_names(alloc: Global, rules: &Rules, plan: &PlanJob) -> Result<Seq<Text>
     ensures { IfOk result (λ ns. ns
         ≡ filter (is_phony rules.now) (plan.now.targets ++ names_of plan.now.normal)) }
 {
-    let mut names = names_of(alloc, plan)?;
-    keep_phony(&mut names, rules);
-    Ok(Seq::from_vec(names))
+    let mut names = Seq::new(alloc);
+    add_targets(alloc, &mut names, rules, plan.targets.items())?;
+    add_pres(alloc, &mut names, rules, plan.normal.items())?;
+    Ok(names)
 }
 
 /// What all jobs of a plan have in common.
@@ -133,13 +155,14 @@ fn job_of(
     book: &Book,
     common: &Common,
     number: u32,
-    plan: &PlanJob,
+    shared: &SharedJob,
 ) -> Result<Job, NoMemory>
     ensures common { IfOk result (λ j. (order : Ordered) (base : ℕ)
         → making.IsCommon book.now order base common.now
-        → j ≡ making.job_of book.now order base number plan.now) }
+        → j ≡ making.job_of book.now order base number shared.now) }
     ensures bounds { IfOk result (λ j. (j.base ≡ common.now.base) × (j.fuel ≡ common.now.fuel)) }
 {
+    let plan = shared.get();
     Ok(Job {
         job: number,
         base: common.base,
@@ -150,7 +173,7 @@ fn job_of(
         lenient: common.flags.ignore || covers(&common.special.ignore, plan.target.bytes()),
         delete_on_error: common.special.delete_on_error,
         phony: phony_names(alloc, &book.rules, plan)?,
-        plan: plan.copy(alloc)?,
+        plan: shared.copy()?,
         vars: common.vars.copy()?,
         assigned: common.assigned.copy()?,
     })
@@ -159,8 +182,8 @@ fn job_of(
 /// The spec of one job of a plan, with this number: what `specs` has at that place. It is for who
 /// makes the jobs of a plan one by one, with the book's variables, which they share.
 ///
-/// `NoMemory` alone is an error, and may come freely. The assignments are copied for this job, as is
-/// the job of the plan; the rest is as of `specs`.
+/// `NoMemory` alone is an error, and may come freely. The assignments are copied for this job; the
+/// rest is as of `specs`.
 pub fn spec_of(
     alloc: Global,
     book: &Book,
@@ -168,7 +191,7 @@ pub fn spec_of(
     order: &Order,
     base: u64,
     number: u32,
-    planned: &PlanJob,
+    planned: &SharedJob,
 ) -> Result<JobSpec, NoMemory>
     requires vars { vars.now ≡ book.now.vars }
     requires base { base ≤ 2 ^ 62 }
@@ -185,9 +208,9 @@ pub fn spec_of(
 
 /// The specs of a plan's jobs, each with the number at which it stands.
 ///
-/// The variables and the assignments are copied once and shared; each job of the plan is copied
-/// once, and copies of its spec share it. A search for each name says whether it is phony; what
-/// `.SILENT` and `.IGNORE` list is gone over for each job.
+/// The variables and the assignments are copied once and shared; the jobs of the plan are shared
+/// with it. A search for each name says whether it is phony; what `.SILENT` and `.IGNORE` list is
+/// gone over for each job.
 pub fn specs(
     alloc: Global,
     plan: &Plan,

@@ -133,7 +133,7 @@ fn expand_lines<V: View>(
 fn recipe_of(job: &Job) -> &[RecipeLine]
     ensures { result.now ≡ preparing.recipe_of job.now }
 {
-    match &job.plan.recipe {
+    match &job.plan.get().recipe {
         None => &[],
         Some(lines) => lines.items(),
     }
@@ -151,7 +151,7 @@ fn expand_recipe<V: View>(
     ensures { Does is_free V.tells desk.old desk.new spoken.old spoken.new result
         (preparing.expand_recipe job.now stamps newer.now) }
 {
-    let autos = automatic_vars(alloc, &job.plan, newer)?;
+    let autos = automatic_vars(alloc, job.plan.get(), newer)?;
     let lines = expand_lines(alloc, desk, spoken, job, autos.items(), recipe_of(job))?;
     Ok(Prepared::Lines(Opened { stamps, autos }, lines))
 }
@@ -162,7 +162,7 @@ fn no_rule(spoken: &mut Spoken, job: &Job) -> Result<(), Stop>
         (preparing.say (messages.no_rule job.now.plan.target job.now.plan.needed_by
         job.now.flags.keep_going)) }
 {
-    let plan = &job.plan;
+    let plan = job.plan.get();
     put_no_rule(
         &mut spoken.said,
         plan.target.bytes(),
@@ -183,7 +183,7 @@ fn decide<V: View>(
     ensures { Does is_free V.tells desk.old desk.new spoken.old spoken.new result
         (preparing.decide job.now normal.now) }
 {
-    let owns = stamps_of(alloc, desk, &job.cwd, job.plan.targets.items())?;
+    let owns = stamps_of(alloc, desk, &job.cwd, job.plan.get().targets.items())?;
     let newer = newer_among(alloc, desk, job, owns.items(), normal)?;
     match decision(job, owns.items(), newer.items()) {
         Verdict::Ended(outcome) => Ok(Prepared::Ended(outcome)),

@@ -59,7 +59,7 @@ impl Work<JobSpec> for JobWork {
         let prepared = prepare_job(alloc, &mut desk, &mut spoken, None, job);
         let course = read(alloc, prepared)?;
         let ended = carry_out(alloc, &mut desk, &mut spoken, job, course);
-        let (output, outcome) = close(job.plan.target.bytes(), ended, spoken)?;
+        let (output, outcome) = close(job.plan.get().target.bytes(), ended, spoken)?;
         let (usage, delta, used) = desk.close();
         Ok(Run::new(spec, Seq::from_vec(usage), delta, output, outcome, used))
     }

@@ -116,7 +116,7 @@ fn specs_of(
 fn waits_of(alloc: Global, plan: &Plan) -> Result<Seq<Seq<u32>>, NoMemory> {
     let mut waits = Seq::new(alloc);
     for job in plan.jobs.items() {
-        let copy = Vec::from_slice(alloc, job.waits.items())?;
+        let copy = Vec::from_slice(alloc, job.get().waits.items())?;
         waits.push(Seq::from_vec(copy))?;
     }
     Ok(waits)

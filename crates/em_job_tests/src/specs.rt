@@ -1,7 +1,7 @@
 //! What the jobs of a makefile are asked to do.
 use super::makefiles::read_with;
 use em_job::Job;
-use em_plan::PlanJob;
+use em_plan::SharedJob;
 use em_rules::Book;
 use em_testing::{show_bytes, show_path};
 use std::alloc::{AllocError, Global};
@@ -72,11 +72,16 @@ fn show_phony(log: &mut String, job: &Job) -> Result<(), AllocError> {
 }
 
 /// Whether the job is the plan's, with the makefile's variables.
-fn is_of(job: &Job, planned: &PlanJob, book: &Book) -> bool {
+fn is_of(job: &Job, planned: &SharedJob, book: &Book) -> bool {
     job.plan == *planned && *job.vars.vars() == book.vars
 }
 
-fn show_job(log: &mut String, job: &Job, planned: &PlanJob, book: &Book) -> Result<(), AllocError> {
+fn show_job(
+    log: &mut String,
+    job: &Job,
+    planned: &SharedJob,
+    book: &Book,
+) -> Result<(), AllocError> {
     let (number, base, fuel) = (job.job, job.base, job.fuel);
     write!(log, "{number} {base} {fuel} ")?;
     show_path(log, "", &job.cwd)?;

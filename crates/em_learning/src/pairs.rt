@@ -7,7 +7,7 @@ ghost use Rattle.em_learning.specs.Learnt as shown;
 use em_base::{NoMemory, Text};
 use em_engine::{Cause, Note};
 use em_history::History;
-use em_plan::PlanJob;
+use em_plan::{PlanJob, SharedJob};
 use std::alloc::Global;
 
 /// The job that had changed what was asked.
@@ -21,20 +21,20 @@ fn changer(cause: &Option<Cause>) -> Option<u32>
 }
 
 /// The jobs of the note and of the change, if both are there.
-fn jobs_of<'a>(jobs: &'a [PlanJob], note: &Note) -> Option<(&'a PlanJob, &'a PlanJob)>
+fn jobs_of<'a>(jobs: &'a [SharedJob], note: &Note) -> Option<(&'a PlanJob, &'a PlanJob)>
     ensures { shown.pair_of jobs.now note.now
         ≡ option_map (λ p. (p.0.now.target, p.1.now.target)) result }
 {
     let made = jobs.get(note.job as usize)?;
     let needed = jobs.get(changer(&note.cause)? as usize)?;
-    Some((made, needed))
+    Some((made.get(), needed.get()))
 }
 
 /// Appends the pair that the note shows, if there is one.
 fn add(
     alloc: Global,
     pairs: &mut Vec<(Text, Text)>,
-    jobs: &[PlanJob],
+    jobs: &[SharedJob],
     note: &Note,
 ) -> Result<(), NoMemory>
     ensures { OnOk result
@@ -49,7 +49,7 @@ fn add(
 /// A pair for each note that says which job had changed what the note's job asked: the targets of
 /// both, where they can stand in a history. Linear in the notes and in the names that are copied,
 /// and the pairs are sorted.
-pub fn learnt(alloc: Global, jobs: &[PlanJob], notes: &[Note]) -> Result<History, NoMemory>
+pub fn learnt(alloc: Global, jobs: &[SharedJob], notes: &[Note]) -> Result<History, NoMemory>
     ensures { IfOk result (λ h. h ≡ shown.learnt jobs.now notes.now) }
 {
     let mut pairs = Vec::new(alloc);

@@ -4,7 +4,7 @@ ghost use Rattle.em_learning.specs.Telling as telling;
 
 use em_base::{NoMemory, Seq};
 use em_engine::{Cause, Note};
-use em_plan::PlanJob;
+use em_plan::{PlanJob, SharedJob};
 use em_report::{CauseWord, Report, ReportLine};
 use std::alloc::Global;
 
@@ -46,7 +46,7 @@ fn line_of(
 /// targets, which are copied.
 pub fn report_of(
     alloc: Global,
-    jobs: &[PlanJob],
+    jobs: &[SharedJob],
     waits: &[Seq<u32>],
     notes: &[Note],
     fuel: &[u64],
@@ -57,7 +57,7 @@ pub fn report_of(
 {
     let mut lines = Seq::new(alloc);
     for ((job, waits), (note, fuel)) in jobs.iter().zip(waits).zip(notes.iter().zip(fuel)) {
-        lines.push(line_of(alloc, job, waits, note, *fuel)?)?;
+        lines.push(line_of(alloc, job.get(), waits, note, *fuel)?)?;
     }
     Ok(Report { lines, status })
 }

@@ -11,16 +11,16 @@ ghost use Rattle.em_plan.specs.Jobs as jobs;
 
 use em_base::{NoMemory, Seq, Table, Text};
 use em_history::History;
-use em_plan::PlanJob;
+use em_plan::SharedJob;
 use std::alloc::Global;
 
 /// The jobs that each job waits for by the plan.
-fn planned(alloc: Global, jobs: &[PlanJob]) -> Result<Vec<Seq<u32>>, NoMemory>
+fn planned(alloc: Global, jobs: &[SharedJob]) -> Result<Vec<Seq<u32>>, NoMemory>
     ensures { IfOk result (λ w. w.items ≡ map (λ j. j.waits) jobs.now) }
 {
     let mut waits = Vec::with_capacity(alloc, jobs.len())?;
     for job in jobs {
-        waits.push(Seq::from_vec(Vec::from_slice(alloc, job.waits.items())?))?;
+        waits.push(Seq::from_vec(Vec::from_slice(alloc, job.get().waits.items())?))?;
     }
     Ok(waits)
 }
@@ -64,13 +64,13 @@ fn put(
 }
 
 /// The numbers of the jobs by their targets.
-fn numbers(alloc: Global, jobs: &[PlanJob]) -> Result<Table<Seq<u32>>, NoMemory>
+fn numbers(alloc: Global, jobs: &[SharedJob]) -> Result<Table<Seq<u32>>, NoMemory>
     requires { length jobs.now < 2 ^ 32 }
     ensures { IfOk result (λ t. AreNumbers (λ name. links.listed (finmap.get t name)) jobs.now) }
 {
     let mut numbers = Table::new(alloc);
     for (number, job) in jobs.iter().enumerate() {
-        put(alloc, &mut numbers, &job.target, number as u32)?;
+        put(alloc, &mut numbers, &job.get().target, number as u32)?;
     }
     Ok(numbers)
 }
@@ -147,7 +147,7 @@ fn all_rising(alloc: Global, waits: Vec<Seq<u32>>) -> Result<Seq<Seq<u32>>, NoMe
 pub fn waits_with(
     alloc: Global,
     history: &History,
-    jobs: &[PlanJob],
+    jobs: &[SharedJob],
 ) -> Result<Seq<Seq<u32>>, NoMemory>
     requires { ArePlanned jobs.now }
     ensures { IfOk result (λ w. w ≡ waits.waits_with history.now jobs.now) }

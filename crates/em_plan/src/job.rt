@@ -4,7 +4,7 @@ ghost use Rattle.em_plan.specs.Jobs.{earlier_ones, job_of, jobs_in, normal_ones,
 ghost use Rattle.em_plan.specs.Resuming.{numbers_in, open_in};
 
 use crate::making::{Making, Need};
-use crate::marks::{Mark, is_open, numbers, numbers_of};
+use crate::marks::{Mark, closed_numbers, numbers};
 use crate::planned::{PlanJob, Pre};
 use em_base::{NoMemory, Seq, Table, Text};
 use std::alloc::Global;
@@ -27,11 +27,10 @@ impl Needed {
         ensures jobs { OnOk result (self.new.jobs.items ≡ self.old.jobs.items
             ++ jobs_in (pres (open_in marks.now) (numbers_in marks.now) (need ∷ []))) }
     {
-        if is_open(marks, need.name.bytes()) {
+        let Some(jobs) = closed_numbers(alloc, marks, need.name.bytes())? else {
             return Ok(());
-        }
+        };
         let Need { name, order } = need;
-        let jobs = numbers_of(alloc, marks, name.bytes())?;
         self.jobs.extend_from_slice(jobs.items())?;
         if order {
             self.order.push(Pre { name, jobs })?;

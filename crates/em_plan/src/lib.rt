@@ -12,6 +12,7 @@ mod no;
 mod numbers;
 mod planned;
 mod planning;
+mod shared;
 mod walk;
 
 pub use goals::goal_names;
@@ -20,3 +21,4 @@ pub use no::PlanNo;
 pub use numbers::Numbers;
 pub use planned::{Plan, PlanJob, Pre};
 pub use planning::{plan, plan_through};
+pub use shared::SharedJob;

@@ -58,6 +58,23 @@ pub(crate) fn numbers<'a>(marks: &'a Table<Mark>, name: &[u8]) -> &'a [u32]
     }
 }
 
+/// The numbers of the name's jobs, copied, unless it is open. One search.
+pub(crate) fn closed_numbers(
+    alloc: Global,
+    marks: &Table<Mark>,
+    name: &[u8],
+) -> Result<Option<Numbers>, NoMemory>
+    ensures { IfOk result (λ o. MatchOption o
+        (open_in marks.now name.now ≡ true)
+        (λ ns. (open_in marks.now name.now ≡ false) × (ns ≡ numbers_in marks.now name.now))) }
+{
+    match marks.get(name) {
+        None => Ok(Some(Numbers::new(alloc))),
+        Some(mark) if mark.begun => Ok(None),
+        Some(mark) => Ok(Some(mark.jobs.copy(alloc)?)),
+    }
+}
+
 /// The numbers of the name's jobs, copied.
 pub(crate) fn numbers_of(
     alloc: Global,

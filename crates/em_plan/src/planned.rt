@@ -2,6 +2,7 @@
 ghost use Rattle.std.specs.Prelude.{◌≡◌, IfOk};
 
 use crate::numbers::Numbers;
+use crate::shared::SharedJob;
 use em_base::{NoMemory, Seq, Text, TryClone};
 use em_rules::RecipeLine;
 use std::alloc::Global;
@@ -97,10 +98,11 @@ impl PlanJob {
 }
 
 /// The jobs in serial order, each with the place at which it stands as its number, the jobs of each
-/// goal, and what is said of prerequisites that were dropped.
+/// goal, and what is said of prerequisites that were dropped. A job is shared with all that hold
+/// it, so that what is made of a plan copies none.
 #[derive(Debug, Drop, PartialEq, Eq)]
 pub struct Plan {
-    pub jobs: Seq<PlanJob>,
+    pub jobs: Seq<SharedJob>,
     pub goals: Seq<Numbers>,
     pub notes: Text,
 }

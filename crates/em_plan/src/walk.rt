@@ -12,7 +12,7 @@ use crate::job::job;
 use crate::making::{Makefile, Making};
 use crate::marks::{Mark, close_all, next_place, open_all};
 use crate::no::PlanNo;
-use crate::planned::PlanJob;
+use crate::shared::SharedJob;
 use em_base::{NoMemory, Seq, Stack, Table, Text};
 use em_implicit::There;
 use std::alloc::Global;
@@ -33,7 +33,7 @@ pub struct Frame {
 /// The jobs so far, and the notes.
 #[derive(Debug, Drop)]
 pub struct Walked {
-    pub jobs: Seq<PlanJob>,
+    pub jobs: Seq<SharedJob>,
     pub notes: Text,
 }
 
@@ -189,7 +189,8 @@ fn close(alloc: Global, walk: &mut Walk, frame: Frame) -> Result<(), PlanNo>
     let number = walk.walked.jobs.len() as u32;
     let job = job(alloc, &walk.marks, target, needed_by, making)?;
     close_all(alloc, &mut walk.marks, number, job.targets.items())?;
-    walk.walked.jobs.push(job)?;
+    let shared = SharedJob::new(alloc, job)?;
+    walk.walked.jobs.push(shared)?;
     Ok(())
 }
 

@@ -1,7 +1,7 @@
 use crate::written::{add_name, names, recipe, rule as bare_rule};
 use em_base::{NoMemory, Text};
 use em_path::Path;
-use em_plan::{Numbers, Plan, PlanJob, PlanNo, Pre, plan};
+use em_plan::{Numbers, Plan, PlanJob, PlanNo, Pre, SharedJob, plan};
 use em_rules::{Book, BookNo, Rule, RuleKind};
 use em_tree::Tree;
 use em_wordlist::join_texts;
@@ -141,9 +141,9 @@ fn add_job(alloc: Global, text: &mut Text, job: &PlanJob) -> Result<(), NoMemory
     add_waits(text, job)
 }
 
-fn add_jobs(alloc: Global, text: &mut Text, jobs: &[PlanJob]) -> Result<(), NoMemory> {
+fn add_jobs(alloc: Global, text: &mut Text, jobs: &[SharedJob]) -> Result<(), NoMemory> {
     for job in jobs {
-        add_job(alloc, text, job)?;
+        add_job(alloc, text, job.get())?;
     }
     Ok(())
 }
@@ -304,6 +304,7 @@ fn units_have_jobs(rt: HostRuntime) -> Result<(), Fail> {
 fn is_made(plan: &Plan, number: usize) -> bool {
     match plan.jobs.get(number) {
         Some(job) => {
+            let job = job.get();
             job.ruled && !job.phony && job.recipe.is_some() && job.stem.bytes() == b"e".as_slice()
         }
         None => false,
@@ -313,7 +314,10 @@ fn is_made(plan: &Plan, number: usize) -> bool {
 /// Whether the plan has a job of this number, which no rule is of.
 fn is_bare(plan: &Plan, number: usize) -> bool {
     match plan.jobs.get(number) {
-        Some(job) => !job.ruled && job.recipe.is_none() && job.stem.bytes().is_empty(),
+        Some(job) => {
+            let job = job.get();
+            !job.ruled && job.recipe.is_none() && job.stem.bytes().is_empty()
+        }
         None => false,
     }
 }
@@ -331,7 +335,10 @@ fn a_pattern_rule_is_the_rule_with_the_recipe(rt: HostRuntime) -> Result<(), Fai
 /// Whether the plan has a job of this number, which is phony and no rule is of.
 fn is_phony(plan: &Plan, number: usize) -> bool {
     match plan.jobs.get(number) {
-        Some(job) => job.phony && !job.ruled && job.recipe.is_none(),
+        Some(job) => {
+            let job = job.get();
+            job.phony && !job.ruled && job.recipe.is_none()
+        }
         None => false,
     }
 }

@@ -5,7 +5,7 @@ use crate::through::show_asked;
 use crate::written::names;
 use em_base::{Fuel, NoMemory, Text};
 use em_path::Path;
-use em_plan::{Plan, PlanJob, PlanNo, plan, plan_through};
+use em_plan::{Plan, PlanJob, PlanNo, SharedJob, plan, plan_through};
 use em_states::{state, states};
 use em_tree::Tree;
 use em_view::{Desk, PlainView, ScriptView, View};
@@ -45,11 +45,11 @@ fn mark(job: &PlanJob) -> &'static [u8] {
     if job.ruled { b":" } else { b"" }
 }
 
-fn show_jobs(jobs: &[PlanJob], text: &mut Text) -> Result<(), NoMemory> {
+fn show_jobs(jobs: &[SharedJob], text: &mut Text) -> Result<(), NoMemory> {
     for job in jobs {
         text.add(b" ")?;
-        text.add(job.target.bytes())?;
-        text.add(mark(job))?;
+        text.add(job.get().target.bytes())?;
+        text.add(mark(job.get()))?;
     }
     Ok(())
 }

@@ -3,7 +3,7 @@
 use em_base::{NoMemory, Place, Seq, Text};
 use em_job::{Flags, Job, JobSpec, JobWork, SharedPairs, SharedVars};
 use em_path::Path;
-use em_plan::{Numbers, PlanJob, Pre};
+use em_plan::{Numbers, PlanJob, Pre, SharedJob};
 use em_rules::RecipeLine;
 use em_run::{Run, Work};
 use em_states::state;
@@ -167,7 +167,7 @@ fn spec_of(alloc: Global, given: &Given) -> Result<JobSpec, NoMemory> {
         lenient: false,
         delete_on_error: true,
         phony: words(alloc, given.2)?,
-        plan: plan_of(alloc, given)?,
+        plan: SharedJob::new(alloc, plan_of(alloc, given)?)?,
         vars: SharedVars::new(alloc, Vars::new(alloc)?)?,
         assigned: SharedPairs::new(alloc, Seq::new(alloc))?,
     };

@@ -3,7 +3,7 @@
 use em_base::{NoMemory, Place, Seq, Text};
 use em_job::{Flags, Job, JobSpec, JobWork, SharedPairs, SharedVars};
 use em_path::Path;
-use em_plan::PlanJob;
+use em_plan::{PlanJob, SharedJob};
 use em_rules::RecipeLine;
 use em_run::{Run, Work};
 use em_tree::{Outcome, Outcomes, State, Tree};
@@ -169,7 +169,7 @@ fn spec_of(alloc: Global, row: &Row) -> Result<JobSpec, NoMemory> {
         lenient: false,
         delete_on_error: false,
         phony: Seq::new(alloc),
-        plan,
+        plan: SharedJob::new(alloc, plan)?,
         vars,
         assigned: SharedPairs::new(alloc, Seq::new(alloc))?,
     };

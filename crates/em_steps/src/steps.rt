@@ -70,7 +70,7 @@ fn stopped(spoken: &mut Spoken, job: &Job, stop: Stop) -> Result<Progress, NoMem
     if let Stop::NoMemory = stop {
         return Err(NoMemory);
     }
-    put_stop(&mut spoken.said, job.plan.target.bytes(), &stop)?;
+    put_stop(&mut spoken.said, job.plan.get().target.bytes(), &stop)?;
     Ok(Progress::Ended(end_of(stop)))
 }
 

@@ -2,6 +2,7 @@
 --     by_lead, by_desk     a step without the desk, from ways that lead to others; and the same behind steps over a desk
 --     behind_turn          a step over the desk, behind others
 --     ended_first          the first job has ended
+--     ended_where_none     the same, where no level is known to be there
 --     ended_all            a job has ended all makes
 --     closed               a make has ended, and the job of its line goes on
 --     goes_further         a job has ended, and its make goes on
@@ -12,7 +13,7 @@
 --     turned_up, ..        a turn of the innermost job
 --     sound_more, ..       the levels' invariants
 --     up_less, down_less   what gets less
-use Rattle.std.proofs.Common.{◌≡◌, ℕ, zero, suc, ◌+◌, ◌-◌, ◌<◌, ◌≤◌, Bool, true, false, List, [], ◌∷◌, ◌++◌, drop, length, length-append, slice_get, Some, None, Result, Ok, Err, refl, sym, ap, subst, arith}
+use Rattle.std.proofs.Common.{◌≡◌, ◌==◌, ℕ, zero, suc, ◌+◌, ◌-◌, ◌<◌, ◌≤◌, Bool, true, false, List, [], ◌∷◌, ◌++◌, drop, length, length-append, slice_get, Some, None, Result, Ok, Err, refl, sym, ap, subst, eqb-true, arith}
 use Rattle.std.specs.Prelude.{IsErrAnd}
 use Rattle.std.proofs.lemmas.List.Elements.{All-cons, All-head, All-tail}
 use Rattle.em_base.specs.declared.memory.NoMemory.{NoMemory}
@@ -66,6 +67,10 @@ module _ (job_of : SubLine → Plan → ℕ → Book → List Outcome → Plot) 
 
   pub ended_first : {s : List ℕ} (a : Outcome) → Goes_by job_of plot back s s (climb job_of plot back [] a) [] (Ok (next.Done a))
   ended_first {s} a = λ o w. ((Ok (a, s), w), (refl, (refl, refl)))
+
+  pub ended_where_none : {s : List ℕ} (levels : List (Level J)) (a : Outcome) → (length levels == 0) ≡ true → Goes_by job_of plot back s s (climb job_of plot back levels a) levels (Ok (next.Done a))
+  ended_where_none [] a none = ended_first a
+  ended_where_none (v ∷ vs) a none = absurd (omega (arith, eqb-true (length (v ∷ vs)) 0 none))
 
   pub ended_all : {s : List ℕ} (v : Level J) (vs levels : List (Level J)) (a : Outcome) → ends_all a ≡ true → Goes_by job_of plot back s s (climb job_of plot back (v ∷ vs) a) levels (Ok (next.Done a))
   ended_all {s} v vs levels a e = λ o w. ((Err (a, s), w), (((Err (a, s), w), (picked (stop a) (pick (ends_after (flags_of v.line.order) a) (close v.line v.book v.plan (v.ended ++ a ∷ []) true) (others job_of plot back (8 - length (v ∷ vs)) v (v.ended ++ a ∷ []))) (ends_all a) e refl, refl)), (refl, refl)))

@@ -14,7 +14,7 @@ use crate::steps::{Maker, Steps};
 use em_base::{NoMemory, Seq, Stack, Text};
 use em_closing::{closing_text, goals_of, has_faulty};
 use em_exec::{SubLine, Turn};
-use em_plan::{Plan, PlanJob};
+use em_plan::{Plan, SharedJob};
 use em_rules::Book;
 use em_task::{Flags, SharedVars};
 use em_tree::Outcome;
@@ -109,13 +109,13 @@ fn begin_job<J: Steps, M: Maker<J>>(
     alloc: Global,
     maker: &M,
     level: &Level<J>,
-    planned: &PlanJob,
+    planned: &SharedJob,
 ) -> Result<J, NoMemory>
     requires { IsSound level.now }
     ensures { IfOk result (λ j. J.plot j ≡ M.job_of maker.now level.now.line level.now.plan
         (length level.now.ended) level.now.book (submakes.known_of level.now.ended planned.now)) }
 {
-    let known = known_of(alloc, level.ended.items(), planned)?;
+    let known = known_of(alloc, level.ended.items(), planned.get())?;
     let number = level.ended.len() as u32;
     let Level {
         line,
@@ -157,8 +157,8 @@ fn go_on<J: Steps, M: Maker<J>>(
     Ok(Next::Job(job))
 }
 
-/// The innermost job has ended.
-fn up<J: Steps, M: Maker<J>>(
+/// The innermost job has ended, and a level waits for it.
+fn up_within<J: Steps, M: Maker<J>>(
     alloc: Global,
     maker: &M,
     out: &mut Text,
@@ -184,6 +184,26 @@ fn up<J: Steps, M: Maker<J>>(
         return Ok(Next::Job(job));
     }
     go_on(alloc, maker, out, level, levels)
+}
+
+/// The innermost job has ended. Where no level waits for it, no room is made for one.
+fn up<J: Steps, M: Maker<J>>(
+    alloc: Global,
+    maker: &M,
+    out: &mut Text,
+    levels: &mut Stack<Level<J>>,
+    outcome: Outcome,
+) -> Result<Next<J>, NoMemory>
+    requires { AreSound levels.old }
+    ensures goes { climbing.Goes_by (M.job_of maker.now) J.plot J.back out.old out.new
+        (climbing.climb (M.job_of maker.now) J.plot J.back levels.old outcome)
+        levels.new result }
+    ensures less { climbing.Smaller (room levels.old) (room levels.new) result }
+{
+    if levels.is_empty() {
+        return Ok(Next::Done(outcome));
+    }
+    up_within(alloc, maker, out, levels, outcome)
 }
 
 /// The variables of a book, to be shared by its jobs.

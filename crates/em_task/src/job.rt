@@ -7,7 +7,7 @@ use crate::shared::SharedVars;
 use em_base::{NoMemory, Seq, Text};
 use em_cmdline::Order;
 use em_path::Path;
-use em_plan::PlanJob;
+use em_plan::SharedJob;
 use em_tree::Outcome;
 use std::alloc::Global;
 
@@ -78,7 +78,7 @@ pub struct Job {
     pub delete_on_error: bool,
     /// The phony names among the targets and the normal prerequisites.
     pub phony: Seq<Text>,
-    pub plan: PlanJob,
+    pub plan: SharedJob,
     /// The makefile's variables.
     pub vars: SharedVars,
     /// What the command line assigns, also where a makefile overrides or undefines it.
@@ -86,7 +86,7 @@ pub struct Job {
 }
 
 impl Job {
-    /// An equal job. The variables are shared.
+    /// An equal job. The variables and the job of the plan are shared.
     pub fn copy(&self, alloc: Global) -> Result<Job, NoMemory>
         ensures { IfOk result (λ j. j ≡ self.now) }
     {
@@ -100,7 +100,7 @@ impl Job {
             lenient: self.lenient,
             delete_on_error: self.delete_on_error,
             phony: self.phony.copy(alloc)?,
-            plan: self.plan.copy(alloc)?,
+            plan: self.plan.copy()?,
             vars: self.vars.copy()?,
             assigned: self.assigned.copy()?,
         })

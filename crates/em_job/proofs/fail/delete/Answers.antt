@@ -8,4 +8,4 @@ returns-then-not-job g c = rw c.if-not-job.true finish_s
 
 pub returns : goal.returns
 unfolding delete
-returns g c = rw c.if-not-job.false (rw c.items-targets.ensures at c.delete_each.ensures)
+returns g c = rw c.if-not-job.false (rw (c.items-targets.ensures, c.get.ensures) at c.delete_each.ensures)

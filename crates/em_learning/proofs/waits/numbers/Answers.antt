@@ -15,7 +15,7 @@ loop-number-preserved c =
     let jobs = c.args.jobs.now in
     let job = c.index-jobs-number.result in
     let at : slice_get jobs c.loop-number.number ≡ Some job = slice_get_read jobs (length jobs) c.loop-number.number job refl c.loop-number-test.true c.index-jobs-number.is in
-    found_more jobs (λ name. listed (get c.loop-number.numbers name)) (λ name. listed (get c.put.new.numbers name)) c.loop-number.number job at c.in_ok-put.ensures c.loop-number.invariant
+    found_more jobs (λ name. listed (get c.loop-number.numbers name)) (λ name. listed (get c.put.new.numbers name)) c.loop-number.number job at (rw c.get.ensures at c.in_ok-put.ensures) c.loop-number.invariant
 
 pub returns : goal.returns
 returns c = found_all c.args.jobs.now (λ name. listed (get c.loop-number.numbers name)) c.loop-number.number c.loop-number-test.false c.loop-number.invariant

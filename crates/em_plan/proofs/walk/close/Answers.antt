@@ -9,4 +9,4 @@ returns-clause-marks c =
 pub returns-clause-walked : goal.returns-clause-walked
 returns-clause-walked c =
     let made = rw c.in_ok-needed_by.ensures at c.in_ok-job.ensures in
-    rw (c.in_ok-push.ensures.ok, made) refl
+    rw (c.in_ok-push.ensures.ok, c.in_ok-shared.ensures, made) refl

@@ -22,7 +22,7 @@ new-requires-2 g c =
     let begun = rw (c.new.ensures, c.get-job.ensures.job) at c.new-desk.ensures in
     let prepared = rw (c.get-job.ensures.job, c.new-spoken.ensures) at c.prepare_job-prepared.ensures in
     let carried : Carried g.V.View.tells mid new s t j r (courses reading.ready p) = subst (λ (x : Result Course Stop). Carried g.V.View.tells mid new s t j r x) reading.is (rw c.get-job.ensures.job at c.carry_out-ended.ensures.ok, c.carry_out-ended.ensures.err) in
-    let ends = rw (c.bytes.ensures, c.get-job.ensures.job) at c.in_ok-output.ensures in
+    let ends = rw (c.bytes.ensures, c.get.ensures, c.get-job.ensures.job) at c.in_ok-output.ensures in
     let on = onward g.V.View.tells mid new s t r j reading.ready p carried in
     let plain = plain_before g.V.View.tells mid new s t r j reading.ready p carried (ended_plain t r (c.in_ok-output.outcome, c.in_ok-output.output) j.plan.target ends) in
     valid no_end begun refl (closing t r j reading.ready (whole j reading.ready p prepared carried) ends)
