@@ -10,6 +10,7 @@ use Rattle.em_tree.specs.declared.state.State.{State}
 use Rattle.em_history.specs.Histories.{Pair}
 use Rattle.em_cmdline.specs.declared.order.Order.{Order}
 use Rattle.em_engine.specs.declared.note.Note.{Note}
+use Rattle.em_program.specs.declared.site.Earlier.{Earlier}
 use Rattle.em_rules.specs.declared.book.Book.{Book}
 use Rattle.em_plan.specs.declared.planned.Plan.{Plan}
 use Rattle.em_reader.specs.declared.makefiles.Round.{Round}
@@ -70,9 +71,9 @@ same_if R false c d e h f p q = q
 
 -- ---- a site with another history, and other notes
 
-module _ (old : List Pair) (notes : List Note) where
+module _ (old : List Pair) (past : Earlier) where
   abbrev other : Site → Site
-  other s = record { order = s.order; start = s.start; old = old; earlier = record { notes = notes; outcomes = s.earlier.outcomes } }
+  other s = record { order = s.order; start = s.start; old = old; earlier = record { notes = past.notes; outcomes = s.earlier.outcomes; shown = past.shown } }
 
   projects : (s : Site) (book : Book) (cwd : List ℕ) (f : Files) → SameBy AreProjects (project_at s book cwd f) (project_at (other s) book cwd f)
   projects s book cwd f = behind AreProjects (planned book s.order s.start.tree cwd) _ _
@@ -112,8 +113,8 @@ module _ (old : List Pair) (notes : List Note) where
   followings_other m s f = same_if AreSteps (changed m.before s.start.tree m.goals m.cwd) _ _ _ _ f (rounds m.left s m.cwd f) (finals s m.cwd m.round f)
 
 -- sites that are alike differ so
-is_other : (s t : Site) → AreSites s t → other t.old t.earlier.notes s ≡ t
-is_other s t same = λ i. record { order = same.order i; start = same.start i; old = t.old; earlier = record { notes = t.earlier.notes; outcomes = same.outcomes i } }
+is_other : (s t : Site) → AreSites s t → other t.old t.earlier s ≡ t
+is_other s t same = λ i. record { order = same.order i; start = same.start i; old = t.old; earlier = record { notes = t.earlier.notes; outcomes = same.outcomes i; shown = t.earlier.shown } }
 
 alike : (x y : Result Step Verdict) → EndBy AreSteps x y → EndAlike x y
 alike (Ok u) (Ok v) e = e
@@ -125,10 +126,10 @@ to_same : (c d : Course Step) (f : Files) → SameBy AreSteps (c f) (d f) → Is
 to_same c d f p = record { calls = p.calls; end = alike (c f).end (d f).end p.end }
 
 pub firsts : (s t : Site) (f : Files) → AreSites s t → IsSame (first s) (first t) f
-firsts s t f same = subst (λ (u : Site). IsSame (first s) (first u) f) (is_other s t same) (to_same (first s) _ f (firsts_other t.old t.earlier.notes s f))
+firsts s t f same = subst (λ (u : Site). IsSame (first s) (first u) f) (is_other s t same) (to_same (first s) _ f (firsts_other t.old t.earlier s f))
 
 pub followings : (m : Remaking) (s t : Site) (f : Files) → AreSites s t → IsSame (following m s) (following m t) f
-followings m s t f same = subst (λ (u : Site). IsSame (following m s) (following m u) f) (is_other s t same) (to_same (following m s) _ f (followings_other t.old t.earlier.notes m s f))
+followings m s t f same = subst (λ (u : Site). IsSame (following m s) (following m u) f) (is_other s t same) (to_same (following m s) _ f (followings_other t.old t.earlier m s f))
 
 pub moves : (order : Order) (p q : Project) (s : State) (notes others : List Note) → AreProjects p q → AreSites (moved order p.terms s notes) (moved order q.terms s others)
 moves order p q s notes others same = record { order = refl; start = refl; outcomes = ap (λ (os : List Outcome). os ++ s.outcomes) same.outcomes }

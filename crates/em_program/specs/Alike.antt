@@ -1,6 +1,7 @@
 -- What a history doesn't change: it bears on what jobs wait for, and so on notes, and on nothing else
 -- that is built.
---     AreSites s t           only the pairs that are known, and the notes of earlier builds, may differ
+--     AreSites s t           only the pairs that are known, and the notes of earlier builds and the
+--                            pairs that these have shown, may differ
 --     AreProjects p q, AreSteps u v      the same of what there is to build
 --     IsSame c d files       two ways to a step make the same calls, and lead to such steps
 use Rattle.std.specs.Prelude.{◌≡◌, Result, Ok, Err}

@@ -16,7 +16,6 @@ use Rattle.em_tree.specs.declared.state.State.{State}
 use Rattle.em_history.specs.Histories.{text_of, united}
 use Rattle.em_image.specs.Image.{limits, writing}
 use Rattle.em_image.specs.declared.no.ImageNo.{ImageNo}
-use Rattle.em_learning.specs.Learnt.{learnt}
 use Rattle.em_learning.specs.Telling.{report_of}
 use Rattle.em_report.specs.Reports.{report_text}
 use Rattle.em_run.specs.Serial.{Made, outputs_of, Ran, IsSerial}
@@ -43,7 +42,7 @@ use Rattle.em_program.specs.Statuses.{code_of, status_of}
 use Rattle.em_program.specs.Course.{Trace, Course, ◌>>=◌, done, say, say_all, keep, stop, Follows, Meets}
 use Rattle.em_program.specs.Messages.{image_line, summary}
 use Rattle.em_program.specs.Projects.{site}
-use Rattle.em_program.specs.Rounds.{Build, is_early, left_by, first, goes_on}
+use Rattle.em_program.specs.Rounds.{Build, is_early, left_by, first, goes_on, shown_by}
 use Rattle.em_program.specs.Serial.{ends}
 
 -- the closing text, the new image and the status; an image that breaks a limit isn't written, and
@@ -66,9 +65,9 @@ kept None bytes = done tt
 kept (Some name) bytes = keep name bytes
 
 module _ (t : Terms) (notes : List Note) where
-  -- what was known, and what the build has shown
+  -- what was known, and what the builds have shown
   abbrev pub history_text : List ℕ
-  history_text = text_of (united t.old (learnt t.plan.jobs notes))
+  history_text = text_of (united t.old (shown_by t notes))
 
   abbrev pub history_kept : HistoryMode → Course (Unit {0})
   history_kept mode.Create = kept t.order.history history_text

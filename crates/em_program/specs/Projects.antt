@@ -145,7 +145,7 @@ planned book order t cwd = as_plan book.found (plan_of book order.goals t cwd)
 
 -- before the first build
 abbrev pub none_earlier : Earlier
-none_earlier = record { notes = []; outcomes = [] }
+none_earlier = record { notes = []; outcomes = []; shown = [] }
 
 -- where the build takes place; a page and an explanation end the run before
 abbrev pub site : List (List ℕ) → Course Site

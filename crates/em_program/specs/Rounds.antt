@@ -13,7 +13,7 @@ use Rattle.em_tree.specs.declared.node.Kind.TheVariants as kind
 use Rattle.em_tree.specs.declared.state.State.{State}
 use Rattle.em_tree.specs.Trees.{Table, base_of, kind_of}
 use Rattle.em_tree.specs.Resolving.{node_behind}
-use Rattle.em_history.specs.Histories.{united}
+use Rattle.em_history.specs.Histories.{Pair, united}
 use Rattle.em_image.specs.declared.no.ImageNo.TheVariants.{Limit}
 use Rattle.em_image.specs.declared.no.Which.TheVariants.{Stamp}
 use Rattle.em_cmdline.specs.declared.order.Order.{Order}
@@ -122,13 +122,23 @@ is_early p b = run.is_early MakesAll ends p.specs b.made
 abbrev pub left_by : Project → Build → State
 left_by p b = state_after p.start b.made
 
--- where the next build takes place: on the tree that the last one left, with what it has shown
+-- what the builds have shown, behind one with these notes
+abbrev pub shown_by : Terms → List Note → List Pair
+shown_by t notes = united t.earlier.shown (learnt t.plan.jobs notes)
+
+-- where the next build takes place: on the tree that the last one left. What that has shown is kept
+-- for the history's file; the next one's jobs wait by what the file told, so that they wait alike in
+-- each run
 abbrev pub moved : Order → Terms → State → List Note → Site
 moved order t s notes = record {
   order = order;
   start = start_of s.tree;
-  old = united t.old (learnt t.plan.jobs notes);
-  earlier = record { notes = t.earlier.notes ++ notes; outcomes = t.earlier.outcomes ++ s.outcomes };
+  old = t.old;
+  earlier = record {
+    notes = t.earlier.notes ++ notes;
+    outcomes = t.earlier.outcomes ++ s.outcomes;
+    shown = shown_by t notes;
+  };
 }
 
 -- a makefile's stamp is another one: the next round; else the build of the goals

@@ -113,7 +113,11 @@ fn ended<H: Host>(
         waits: _,
         goals: _,
     } = terms;
-    let Earlier { notes, outcomes: _ } = earlier;
+    let Earlier {
+        notes,
+        outcomes: _,
+        shown: _,
+    } = earlier;
     let Built {
         state: _,
         notes: last,

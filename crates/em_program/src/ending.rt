@@ -8,6 +8,7 @@ ghost use Rattle.em_program.specs.Messages as messages;
 
 use crate::messages::image_line;
 use crate::project::Terms;
+use crate::rounds::shown_by;
 use crate::say::{keep, say};
 use crate::status::status_of;
 use crate::stop::Stop;
@@ -18,7 +19,7 @@ use em_cmdline::HistoryMode;
 use em_engine::Note;
 use em_host::Host;
 use em_image::{ImageNo, write_image};
-use em_learning::{learnt, report_of};
+use em_learning::report_of;
 use em_report::write;
 use em_tree::{Outcome, State};
 use std::alloc::Global;
@@ -64,11 +65,11 @@ fn close<H: Host>(
     }
 }
 
-/// The history's new text: what was known, and what the build has shown.
+/// The history's new text: what was known, and what the builds have shown.
 fn history_text(alloc: Global, terms: &Terms, notes: &Seq<Note>) -> Result<Text, NoMemory>
     ensures { IfOk result (λ t. t ≡ endings.history_text terms.now notes.now) }
 {
-    let mut all = learnt(alloc, terms.plan.jobs.items(), notes.items())?;
+    let mut all = shown_by(alloc, terms, notes)?;
     all.merge(alloc, &terms.old)?;
     all.write(alloc)
 }

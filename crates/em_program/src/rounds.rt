@@ -16,6 +16,8 @@ use crate::verdict::Verdict;
 use em_base::{NoMemory, Seq, Text};
 use em_closing::fault_line;
 use em_cmdline::Order;
+use em_engine::Note;
+use em_history::History;
 use em_host::Host;
 use em_image::{ImageNo, Which};
 use em_learning::learnt;
@@ -308,23 +310,36 @@ pub fn joined<T: Drop>(first: Seq<T>, more: Seq<T>) -> Result<Seq<T>, NoMemory>
     Ok(Seq::from_vec(all))
 }
 
+/// What the builds have shown, behind one with these notes. It takes what `learnt` takes, and is
+/// linear in the pairs.
+pub fn shown_by(alloc: Global, terms: &Terms, notes: &Seq<Note>) -> Result<History, NoMemory>
+    ensures { IfOk result (λ h. h ≡ rounds.shown_by terms.now notes.now) }
+{
+    let mut all = learnt(alloc, terms.plan.jobs.items(), notes.items())?;
+    all.merge(alloc, &terms.earlier.shown)?;
+    Ok(all)
+}
+
 /// Where the next build takes place.
 fn moved(alloc: Global, order: Order, done: JobsDone) -> Result<Site, NoMemory>
     ensures { IfOk result (λ s. s
         ≡ rounds.moved order done.terms done.built.state done.built.notes) }
 {
     let JobsDone { terms, built } = done;
-    let mut old = learnt(alloc, terms.plan.jobs.items(), built.notes.items())?;
-    old.merge(alloc, &terms.old)?;
+    let seen = shown_by(alloc, &terms, &built.notes)?;
     let Terms {
         order: _,
-        old: _,
+        old,
         earlier,
         plan: _,
         waits: _,
         goals: _,
     } = terms;
-    let Earlier { notes, outcomes } = earlier;
+    let Earlier {
+        notes,
+        outcomes,
+        shown: _,
+    } = earlier;
     let Built {
         state,
         notes: last,
@@ -341,6 +356,7 @@ fn moved(alloc: Global, order: Order, done: JobsDone) -> Result<Site, NoMemory>
         earlier: Earlier {
             notes: joined(notes, last)?,
             outcomes: joined(outcomes, ends)?,
+            shown: seen,
         },
     })
 }

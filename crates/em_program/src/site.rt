@@ -27,6 +27,8 @@ pub struct Earlier {
     pub notes: Seq<Note>,
     /// How these jobs ended, in order.
     pub outcomes: Outcomes,
+    /// The pairs that these builds have shown.
+    pub shown: History,
 }
 
 /// Where a build takes place.
@@ -35,7 +37,7 @@ pub struct Site {
     pub order: Order,
     /// The tree from which it starts, with no outcomes.
     pub start: State,
-    /// What the history's file tells, and what the builds before have shown.
+    /// What the history's file tells.
     pub old: History,
     pub earlier: Earlier,
 }
@@ -153,6 +155,7 @@ pub fn site_of<H: Host>(alloc: Global, words: &[Text], host: &mut H) -> Result<S
         earlier: Earlier {
             notes: Seq::new(alloc),
             outcomes: Outcomes::new(alloc),
+            shown: History::new(alloc),
         },
     })
 }

@@ -21,6 +21,7 @@ use Rattle.em_cmdline.specs.declared.order.Order.{Order}
 use Rattle.em_cmdline.specs.Words.{order_of, refusal}
 use Rattle.em_run.specs.Serial.{outputs_of}
 use Rattle.em_engine.specs.declared.note.Note.{Note}
+use Rattle.em_program.specs.declared.site.Earlier.{Earlier}
 use Rattle.em_program.specs.declared.rounds.Remaking.{Remaking}
 use Rattle.em_program.specs.declared.rounds.Step.{Step}
 use Rattle.em_program.specs.declared.site.Site.{Site}
@@ -178,13 +179,13 @@ twin_ways c d f g is quiet = record {
 }
 
 -- a step that is alike is this one with other pairs, notes and waits
-abbrev other_step : Step → List Pair → List Note → List (List ℕ) → Step
-other_step u old notes waits = record {
+abbrev other_step : Step → List Pair → Earlier → List (List ℕ) → Step
+other_step u old past waits = record {
   project = record {
     terms = record {
       order = u.project.terms.order;
       old = old;
-      earlier = record { notes = notes; outcomes = u.project.terms.earlier.outcomes };
+      earlier = record { notes = past.notes; outcomes = u.project.terms.earlier.outcomes; shown = past.shown };
       goals = u.project.terms.goals;
       plan = u.project.terms.plan;
       waits = waits;
@@ -195,13 +196,13 @@ other_step u old notes waits = record {
   remaking = u.remaking;
 }
 
-is_other_step : (u v : Step) → AreSteps u v → other_step u v.project.terms.old v.project.terms.earlier.notes v.project.terms.waits ≡ v
+is_other_step : (u v : Step) → AreSteps u v → other_step u v.project.terms.old v.project.terms.earlier v.project.terms.waits ≡ v
 is_other_step u v same = λ i. record {
   project = record {
     terms = record {
       order = same.project.order i;
       old = v.project.terms.old;
-      earlier = record { notes = v.project.terms.earlier.notes; outcomes = same.project.outcomes i };
+      earlier = record { notes = v.project.terms.earlier.notes; outcomes = same.project.outcomes i; shown = v.project.terms.earlier.shown };
       goals = same.project.goals i;
       plan = same.project.plan i;
       waits = v.project.terms.waits;
@@ -284,7 +285,7 @@ module _ (words : List (List ℕ)) where
 
     -- ---- a build, and what follows it
 
-    module _ (u : Step) (b : Build) (old : List Pair) (earlier : List Note) (waits : List (List ℕ)) (notes : List Note) (on : IsOn words u) where
+    module _ (u : Step) (b : Build) (old : List Pair) (earlier : Earlier) (waits : List (List ℕ)) (notes : List Note) (on : IsOn words u) where
       abbrev v : Step
       v = other_step u old earlier waits
 
@@ -351,8 +352,8 @@ module _ (words : List (List ℕ)) where
     unfolding run_from
     shows_build b c bs cs u v made same on more =
         subst (λ (w : Step). Shows Alike (run_from (b ∷ bs) u) (run_from (c ∷ cs) w) f g) (is_other_step u v same)
-        (subst (λ (d : Build). Shows Alike (run_from (b ∷ bs) u) (run_from (d ∷ cs) (other_step u v.project.terms.old v.project.terms.earlier.notes v.project.terms.waits)) f g) (is_other_build b c made)
-        (shows_said u b v.project.terms.old v.project.terms.earlier.notes v.project.terms.waits c.notes on (run_from bs) (run_from cs) more (outputs_of b.made)))
+        (subst (λ (d : Build). Shows Alike (run_from (b ∷ bs) u) (run_from (d ∷ cs) (other_step u v.project.terms.old v.project.terms.earlier v.project.terms.waits)) f g) (is_other_build b c made)
+        (shows_said u b v.project.terms.old v.project.terms.earlier v.project.terms.waits c.notes on (run_from bs) (run_from cs) more (outputs_of b.made)))
 
     shows_run : (builds others : List Build) → AreMadeAlike builds others → (u v : Step) → AreSteps u v → IsOn words u → Shows Alike (run_from builds u) (run_from others v) f g
     unfolding run_from

@@ -1,4 +1,5 @@
 use Rattle.std.proofs.Common.{refl}
+use Rattle.em_program.specs.declared.stop.Stop.TheVariants.{NoMemory}
 use Rattle.em_program.proofs.Following.{then, leave, finish, ran_out, faults_left}
 use Rattle.em_program.proofs.rounds.remade_step.Goals as goal
 
@@ -7,6 +8,9 @@ returns-in_err-before-clause-told g c = ran_out c.from_residual.ensures.1
 
 pub returns-in_err-round_order-clause-told : goal.returns-in_err-round_order-clause-told
 returns-in_err-round_order-clause-told g c = ran_out c.from_residual-in_err-round_order.ensures.1
+
+pub returns-in_err-round_order-clause-faults : goal.returns-in_err-round_order-clause-faults
+returns-in_err-round_order-clause-faults g c = faults_left c.from_residual-in_err-round_order.result NoMemory _ _ _ c.from_residual-in_err-round_order.ensures.1 refl refl
 
 pub returns-in_err-project-clause-told : goal.returns-in_err-project-clause-told
 returns-in_err-project-clause-told g c = leave _ c.from_residual-in_err-project.ensures.1 (rw c.in_ok-round_order.ensures at c.in_err-project.ensures.told)

@@ -28,7 +28,7 @@ returns-clause-told g c =
     then _ c.in_ok-order.ensures.told
     (then _ c.in_ok-explained.ensures.told
     (then _ c.in_ok-tree.ensures.told
-    (then _ c.in_ok-old.ensures.told (rw (c.fresh.ensures, c.new.ensures, c.new-2.ensures) finish))))
+    (then _ c.in_ok-old.ensures.told (rw (c.fresh.ensures, c.new.ensures, c.new-2.ensures, c.new-3.ensures) finish))))
 
 pub returns-clause-is : goal.returns-clause-is
 returns-clause-is g c = record { bare = rw c.fresh.ensures refl; ranges = c.in_ok-order.ensures.ranges }
