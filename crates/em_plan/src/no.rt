@@ -12,7 +12,7 @@ pub enum PlanNo {
     /// No goal is given, and the makefiles have no default goal.
     #[error("no targets")]
     NoTargets,
-    /// The goals reach more than 65,536 names.
+    /// The goals reach more than 65,536 units: names, groups and double-colon rules.
     #[error("too many jobs")]
     TooManyJobs,
     /// The desk's fuel doesn't suffice; over a tree this never comes.

@@ -14,24 +14,6 @@ pub struct Pre {
     pub jobs: Numbers,
 }
 
-impl Pre {
-    /// An equal prerequisite.
-    pub fn copy(&self, alloc: Global) -> Result<Pre, NoMemory>
-        ensures { IfOk result (λ p. p ≡ self.now) }
-    {
-        Ok(Pre {
-            name: self.name.copy(alloc)?,
-            jobs: self.jobs.copy(alloc)?,
-        })
-    }
-}
-
-impl TryClone for Pre {
-    fn try_clone(&self, alloc: Global) -> Result<Pre, NoMemory> {
-        self.copy(alloc)
-    }
-}
-
 /// What is to be done for one unit: a name, the members of a group, or what one double-colon rule
 /// of a name makes.
 #[derive(Debug, Drop, PartialEq, Eq)]
@@ -73,27 +55,6 @@ pub(crate) fn copied<T: TryClone + Drop>(
     match value {
         None => Ok(None),
         Some(value) => Ok(Some(value.try_clone(alloc)?)),
-    }
-}
-
-impl PlanJob {
-    /// An equal job.
-    pub fn copy(&self, alloc: Global) -> Result<PlanJob, NoMemory>
-        ensures { IfOk result (λ j. j ≡ self.now) }
-    {
-        Ok(PlanJob {
-            target: self.target.copy(alloc)?,
-            targets: self.targets.copy(alloc)?,
-            double: self.double,
-            normal: self.normal.copy(alloc)?,
-            order: self.order.copy(alloc)?,
-            stem: self.stem.copy(alloc)?,
-            recipe: copied(alloc, &self.recipe)?,
-            ruled: self.ruled,
-            phony: self.phony,
-            needed_by: copied(alloc, &self.needed_by)?,
-            waits: Seq::from_vec(Vec::from_slice(alloc, self.waits.items())?),
-        })
     }
 }
 
