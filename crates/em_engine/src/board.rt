@@ -13,7 +13,7 @@ use crate::ready::{Claim, Ready};
 use em_base::{NoMemory, Seq};
 use em_chain::{Post, Versions};
 use em_run::{Run, Spec};
-use em_tree::{Answer, Delta, Entry, Outcome, Question, State};
+use em_tree::{Answer, Delta, Entry, Outcome, Question, State, Usage};
 use std::alloc::Global;
 use std::marker::Model;
 use std::mem;
@@ -29,7 +29,7 @@ pub struct Board<S: Spec> {
     versions: Versions,
     ready: Ready,
     phases: Vec<Phase<S>>,
-    asked: Vec<Seq<Entry>>,
+    asked: Vec<Usage>,
     settled: u32,
     stopped: bool,
     owed: usize,
@@ -268,7 +268,7 @@ impl<S: Spec> Board<S> {
             Phase::Claimed => return Taken::NotYet,
             _ => {}
         }
-        let asked = mem::replace(&mut self.asked[job as usize], Seq::new(self.alloc));
+        let asked = mem::replace(&mut self.asked[job as usize], Usage::new(self.alloc));
         let phase = mem::replace(&mut self.phases[job as usize], Phase::Taken);
         left_by(phase, asked)
     }
@@ -323,7 +323,7 @@ impl<S: Spec> Board<S> {
 }
 
 /// What a job in this phase leaves, with what it asked.
-fn left_by<S: Spec>(phase: Phase<S>, asked: Seq<Entry>) -> Taken<S>
+fn left_by<S: Spec>(phase: Phase<S>, asked: Usage) -> Taken<S>
     ensures { result ≡ left_by phase asked }
 {
     match phase {
@@ -386,12 +386,12 @@ fn free_phases<S: Spec>(alloc: Global, count: usize) -> Result<Vec<Phase<S>>, No
     Ok(phases)
 }
 
-fn no_entries(alloc: Global, count: usize) -> Result<Vec<Seq<Entry>>, NoMemory>
+fn no_entries(alloc: Global, count: usize) -> Result<Vec<Usage>, NoMemory>
     ensures { IfOk result (λ v. v.items ≡ replicate count []) }
 {
     let mut asked = Vec::new(alloc);
     for _ in 0..count {
-        asked.push(Seq::new(alloc))?;
+        asked.push(Usage::new(alloc))?;
     }
     Ok(asked)
 }

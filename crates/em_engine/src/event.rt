@@ -1,7 +1,6 @@
 //! What happens on a board.
-use em_base::Seq;
 use em_run::{Run, Spec};
-use em_tree::{Delta, Entry, Outcome};
+use em_tree::{Delta, Entry, Outcome, Usage};
 
 /// One event of a board's journal. A claim by the committer is a claim as any other.
 #[derive(Drop)]
@@ -43,7 +42,7 @@ pub enum Phase<S: Spec> {
 #[derive(Drop)]
 pub enum Taken<S: Spec> {
     /// Its run, and what the board answered it.
-    Run(Run<S>, Seq<Entry>),
+    Run(Run<S>, Usage),
     /// Nothing: it was given up.
     GivenUp,
     /// Nothing yet: it is being run.

@@ -11,7 +11,7 @@ use crate::note::Verdict;
 use em_base::{NoMemory, Seq, Table, Text};
 use em_path::Path;
 use em_run::{Run, Spec};
-use em_tree::{Answer, Delta, Entry, Question, State};
+use em_tree::{Answer, Delta, Entry, Look, Question, State, Usage};
 use std::alloc::Global;
 use std::marker::Model;
 use std::mem;
@@ -149,32 +149,32 @@ impl<S: Spec> Front<S> {
         }
     }
 
-    /// What is to be found of a run that the board answered so. It takes no memory, and steps for
-    /// each entry as an answer of the state takes.
-    pub fn check(&self, run: &Run<S>, asked: &[Entry]) -> Verdict
+    /// What is to be found of a run that the board answered so. Steps for each look of the usage as
+    /// an answer of the state takes; for each entry where the run is not to be committed.
+    pub fn check(&self, run: &Run<S>, asked: &Usage) -> Result<Verdict, NoMemory>
         requires { IsSome (next_of self.now) }
-        ensures { IfSome (next_of self.now)
-            (λ next. IsVerdict S.eq self.now.state next run.now asked.now result) }
+        ensures { IfOk result (λ verdict. IfSome (next_of self.now)
+            (λ next. IsVerdict S.eq self.now.state next run.now asked.now verdict)) }
     {
         match self.next() {
             Some(next) => self.check_as(next, run, asked),
-            None => Verdict::Foreign,
+            None => Ok(Verdict::Foreign),
         }
     }
 
-    fn check_as(&self, next: &S, run: &Run<S>, asked: &[Entry]) -> Verdict
-        ensures { IsVerdict S.eq self.now.state next.now run.now asked.now result }
+    fn check_as(&self, next: &S, run: &Run<S>, asked: &Usage) -> Result<Verdict, NoMemory>
+        ensures { IfOk result (λ verdict.
+            IsVerdict S.eq self.now.state next.now run.now asked.now verdict) }
     {
         if run.spec() != next {
-            return Verdict::Foreign;
+            return Ok(Verdict::Foreign);
         }
-        let usage = run.usage().items();
-        if let Some(place) = first_apart(usage, asked) {
-            return Verdict::Strange { place };
+        if let Some(place) = apart(self.alloc, run.usage(), asked)? {
+            return Ok(Verdict::Strange { place });
         }
-        match first_wrong(&self.state, usage) {
-            Some(place) => Verdict::Differ { place },
-            None => Verdict::Same,
+        match wrong(self.alloc, &self.state, run.usage())? {
+            Some(place) => Ok(Verdict::Differ { place }),
+            None => Ok(Verdict::Same),
         }
     }
 
@@ -264,6 +264,40 @@ fn lay_run<S: Spec>(alloc: Global, state: &mut State, run: &Run<S>) -> Result<()
     }
 }
 
+/// The first number at which the usages differ. The looks are compared first: where they are the
+/// same nothing more is to be looked at.
+fn apart(alloc: Global, one: &Usage, other: &Usage) -> Result<Option<usize>, NoMemory>
+    ensures { IfOk result (λ place. MatchOption place (one.now ≡ other.now)
+        (λ i. IsFirstApart one.now other.now i)) }
+{
+    if same_looks(one.looks(), other.looks()) {
+        return Ok(None);
+    }
+    let es = one.entries(alloc)?;
+    let fs = other.entries(alloc)?;
+    Ok(first_apart(es.as_slice(), fs.as_slice()))
+}
+
+fn same_looks(ls: &[Look], ms: &[Look]) -> bool
+    ensures { IsTrue result ↔ (ls.now ≡ ms.now) }
+{
+    if ls.len() != ms.len() {
+        return false;
+    }
+    for i in 0..ls.len() {
+        if !same_look(&ls[i], &ms[i]) {
+            return false;
+        }
+    }
+    true
+}
+
+fn same_look(l: &Look, m: &Look) -> bool
+    ensures { IsTrue result ↔ (l.now ≡ m.now) }
+{
+    l.clear == m.clear && same_entry(&l.entry, &m.entry)
+}
+
 /// The first number at which the lists differ.
 fn first_apart(es: &[Entry], fs: &[Entry]) -> Option<usize>
     ensures { MatchOption result (es.now ≡ fs.now) (λ i. IsFirstApart es.now fs.now i) }
@@ -317,6 +351,18 @@ fn same_answer(a: &Answer, b: &Answer) -> bool
 }
 
 /// The number of the first entry with which the state disagrees.
+fn wrong(alloc: Global, state: &State, usage: &Usage) -> Result<Option<usize>, NoMemory>
+    ensures { IfOk result (λ place. MatchOption place (Agrees state.now usage.now)
+        (λ i. IsFirstWrong state.now usage.now i)) }
+{
+    if state.agrees_all(alloc, usage)? {
+        return Ok(None);
+    }
+    let es = usage.entries(alloc)?;
+    Ok(first_wrong(state, es.as_slice()))
+}
+
+/// The same of entries one by one.
 fn first_wrong(state: &State, es: &[Entry]) -> Option<usize>
     ensures { MatchOption result (Agrees state.now es.now) (λ i. IsFirstWrong state.now es.now i) }
 {

@@ -8,7 +8,7 @@ use crate::prepare::prepare_job;
 use crate::ready::read;
 use crate::spec::JobSpec;
 use crate::stop::{Stop, end_of, put_stop};
-use em_base::{Fuel, NoMemory, Seq, Text};
+use em_base::{Fuel, NoMemory, Text};
 use em_expand::Spoken;
 use em_run::{Run, Spec, Work};
 use em_tree::Outcome;
@@ -61,6 +61,6 @@ impl Work<JobSpec> for JobWork {
         let ended = carry_out(alloc, &mut desk, &mut spoken, job, course);
         let (output, outcome) = close(job.plan.get().target.bytes(), ended, spoken)?;
         let (usage, delta, used) = desk.close();
-        Ok(Run::new(spec, Seq::from_vec(usage), delta, output, outcome, used))
+        Ok(Run::new(spec, usage, delta, output, outcome, used))
     }
 }

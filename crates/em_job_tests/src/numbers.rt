@@ -108,12 +108,12 @@ fn found(
 ) -> Result<(bool, bool), Fail>
     requires { state.outcomes ≡ [] }
 {
-    let usage = run.usage().items();
-    let agrees = agrees(alloc, &state, usage)?;
+    let usage = run.usage();
+    let agrees = agrees(alloc, &state, usage.entries(alloc)?.as_slice())?;
     let (_start, jobs) = read_jobs(alloc, makefile)?;
     let front = front_from(alloc, state, jobs.specs)?;
     match front.next() {
-        Some(_) => Ok((front.check(run, usage) == Verdict::Same, agrees)),
+        Some(_) => Ok((front.check(run, usage)? == Verdict::Same, agrees)),
         None => Err("no job".into()),
     }
 }

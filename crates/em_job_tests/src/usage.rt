@@ -1,11 +1,11 @@
 //! What a job asks of a view whose answers change, and what a front finds of its run.
 use super::makefiles::{read_jobs, state_of};
-use em_base::{Seq, Text};
+use em_base::{NoMemory, Seq, Text};
 use em_engine::Verdict;
 use em_job::{JobSpec, JobWork};
 use em_run::{Run, Work};
 use em_testing::front_from;
-use em_tree::{Answer, Entry, Kind, Outcome, Question, State};
+use em_tree::{Answer, Entry, Kind, Outcome, Question, State, Usage};
 use em_view::ScriptView;
 use std::alloc::Global;
 use std::test::Fail;
@@ -118,13 +118,22 @@ fn is_told(usage: &[Entry]) -> bool {
 #[test]
 fn a_job_tells_what_it_was_told(rt: HostRuntime) -> Result<(), Fail> {
     let run = run_of(rt.alloc())?;
-    let is_told = is_told(run.usage().items());
+    let is_told = is_told(run.usage().entries(rt.alloc())?.as_slice());
     assert!(rt; is_told);
     let output = run.output().bytes();
     assert_eq!(rt; output, b"x\nemake: cat: d/x: absent\nd\n".as_slice());
     let is_made = matches!(run.outcome(), Outcome::Made);
     assert!(rt; is_made);
     Ok(())
+}
+
+/// The first entries.
+fn first(alloc: Global, entries: &[Entry], count: usize) -> Result<Usage, NoMemory> {
+    let mut usage = Usage::new(alloc);
+    for entry in entries.iter().take(count) {
+        usage.push(entry.copy(alloc)?)?;
+    }
+    Ok(usage)
 }
 
 /// What a front that stands on this state finds of the run, where the board has answered its first
@@ -138,9 +147,9 @@ fn found(
     let state = state_of(alloc, image)?;
     let jobs = jobs(alloc)?;
     let front = front_from(alloc, state, jobs)?;
-    let asked = run.usage().items().get(..count).unwrap_or(&[]);
+    let asked = first(alloc, run.usage().entries(alloc)?.as_slice(), count)?;
     Ok(match front.next() {
-        Some(_) => Some(front.check(run, asked)),
+        Some(_) => Some(front.check(run, &asked)?),
         None => None,
     })
 }

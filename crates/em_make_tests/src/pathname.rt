@@ -52,7 +52,7 @@ fn is_first(names: &[Text], wanted: Option<&[u8]>) -> bool {
 fn is_row(alloc: Global, state: &State, row: &Row) -> Result<bool, Fail> {
     let mut desk = Desk::new(alloc, PlainView::new(state), 1, 0, Fuel::new(100));
     let names = names(alloc, row, &mut desk)?;
-    let asked = desk.close().0.len();
+    let asked = desk.close().0.entries(alloc)?.len();
     Ok(is_first(names.items(), row.2) && asked == row.3)
 }
 

@@ -3,7 +3,7 @@
 use crate::making::Making;
 use crate::spec::MakeSpec;
 use crate::turns::Turns;
-use em_base::{Fuel, NoMemory, Seq, Text};
+use em_base::{Fuel, NoMemory, Text};
 use em_run::{Run, Spec, Work};
 use em_steps::JobSteps;
 use em_submake::make;
@@ -35,6 +35,6 @@ impl Work<MakeSpec> for MakeWork {
         let steps = JobSteps::begin(alloc, spec.job(), None, 0)?;
         let outcome = make(alloc, Turns { steps }, &Making, &mut desk, &mut output)?;
         let (usage, delta, used) = desk.close();
-        Ok(Run::new(spec, Seq::from_vec(usage), delta, output, outcome, used))
+        Ok(Run::new(spec, usage, delta, output, outcome, used))
     }
 }

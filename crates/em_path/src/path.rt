@@ -136,6 +136,22 @@ impl Path {
         Some(&text[last_slash(text) + 1..])
     }
 
+    /// The text of the path without its last component; `None` for the root alone. It takes no
+    /// memory, and a step for each byte of that component.
+    pub fn parent_text(&self) -> Option<&[u8]>
+        ensures { option_copied result ≡ parent_text self.now }
+    {
+        let text = self.text();
+        if text.len() == 1 {
+            return None;
+        }
+        let at = last_slash(text);
+        if at == 0 {
+            return Some(b"/");
+        }
+        Some(&text[..at])
+    }
+
     /// The path without its last component, over the same bytes; `None` for the root alone. The
     /// only error is `NoMemory`, which comes neither for the root nor for what stands right under
     /// it.

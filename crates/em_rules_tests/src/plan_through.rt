@@ -85,7 +85,7 @@ fn through<V: View>(
     let mut text = Text::new(alloc);
     show_plan(&plan, &mut text)?;
     let (usage, _, _) = desk.close();
-    show_asked(&usage, &mut text)?;
+    show_asked(&usage.entries(alloc)?, &mut text)?;
     Ok((plan, text))
 }
 

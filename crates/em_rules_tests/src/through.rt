@@ -82,7 +82,7 @@ fn through<V: View>(alloc: Global, view: V, units: u64) -> Result<Text, Fail> {
     let mut text = Text::new(alloc);
     show_found(found, &mut text)?;
     let (usage, _, _) = desk.close();
-    show_asked(&usage, &mut text)?;
+    show_asked(&usage.entries(alloc)?, &mut text)?;
     Ok(text)
 }
 

@@ -3,8 +3,8 @@ ghost use Rattle.std.specs.Prelude.{◌≡◌};
 ghost use Rattle.em_run.specs.Runs.{IsValid};
 
 use crate::spec::Spec;
-use em_base::{Seq, Text};
-use em_tree::{Delta, Entry, Outcome};
+use em_base::Text;
+use em_tree::{Delta, Outcome, Usage};
 use std::marker::Model;
 
 /// What a run holds.
@@ -13,7 +13,7 @@ pub struct Parts<S> {
     /// What the job was asked to do.
     pub spec: S,
     /// What it asked and was answered, in order.
-    pub usage: Seq<Entry>,
+    pub usage: Usage,
     /// What it changed.
     pub delta: Delta,
     /// What it said.
@@ -50,7 +50,7 @@ impl<S: Spec> Run<S> {
     /// A valid run with these parts. It takes no memory.
     pub fn new(
         spec: S,
-        usage: Seq<Entry>,
+        usage: Usage,
         delta: Delta,
         output: Text,
         outcome: Outcome,
@@ -95,7 +95,7 @@ impl<S: Spec> Run<S> {
     }
 
     /// What it asked and was answered, in order.
-    pub fn usage(&self) -> &Seq<Entry>
+    pub fn usage(&self) -> &Usage
         ensures { result.now ≡ self.now.usage }
     {
         &self.parts.usage

@@ -9,7 +9,7 @@ ghost use Rattle.em_run.specs.Examples.{said, mark, end_of, is_failed, same_part
 ghost use Rattle.em_run.specs.Meanings.{fresh, end_in, effect_by, used_by};
 
 use super::*;
-use em_base::{Fuel, NoMemory, Seq, Text};
+use em_base::{Fuel, NoMemory, Text};
 use em_path::Path;
 use em_tree::{Kind, Outcome};
 use em_view::{Desk, DeskNo, View};
@@ -118,7 +118,6 @@ impl Work<Mark> for Marker {
         let mut output = Text::new(alloc);
         let outcome = ended(make(&mut desk, &spec.path, &mut output))?;
         let (usage, delta, used) = desk.close();
-        let usage = Seq::from_vec(usage);
         let run = Run::new(spec, usage, delta, output, outcome, used);
         Ok(run)
     }

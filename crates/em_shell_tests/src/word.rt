@@ -257,7 +257,7 @@ fn say_usage(text: &mut Text, usage: &[Entry]) {
 /// What was asked over a desk, and the units used.
 fn say_desk<V: View>(alloc: Global, desk: Desk<V>, text: &mut Text) -> Result<(), Fail> {
     let (usage, _, used) = desk.close();
-    say_usage(text, &usage);
+    say_usage(text, &usage.entries(alloc)?);
     let digits = format!(in alloc; "|{used}")?;
     put_all(text, &[digits.as_bytes()]);
     Ok(())

@@ -8,7 +8,7 @@ ghost use Rattle.em_run.specs.Examples.{said, end_of, is_failed};
 ghost use Rattle.em_run.specs.Meanings.{fresh, end_in, effect_by, used_by};
 ghost use Rattle.em_testing.specs.Links.{grown, link, same_links};
 
-use em_base::{Fuel, NoMemory, Seq, Text};
+use em_base::{Fuel, NoMemory, Text};
 use em_path::Path;
 use em_run::{Run, Spec, Work};
 use em_tree::{Body, Outcome, Outcomes, State, Tree};
@@ -121,7 +121,6 @@ impl Work<Link> for Linker {
         let mut output = Text::new(alloc);
         let outcome = ended(make(alloc, &mut desk, &spec.before, &spec.path, &mut output))?;
         let (usage, delta, used) = desk.close();
-        let usage = Seq::from_vec(usage);
         let run = Run::new(spec, usage, delta, output, outcome, used);
         Ok(run)
     }

@@ -6,4 +6,5 @@ pub mod Naming
 pub mod Lawful
 pub mod Pairs
 pub mod Flagging
+pub mod Keeping
 pub mod Resolving

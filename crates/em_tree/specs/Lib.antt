@@ -3,6 +3,7 @@ pub mod Index
 pub mod Steps
 pub mod Names
 pub mod Answers
+pub mod Usages
 pub mod Resolving
 pub mod Flags
 pub mod LinkTexts

@@ -13,6 +13,7 @@ mod outcome;
 mod question;
 mod state;
 mod tree;
+mod usage;
 mod way;
 
 pub use delta::Delta;
@@ -23,4 +24,5 @@ pub use outcome::{Outcome, Outcomes};
 pub use question::{Answer, Entry, Question};
 pub use state::State;
 pub use tree::Tree;
+pub use usage::{Clear, Look, Usage, add_entry};
 pub use way::{LEVELS, Led, MOST, Met, Way, dir_of, onward};

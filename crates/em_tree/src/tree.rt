@@ -1,5 +1,6 @@
 //! Trees.
 ghost use Rattle.std.specs.Prelude.{◌≡◌, ◌≤◌, [], ◌∷◌, IfOk, OnOk, OnErr, Some, None, IsSome, length, option_copied, option_map, slice_get, unwrap_or, IsTrue, ◌↔◌};
+ghost use Rattle.em_tree.specs.Flags.{HasNone};
 ghost use Rattle.em_tree.specs.Names.{children_of, names_of};
 ghost use Rattle.std.specs.FinMap as map;
 ghost use Rattle.em_path.specs.Paths.{root_text};
@@ -128,6 +129,13 @@ impl Tree {
             Some(n) => n.link(),
             None => None,
         }
+    }
+
+    /// Whether it surely has no symbolic link. It may have none and not say so.
+    pub(crate) fn is_bare(&self) -> bool
+        ensures { IsTrue result → HasNone self.now }
+    {
+        !self.linked
     }
 
     /// The greatest stamp.

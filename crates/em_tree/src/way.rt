@@ -32,7 +32,7 @@ pub enum Way {
     To(Path),
     /// There is a link more on the way than may be followed.
     TooMany,
-    /// What a link on the way says leads to no path.
+    /// What a link on the way says, with what the path has behind the link, is no path.
     Bad,
 }
 
@@ -146,7 +146,8 @@ impl Tree {
 
     /// The path to which a path leads: each link on its way is followed, the last component too, as
     /// POSIX resolves a pathname; `..` in the text of a link is resolved before any link. `None`
-    /// exactly where more than 40 links would be followed, or where a link's text leads to no path.
+    /// exactly where more than 40 links would be followed, or where a link's text, with what stands
+    /// behind the link, is no path.
     /// In a tree without links it costs a copy that shares the bytes; else a search for each
     /// component, once more for each link that is followed.
     pub fn resolve(&self, p: &Path) -> Result<Option<Path>, NoMemory>

@@ -137,16 +137,16 @@ fn show_usage(usage: &[Entry], log: &mut Text) -> Result<(), NoMemory> {
     Ok(())
 }
 
-fn show_desk<V: View>(desk: Desk<V>, log: &mut Text) -> Result<(), NoMemory> {
+fn show_desk<V: View>(alloc: Global, desk: Desk<V>, log: &mut Text) -> Result<(), NoMemory> {
     let (usage, _changes, _fuel) = desk.close();
-    show_usage(&usage, log)
+    show_usage(&usage.entries(alloc)?, log)
 }
 
 /// What a script writes over a desk, and what it asks.
 fn run_to_end<V: View>(alloc: Global, script: &str, desk: Desk<V>) -> Result<Text, Fail> {
     let mut desk = desk;
     let mut log = run(alloc, script, &mut desk)?;
-    show_desk(desk, &mut log)?;
+    show_desk(alloc, desk, &mut log)?;
     Ok(log)
 }
 

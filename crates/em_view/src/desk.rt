@@ -2,7 +2,7 @@
 ghost use Rattle.std.specs.Prelude.{◌≡◌, ◌≢◌, ◌+◌, ◌<◌, ◌≤◌, ◌^◌, ◌↔◌, ◌∷◌, ◌++◌, [], ℕ, IfOk, IfErr, IfSome, OnOk, OnErr, IsErr, option_copied};
 ghost use Rattle.std.specs.FinMap as map;
 ghost use Rattle.em_tree.specs.declared.question.Question.{Question};
-ghost use Rattle.em_tree.specs.declared.question.Entry.{Entry};
+ghost use Rattle.em_tree.specs.Usages.{flat};
 ghost use Rattle.em_view.specs.declared.no.DeskNo.TheVariants as no;
 ghost use Rattle.em_view.specs.Actions.{ask, ready, spend};
 ghost use Rattle.em_view.specs.Asking.{Asks};
@@ -14,7 +14,7 @@ use crate::no::DeskNo;
 use crate::view::View;
 use em_base::{Fuel, Spent};
 use em_path::Path;
-use em_tree::{Answer, Delta, Entry, Node, Question};
+use em_tree::{Answer, Delta, Entry, Look, Node, Question, Usage, add_entry};
 use std::alloc::Global;
 use std::marker::Model;
 
@@ -26,7 +26,7 @@ use std::marker::Model;
 pub struct Desk<V> {
     pub(crate) alloc: Global,
     pub(crate) view: V,
-    pub(crate) usage: Vec<Entry>,
+    pub(crate) usage: Vec<Look>,
     pub(crate) base: u64,
     pub(crate) job: u32,
     pub(crate) given: u64,
@@ -37,6 +37,7 @@ pub struct Desk<V> {
 
 impl<V> Model for Desk<V> {
     ghost use Rattle.std.specs.Prelude.{map};
+    ghost use Rattle.em_tree.specs.Usages.{flat};
     ghost use Rattle.em_view.specs.Performs.{DeskState};
     ghost use Rattle.em_view.specs.Codes.{desk_code};
     ghost use Rattle.em_view.specs.Asking.{Asks};
@@ -48,7 +49,7 @@ impl<V> Model for Desk<V> {
 
     ghost view = { λ d. record {
       view = d.view;
-      usage = d.usage.items;
+      usage = flat d.usage.items;
       work = record {
         base = d.base;
         job = d.job;
@@ -56,26 +57,27 @@ impl<V> Model for Desk<V> {
         fuel = d.fuel;
         count = d.count;
         changes = d.changes;
-        asked = map (λ e. e.question) d.usage.items;
+        asked = map (λ e. e.question) (flat d.usage.items);
       };
     } };
 
-    ghost invariant = { λ d. IsSound d.base d.given d.fuel d.count d.usage.items d.changes };
+    ghost invariant = { λ d. IsSound d.base d.given d.fuel d.count (flat d.usage.items) d.changes };
 }
 
 /// Asks, and keeps the answer. What was answered is kept also where memory then runs out.
 fn ask_view<V: View>(
     alloc: Global,
     view: &mut V,
-    usage: &mut Vec<Entry>,
+    usage: &mut Vec<Look>,
     question: Question,
 ) -> Result<Answer, DeskNo>
-    ensures { Asks V.tells question view.old view.new usage.old.items usage.new.items result }
+    ensures { Asks V.tells question view.old view.new
+        (flat usage.old.items) (flat usage.new.items) result }
 {
     usage.reserve(1)?;
     let answer = view.ask(alloc, &question)?;
     let copy = answer.copy(alloc);
-    usage.push_reserved(Entry { question, answer });
+    add_entry(usage, Entry { question, answer });
     Ok(copy?)
 }
 
@@ -133,14 +135,14 @@ impl<V: View> Desk<V> {
     }
 
     /// The answers in order, the changes, and the fuel that was used.
-    pub fn close(self) -> (Vec<Entry>, Delta, u64)
-        ensures usage { result.0.items ≡ self.usage }
+    pub fn close(self) -> (Usage, Delta, u64)
+        ensures usage { result.0 ≡ self.usage }
         ensures changes { result.1 ≡ self.work.changes }
         ensures used { result.2 + self.work.fuel ≡ self.work.given }
         ensures fits { Fits self.usage self.work.changes }
     {
         let used = self.given - self.fuel.left();
-        (self.usage, self.changes, used)
+        (Usage::from_looks(self.usage), self.changes, used)
     }
 
     /// Takes n units, or is spent: `spend`, as an action.

@@ -28,7 +28,7 @@ pub enum FileNo {
     /// More than 40 would be followed.
     #[error("too many links")]
     TooManyLinks,
-    /// What a link says leads to no path.
+    /// What a link says, with what stands behind it in the name, is no path.
     #[error("bad path")]
     LinkPath,
 }

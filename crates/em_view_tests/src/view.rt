@@ -30,6 +30,7 @@ mod links;
 mod rows;
 mod scripts;
 mod shapes;
+mod usage;
 mod walks;
 
 /// The calls, the units that there are for them, and what is expected.
@@ -374,10 +375,11 @@ fn show_end(
     show_changes(log, changes)
 }
 
-fn finish<V: View>(desk: Desk<V>, log: &mut String) -> Result<(), AllocError> {
+fn finish<V: View>(alloc: Global, desk: Desk<V>, log: &mut String) -> Result<(), NoMemory> {
     let left = desk.left();
     let (usage, changes, used) = desk.close();
-    show_end(log, usage.as_slice(), &changes, left, used)
+    let entries = usage.entries(alloc)?;
+    Ok(show_end(log, entries.as_slice(), &changes, left, used)?)
 }
 
 /// What the calls of a job give, in the order of the script, and what is left of its desk.
@@ -391,7 +393,7 @@ fn run<V: View>(
 ) -> Result<(), NoMemory> {
     let mut desk = Desk::new(alloc, view, 100, job, Fuel::new(u64::from(fuel)));
     steps(alloc, &mut desk, script, log)?;
-    Ok(finish(desk, log)?)
+    finish(alloc, desk, log)
 }
 
 /// The calls over the states, one for each question and the last one for all that come then.

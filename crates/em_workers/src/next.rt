@@ -10,7 +10,7 @@ use crate::gate::{Gate, GatedView};
 use em_base::{NoMemory, Text};
 use em_engine::{Cause, Front, Note, Taken, Verdict};
 use em_run::{Run, Spec, Work};
-use em_tree::{Delta, Entry, Outcome};
+use em_tree::{Delta, Entry, Outcome, Usage};
 use em_view::PlainView;
 use std::alloc::Global;
 
@@ -90,14 +90,12 @@ fn differ<S: Spec>(
     })
 }
 
-fn entry_at(alloc: Global, entries: &[Entry], place: usize) -> Result<Option<Entry>, NoMemory>
-    ensures { IfOk result (λ e. e ≡ slice_get entries.now place) }
+fn entry_at(alloc: Global, usage: &Usage, place: usize) -> Result<Option<Entry>, NoMemory>
+    ensures { IfOk result (λ e. e ≡ slice_get usage.now place) }
 {
+    let entries = usage.entries(alloc)?;
     match entries.get(place) {
-        Some(e) => Ok(Some(Entry {
-            question: e.question.copy()?,
-            answer: e.answer.copy(alloc)?,
-        })),
+        Some(entry) => Ok(Some(entry.copy(alloc)?)),
         None => Ok(None),
     }
 }
@@ -107,23 +105,22 @@ fn cause_of<S: Spec>(
     alloc: Global,
     front: &Front<S>,
     run: &Run<S>,
-    asked: &[Entry],
+    asked: &Usage,
     verdict: Verdict,
 ) -> Result<Option<Cause>, NoMemory>
     ensures { IfOk result (λ cause. cause
         ≡ turns.cause_of front.now.state front.now.deltas run.now asked.now verdict) }
 {
-    let usage = run.usage().items();
     Ok(match verdict {
         Verdict::Same => None,
         Verdict::Foreign => Some(Cause::Foreign),
         Verdict::Strange { place } => Some(Cause::Strange {
             place,
             board: entry_at(alloc, asked, place)?,
-            run: entry_at(alloc, usage, place)?,
+            run: entry_at(alloc, run.usage(), place)?,
         }),
-        Verdict::Differ { place } => match usage.get(place) {
-            Some(entry) => Some(differ(alloc, front, place, entry)?),
+        Verdict::Differ { place } => match entry_at(alloc, run.usage(), place)? {
+            Some(entry) => Some(differ(alloc, front, place, &entry)?),
             None => None,
         },
     })
@@ -134,7 +131,7 @@ fn rerun_for<S: Spec, W: Work<S>, G: Gate>(
     alloc: Global,
     front: &mut Front<S>,
     run: &Run<S>,
-    asked: &[Entry],
+    asked: &Usage,
     verdict: Verdict,
     w: &W,
     gate: &G,
@@ -156,7 +153,7 @@ fn turn_run<S: Spec, W: Work<S>, G: Gate>(
     alloc: Global,
     front: &mut Front<S>,
     run: Run<S>,
-    asked: &[Entry],
+    asked: &Usage,
     w: &W,
     gate: &G,
 ) -> Result<(Committed, Option<Cause>), NoMemory>
@@ -167,7 +164,7 @@ fn turn_run<S: Spec, W: Work<S>, G: Gate>(
         IsFound S.eq front.old.state front.old.deltas next run asked.now r.1)) }
     ensures err { OnErr result (front.new ≡ front.old) }
 {
-    let verdict = front.check(&run, asked);
+    let verdict = front.check(&run, asked)?;
     match verdict {
         Verdict::Same => Ok((commit_run(alloc, front, run)?, None)),
         _ => rerun_for(alloc, front, &run, asked, verdict, w, gate),
@@ -198,7 +195,7 @@ pub fn turn<S: Spec, W: Work<S>, G: Gate>(
     let job = next_job(front);
     let (committed, cause) = match taken {
         None => (rerun(alloc, front, w, gate)?, None),
-        Some(Taken::Run(run, asked)) => turn_run(alloc, front, run, asked.items(), w, gate)?,
+        Some(Taken::Run(run, asked)) => turn_run(alloc, front, run, &asked, w, gate)?,
         Some(_) => (rerun(alloc, front, w, gate)?, Some(Cause::WantOfMemory)),
     };
     let runs = if cause.is_some() { 2 } else { 1 };

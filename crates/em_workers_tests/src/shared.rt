@@ -138,7 +138,7 @@ fn show_taken(taken: &Option<Taken<Link>>, log: &mut String) -> Result<(), Alloc
         Some(Taken::GivenUp) => log.push_str("given up"),
         Some(Taken::Run(run, asked)) => {
             let job = run.spec().job;
-            let asks = asked.len();
+            let asks = asked.looks().len();
             write!(log, "run of {job} with {asks} asks")
         }
     }

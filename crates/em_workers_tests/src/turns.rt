@@ -3,11 +3,11 @@ ghost use Rattle.std.specs.Prelude.{IfOk, IfSome};
 ghost use Rattle.em_shared.specs.Waited.{IsLent};
 
 use super::shows::show_committed;
-use em_base::{NoMemory, Seq};
+use em_base::NoMemory;
 use em_engine::{Front, Note, Taken};
 use em_run::Run;
 use em_testing::{Link, Linker, Plan, front_of, run_at_root, run_of, show_note};
-use em_tree::{Entry, State};
+use em_tree::{Entry, State, Usage};
 use em_workers::{Committed, OpenGate, turn};
 use std::alloc::{AllocError, Global};
 use std::test::Fail;
@@ -57,8 +57,8 @@ fn other_state(alloc: Global) -> Result<State, Fail> {
 }
 
 /// The first entries of a usage.
-fn first(alloc: Global, entries: &[Entry], count: usize) -> Result<Seq<Entry>, NoMemory> {
-    let mut asked = Seq::new(alloc);
+fn first(alloc: Global, entries: &[Entry], count: usize) -> Result<Usage, NoMemory> {
+    let mut asked = Usage::new(alloc);
     for entry in entries.iter().take(count) {
         let copy = entry.copy(alloc)?;
         asked.push(copy)?;
@@ -74,7 +74,8 @@ pub(super) fn run_lent(
 ) -> Result<Option<Taken<Link>>, NoMemory>
     ensures { IfOk result (λ t. IfSome t IsLent) }
 {
-    let asked = first(alloc, run.usage().items(), count)?;
+    let entries = run.usage().entries(alloc)?;
+    let asked = first(alloc, entries.as_slice(), count)?;
     Ok(Some(Taken::Run(run, asked)))
 }
 

@@ -6,7 +6,7 @@ use crate::common::{path, root};
 use em_base::{NoMemory, Seq};
 use em_engine::{Board, Claim, Taken};
 use em_run::{Run, Spec};
-use em_tree::{Answer, Delta, Entry, Kind, Outcome, Question};
+use em_tree::{Answer, Delta, Kind, Look, Outcome, Question};
 use std::alloc::{AllocError, Global};
 use std::test::Fail;
 
@@ -148,16 +148,17 @@ fn show_taken(taken: &Taken<Mark>, log: &mut String) -> Result<(), AllocError> {
     match taken {
         Taken::Run(_, asked) => {
             log.push_str("run ")?;
-            show_asked(asked.items(), log)
+            show_asked(asked.looks(), log)
         }
         Taken::GivenUp => log.push_str("gave "),
         Taken::NotYet => log.push_str("wait "),
     }
 }
 
-fn show_asked(asked: &[Entry], log: &mut String) -> Result<(), AllocError> {
-    for entry in asked {
-        show_answer(&entry.answer, log)?;
+/// No link is asked for here, so each look is one entry.
+fn show_asked(asked: &[Look], log: &mut String) -> Result<(), AllocError> {
+    for look in asked {
+        show_answer(&look.entry.answer, log)?;
     }
     Ok(())
 }

@@ -8,7 +8,7 @@ use crate::common::{path, root, show_bytes};
 use em_base::{NoMemory, Seq, Text};
 use em_engine::{Front, Verdict};
 use em_run::Run;
-use em_tree::{Entry, Question};
+use em_tree::{Entry, Question, Usage};
 use std::alloc::{AllocError, Global};
 use std::test::Fail;
 
@@ -42,11 +42,23 @@ fn front(alloc: Global) -> Result<Front<Mark>, Fail> {
 }
 
 /// What the front finds of a run, where there is a next job.
-fn verdict(front: &Front<Mark>, run: &Run<Mark>, asked: &[Entry]) -> Option<Verdict> {
+fn verdict(
+    front: &Front<Mark>,
+    run: &Run<Mark>,
+    asked: &Usage,
+) -> Result<Option<Verdict>, NoMemory> {
     if front.next().is_none() {
-        return None;
+        return Ok(None);
     }
-    Some(front.check(run, asked))
+    Ok(Some(front.check(run, asked)?))
+}
+
+fn usage_of(alloc: Global, entries: &[Entry]) -> Result<Usage, NoMemory> {
+    let mut usage = Usage::new(alloc);
+    for entry in entries {
+        usage.push(entry.copy(alloc)?)?;
+    }
+    Ok(usage)
 }
 
 fn show_verdict(verdict: Option<Verdict>, log: &mut String) -> Result<(), AllocError> {
@@ -61,25 +73,28 @@ fn show_verdict(verdict: Option<Verdict>, log: &mut String) -> Result<(), AllocE
 
 /// A run that agrees, with what it asked, with less of it, and one of another spec.
 fn show_found(
+    alloc: Global,
     front: &Front<Mark>,
     run: &Run<Mark>,
     other: &Run<Mark>,
     log: &mut String,
-) -> Result<(), AllocError> {
-    let asked = run.usage().items();
-    if asked.len() != 5 {
-        return log.push_str("not five ");
+) -> Result<(), NoMemory> {
+    let entries = run.usage().entries(alloc)?;
+    if entries.len() != 5 {
+        return Ok(log.push_str("not five ")?);
     }
-    show_verdict(verdict(front, run, asked), log)?;
-    show_verdict(verdict(front, run, &asked[..2]), log)?;
-    show_verdict(verdict(front, run, &asked[1..]), log)?;
-    show_verdict(verdict(front, other, asked), log)
+    let less = usage_of(alloc, &entries[..2])?;
+    let later = usage_of(alloc, &entries[1..])?;
+    show_verdict(verdict(front, run, run.usage())?, log)?;
+    show_verdict(verdict(front, run, &less)?, log)?;
+    show_verdict(verdict(front, run, &later)?, log)?;
+    Ok(show_verdict(verdict(front, other, run.usage())?, log)?)
 }
 
 fn find(alloc: Global, front: &Front<Mark>, log: &mut String) -> Result<(), NoMemory> {
     let run = run_on(alloc, 0, 20, front.state())?;
     let other = run_on(alloc, 0, 19, front.state())?;
-    Ok(show_found(front, &run, &other, log)?)
+    show_found(alloc, front, &run, &other, log)
 }
 
 fn find_all(alloc: Global, log: &mut String) -> Result<(), Fail> {
@@ -100,8 +115,8 @@ fn commit(front: &mut Front<Mark>, run: Run<Mark>) -> Option<Text> {
     if front.next().is_none() {
         return None;
     }
-    match front.check(&run, run.usage().items()) {
-        Verdict::Same => {}
+    match front.check(&run, run.usage()) {
+        Ok(Verdict::Same) => {}
         _ => return None,
     }
     match front.commit(run) {
@@ -133,7 +148,7 @@ fn commit_job(
 fn commit_first(alloc: Global, front: &mut Front<Mark>, log: &mut String) -> Result<(), NoMemory> {
     let stale = run_on(alloc, 1, 20, front.state())?;
     commit_job(alloc, front, 0, log)?;
-    Ok(show_verdict(verdict(front, &stale, stale.usage().items()), log)?)
+    Ok(show_verdict(verdict(front, &stale, stale.usage())?, log)?)
 }
 
 fn show_maker(

@@ -8,7 +8,7 @@ ghost use Rattle.em_run.specs.Examples.{said, mark, end_of, is_failed, same_part
 ghost use Rattle.em_run.specs.Meanings.{fresh, end_in, effect_by, used_by};
 
 use crate::common::{path, root};
-use em_base::{Fuel, NoMemory, Seq, Text};
+use em_base::{Fuel, NoMemory, Text};
 use em_path::Path;
 use em_run::{Run, Spec, Work};
 use em_tree::{Kind, Outcome, State};
@@ -115,7 +115,6 @@ impl Work<Mark> for Marker {
         let mut output = Text::new(alloc);
         let outcome = ended(make(&mut desk, &spec.path, &mut output))?;
         let (usage, delta, used) = desk.close();
-        let usage = Seq::from_vec(usage);
         let run = Run::new(spec, usage, delta, output, outcome, used);
         Ok(run)
     }

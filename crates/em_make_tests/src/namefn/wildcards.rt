@@ -26,7 +26,7 @@ fn call<V: View>(alloc: Global, cwd: &Path, patterns: &str, desk: &mut Desk<V>, 
 /// What was asked over a desk, and the units used.
 fn show_desk<V: View>(alloc: Global, desk: Desk<V>, to: &mut Text) -> Result<(), Fail> {
     let (usage, _, used) = desk.close();
-    show_usage(to, &usage);
+    show_usage(to, &usage.entries(alloc)?);
     let digits = format!(in alloc; " | {used}")?;
     put_all(to, &[digits.as_bytes()]);
     Ok(())

@@ -53,11 +53,11 @@ fn links_that_do_not_fit_are_taken_as_they_come(rt: HostRuntime) -> Result<(), F
 }
 
 /// How many questions were asked, and the units.
-fn count_end<V: View>(desk: Desk<V>, log: &mut String) -> Result<(), AllocError> {
+fn count_end<V: View>(alloc: Global, desk: Desk<V>, log: &mut String) -> Result<(), NoMemory> {
     let left = desk.left();
     let (usage, _changes, used) = desk.close();
-    let asked = usage.len();
-    write!(log, "| {asked} | {left}+{used}")
+    let asked = usage.entries(alloc)?.len();
+    Ok(write!(log, "| {asked} | {left}+{used}")?)
 }
 
 fn count<V: View>(
@@ -69,7 +69,7 @@ fn count<V: View>(
 ) -> Result<(), NoMemory> {
     let mut desk = Desk::new(alloc, view, 100, 0, Fuel::new(u64::from(fuel)));
     steps(alloc, &mut desk, script, log)?;
-    Ok(count_end(desk, log)?)
+    count_end(alloc, desk, log)
 }
 
 fn counted(alloc: Global, text: &str, fuel: u16, script: &str) -> Result<String, NoMemory> {

@@ -32,7 +32,7 @@ new-requires-2 g c =
       effect = refl;
       fuel = refl;
     })
-    refl (c.from_vec.ensures ∙ c.close-usage.ensures.usage) c.close-usage.ensures.changes c.close-usage.ensures.used c.close-usage.ensures.fits refl refl
+    refl c.close-usage.ensures.usage c.close-usage.ensures.changes c.close-usage.ensures.used c.close-usage.ensures.fits refl refl
 
 pub returns-clause-told : goal.returns-clause-told
 returns-clause-told g c =
@@ -47,4 +47,4 @@ returns-clause-told g c =
     let begun = rw (c.new.ensures, c.get-job.ensures.job) at c.new-desk.ensures in
     let prepared = rw (c.get-job.ensures.job, c.new-spoken.ensures) at c.prepare_job-prepared.ensures in
     let carried : Carried g.V.View.tells mid new s t j r (courses reading.ready p) = subst (λ (x : Result Course Stop). Carried g.V.View.tells mid new s t j r x) reading.is (rw c.get-job.ensures.job at c.carry_out-ended.ensures.ok, c.carry_out-ended.ensures.err) in
-    rw (c.new-2.ensures, c.from_vec.ensures, c.close-usage.ensures.usage) (told begun (whole j reading.ready p prepared carried).performs)
+    rw (c.new-2.ensures, c.close-usage.ensures.usage) (told begun (whole j reading.ready p prepared carried).performs)

@@ -7,4 +7,4 @@ new-requires-2 g c =
     let begun = rw (c.new.ensures, c.get-job.ensures.job) at c.new-desk.ensures in
     let went = rw (c.in_ok-steps.ensures, c.job.ensures) at c.in_ok-outcome.ensures in
     valid_ways begun c.new-output.ensures went (λ s end comes. record { end = end; comes = comes; effect = refl; fuel = refl })
-    (c.from_vec.ensures ∙ c.close-usage.ensures.usage) c.close-usage.ensures.changes c.close-usage.ensures.used c.close-usage.ensures.fits refl refl
+    c.close-usage.ensures.usage c.close-usage.ensures.changes c.close-usage.ensures.used c.close-usage.ensures.fits refl refl

@@ -9,9 +9,9 @@ new-run-requires g c =
     valid end_of begun c.new-output.ensures c.make.ensures
     (λ s tree agrees. (refl, refl))
     c.in_ok-outcome.ensures.plain
-    (c.from_vec-usage.ensures ∙ c.close-usage.ensures.usage) c.close-usage.ensures.changes c.close-usage.ensures.used c.close-usage.ensures.fits
+    c.close-usage.ensures.usage c.close-usage.ensures.changes c.close-usage.ensures.used c.close-usage.ensures.fits
     refl c.in_ok-outcome.ensures.outcome
 
 pub returns-clause-told : goal.returns-clause-told
 returns-clause-told g c =
-    rw (c.new-run.ensures, c.from_vec-usage.ensures, c.close-usage.ensures.usage) (told c.new-desk.ensures c.make.ensures.performs)
+    rw (c.new-run.ensures, c.close-usage.ensures.usage) (told c.new-desk.ensures c.make.ensures.performs)
