@@ -24,5 +24,5 @@ pub use outcome::{Outcome, Outcomes};
 pub use question::{Answer, Entry, Question};
 pub use state::State;
 pub use tree::Tree;
-pub use usage::{Clear, Look, Usage, add_entry};
+pub use usage::{Clear, Look, Usage, add_entry, path_in};
 pub use way::{LEVELS, Led, MOST, Met, Way, dir_of, onward};

@@ -52,8 +52,8 @@ impl Model for Usage {
     ghost view = { λ u. flat u.looks.items };
 }
 
-/// The path that is asked of.
-fn path_in(q: &Question) -> Option<&Path>
+/// The path that a question is about; `None` of an outcome's. One step.
+pub fn path_in(q: &Question) -> Option<&Path>
     ensures { option_copied result ≡ path_in q.now }
 {
     match q {

@@ -11,7 +11,9 @@ use crate::no::{DeskNo, FileNo};
 use crate::view::View;
 use em_base::NoMemory;
 use em_path::Path;
-use em_tree::{Answer, LEVELS, Led, LinkText, MOST, Met, Node, Question, Way, dir_of, onward};
+use em_tree::{
+    Answer, LEVELS, Led, LinkText, Look, MOST, Met, Node, Question, Way, dir_of, onward, path_in,
+};
 
 fn link_in(answer: Answer) -> Option<LinkText>
     ensures { result ≡ link_in answer }
@@ -31,7 +33,23 @@ fn link_of(node: &Option<Node>) -> Result<Option<LinkText>, NoMemory>
     }
 }
 
+/// The path that was asked of last.
+fn asked_last(looks: &[Look]) -> Option<&Path> {
+    path_in(&looks.last()?.entry.question)
+}
+
 impl<V: View> Desk<V> {
+    /// The same path, in the bytes of the one asked of last where that is equal. So a path that is
+    /// asked of again and again, as by a loop over `test -f`, is kept once.
+    fn kept(&self, p: &Path) -> Result<Path, NoMemory>
+        ensures { IfOk result (λ q. q ≡ p.now) }
+    {
+        match asked_last(self.usage.as_slice()) {
+            Some(last) if last == p => last.copy(),
+            _ => p.copy(),
+        }
+    }
+
     pub(crate) fn link_below(&mut self, p: &Path) -> Result<Option<LinkText>, DeskNo>
         ensures performs { Acts V.tells self.old self.new result (link_below p.now) }
         ensures only { IfErr result (λ e. e ≡ no.NoMemory) }
@@ -122,7 +140,8 @@ impl<V: View> Desk<V> {
         ensures still { self.new.work ≡ record self.old.work { asked = self.new.work.asked } }
         ensures few { IfOk result (λ f. f.followed ≤ 40) }
     {
-        self.resolve_from(last, MOST, 0, p.copy()?)
+        let q = self.kept(p)?;
+        self.resolve_from(last, MOST, 0, q)
     }
 
     /// The path that is changed, and how many links were followed to it.
