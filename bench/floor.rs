@@ -1,6 +1,7 @@
-//! What a program takes at the least for the projects `cat SIZE` of `bench/build`: a plain one without any proof, which knows
-//! nothing but them. It reads an image, takes a makefile's lines apart at `:` and blanks, walks from `all`, tells by stamps
-//! what is to be made, takes each recipe line apart at blanks as `cat FILE.. > FILE`, and writes the image. It has no variables,
+//! What a program takes at the least for the projects `cat SIZE` of `bench/build`: a plain one
+//! without any proof, which knows nothing but them. It reads an image, takes a makefile's lines
+//! apart at `:` and blanks, walks from `all`, tells by stamps what is to be made, takes each recipe
+//! line apart at blanks as `cat FILE.. > FILE`, and writes the image. It has no variables,
 //! patterns, quotes, fuel, checks, refusals, messages or second worker.
 //!
 //!     rustc --edition 2021 -O bench/floor.rs -o floor && bench/build ./floor --cat
@@ -74,7 +75,12 @@ fn read_rules(makefile: &[u8]) -> Rules {
     rules
 }
 
-fn walk<'a>(name: &'a [u8], rules: &'a Rules, seen: &mut HashMap<&'a [u8], usize>, order: &mut Vec<&'a [u8]>) {
+fn walk<'a>(
+    name: &'a [u8],
+    rules: &'a Rules,
+    seen: &mut HashMap<&'a [u8], usize>,
+    order: &mut Vec<&'a [u8]>,
+) {
     if seen.contains_key(name) {
         return;
     }
@@ -96,7 +102,8 @@ fn stamp_of(tree: &Tree, name: &[u8]) -> Option<u64> {
 
 fn is_due(tree: &Tree, target: &[u8], rule: &Rule) -> bool {
     let own = stamp_of(tree, target);
-    own.is_none() || rule.needs.iter().any(|need| stamp_of(tree, need).map_or(true, |stamp| Some(stamp) > own))
+    let is_newer = |need: &Vec<u8>| stamp_of(tree, need).map_or(true, |stamp| Some(stamp) > own);
+    own.is_none() || rule.needs.iter().any(is_newer)
 }
 
 fn run(tree: &mut Tree, stamp: u64, command: &[u8]) {

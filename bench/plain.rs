@@ -1,6 +1,6 @@
-//! A plain program of the same meaning as `emake -I IMAGE a` over the images of `bench/image`, without any proof: it reads
-//! an image, empties a new file `/a`, which stamps the root, writes it, and replaces the image. `bench/image` measures it
-//! beside emake.
+//! A plain program of the same meaning as `emake -I IMAGE a` over the images of `bench/image`,
+//! without any proof: it reads an image, empties a new file `/a`, which stamps the root, writes it,
+//! and replaces the image. `bench/image` measures it beside emake.
 //!
 //!     rustc --edition 2021 -O bench/plain.rs -o plain && ./plain IMAGE
 use std::collections::BTreeMap;

@@ -1,5 +1,7 @@
-// Loaded before the C library by bench/damage --refuse: the N-th call of a kind fails, or moves a single byte.
-// REFUSE is `memory N` (malloc, realloc), `io N` (open, read, write, fsync, rename) or `short N` (read, write of several bytes); how many such calls there were is written to the file that COUNT names.
+// Loaded before the C library by bench/damage --refuse: the N-th call of a kind fails, or moves a
+// single byte. REFUSE is `memory N` (malloc, realloc), `io N` (open, read, write, fsync, rename) or
+// `short N` (read, write of several bytes); how many such calls there were is written to the file
+// that COUNT names.
 #define _GNU_SOURCE
 #include <dlfcn.h>
 #include <errno.h>
@@ -75,7 +77,8 @@ ssize_t read(int fd, void *to, size_t size) {
 
 ssize_t write(int fd, const void *from, size_t size) {
     if (now('i')) { errno = EIO; return -1; }
-    return NEXT(ssize_t (*)(int, const void *, size_t), "write")(fd, from, size > 1 && now('s') ? 1 : size);
+    size_t moved = size > 1 && now('s') ? 1 : size;
+    return NEXT(ssize_t (*)(int, const void *, size_t), "write")(fd, from, moved);
 }
 
 int fsync(int fd) {
