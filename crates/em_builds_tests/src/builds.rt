@@ -1,5 +1,5 @@
 //! Builds with one worker and with more.
-use super::gates::{Late, Meeting, Roll};
+use super::gates::{LateAsk, Meeting, Roll};
 use super::hosts::Bell;
 use super::shows::show_built;
 use em_base::Seq;
@@ -7,7 +7,7 @@ use em_engine::{Cause, Note};
 use em_host::{Host, MemHost};
 use em_run::Work;
 use em_testing::{
-    Counter, Link, Linker, Plan, THREE, are_lower, are_numbered, links_of, root, show_bytes,
+    Counter, Link, LinkPlan, Linker, THREE, are_lower, are_numbered, links_of, root, show_bytes,
     show_notes, waits_of,
 };
 use em_workers::{BuildNo, Built, Gate, OpenGate, build};
@@ -18,9 +18,9 @@ use std::test::Fail;
 use std::thread::Threads;
 
 /// With how many workers a build is made, and whether it is declared what each job waits for.
-type Way = (u32, bool);
+type WorkersRow = (u32, bool);
 
-static WAYS: [Way; 14] = [
+static WAYS: [WorkersRow; 14] = [
     (1, true),
     (2, true),
     (3, true),
@@ -84,7 +84,7 @@ struct Jobs {
     waits: Seq<Seq<u32>>,
 }
 
-fn jobs_of(alloc: Global, plan: Plan<'_>, is_declared: bool) -> Result<Jobs, Fail> {
+fn jobs_of(alloc: Global, plan: LinkPlan<'_>, is_declared: bool) -> Result<Jobs, Fail> {
     let links = links_of(alloc, plan)?;
     let waits = waits_of(alloc, plan, is_declared)?;
     Ok(Jobs { links, waits })
@@ -120,8 +120,8 @@ fn build_jobs<R: Threads + Wait + Sync, W: Work<Link> + Sync, G: Gate + Sync, H:
 fn show_plan<R: Threads + Wait + Sync, W: Work<Link> + Sync, G: Gate + Sync>(
     rt: &R,
     alloc: Global,
-    plan: Plan<'_>,
-    way: Way,
+    plan: LinkPlan<'_>,
+    way: WorkersRow,
     w: &W,
     gate: &G,
     log: &mut String,
@@ -137,8 +137,8 @@ fn show_plan<R: Threads + Wait + Sync, W: Work<Link> + Sync, G: Gate + Sync>(
 fn show_noted<R: Threads + Wait + Sync, G: Gate + Sync>(
     rt: &R,
     alloc: Global,
-    plan: Plan<'_>,
-    way: Way,
+    plan: LinkPlan<'_>,
+    way: WorkersRow,
     gate: &G,
     log: &mut String,
 ) -> Result<(), Fail> {
@@ -191,7 +191,7 @@ fn fault_in(workers: u32, notes: &[Note], text: &str, counter: &Counter<Linker>)
 fn fault_of<R: Threads + Wait + Sync>(
     rt: &R,
     alloc: Global,
-    way: Way,
+    way: WorkersRow,
 ) -> Result<&'static str, Fail> {
     let counter = Counter::new(alloc, Linker, 10)?;
     let mut text = String::new(alloc);
@@ -269,7 +269,7 @@ fn each_worker_is_a_thread(rt: HostRuntime) -> Result<(), Fail> {
 fn is_printed<R: Threads + Wait + Sync>(rt: &R, alloc: Global, jobs: Jobs) -> bool {
     let rung = AtomicBool::new(false);
     let came = AtomicBool::new(false);
-    let gate = Late::new(&rung, &came);
+    let gate = LateAsk::new(&rung, &came);
     let mut host = Bell::new(&rung, &came);
     let end = build_jobs(rt, alloc, jobs, 3, &Linker, &gate, &mut host);
     end.is_ok() && gate.is_met() && host.is_met()
@@ -288,7 +288,7 @@ fn is_printed_before<R: Threads + Wait + Sync>(rt: &R, alloc: Global, jobs: Jobs
     let rung = AtomicBool::new(false);
     let came = AtomicBool::new(false);
     let open = AtomicBool::new(true);
-    let gate = Late::at_once(&rung, &came);
+    let gate = LateAsk::at_once(&rung, &came);
     let mut host = Bell::new(&rung, &open);
     let end = build_jobs(rt, alloc, jobs, 1, &Linker, &gate, &mut host);
     end.is_ok() && gate.is_met() && host.is_met()

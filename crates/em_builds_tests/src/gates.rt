@@ -137,7 +137,7 @@ impl Gate for Roll {
 
 /// Tells when the first ask of job 1 comes, and holds it until a flag goes up.
 #[derive(Drop)]
-pub(super) struct Late<'a> {
+pub(super) struct LateAsk<'a> {
     flag: &'a AtomicBool,
     /// How often it looks for the flag.
     looks: u32,
@@ -149,9 +149,9 @@ pub(super) struct Late<'a> {
     missed: AtomicBool,
 }
 
-impl<'a> Late<'a> {
-    fn looking(flag: &'a AtomicBool, came: &'a AtomicBool, looks: u32) -> Late<'a> {
-        Late {
+impl<'a> LateAsk<'a> {
+    fn looking(flag: &'a AtomicBool, came: &'a AtomicBool, looks: u32) -> LateAsk<'a> {
+        LateAsk {
             flag,
             looks,
             came,
@@ -161,13 +161,13 @@ impl<'a> Late<'a> {
     }
 
     /// Holds the ask until the flag goes up.
-    pub(super) fn new(flag: &'a AtomicBool, came: &'a AtomicBool) -> Late<'a> {
-        Late::looking(flag, came, TURNS)
+    pub(super) fn new(flag: &'a AtomicBool, came: &'a AtomicBool) -> LateAsk<'a> {
+        LateAsk::looking(flag, came, TURNS)
     }
 
     /// Looks once whether the flag is up.
-    pub(super) fn at_once(flag: &'a AtomicBool, came: &'a AtomicBool) -> Late<'a> {
-        Late::looking(flag, came, 1)
+    pub(super) fn at_once(flag: &'a AtomicBool, came: &'a AtomicBool) -> LateAsk<'a> {
+        LateAsk::looking(flag, came, 1)
     }
 
     /// Whether the ask came, and the flag went up each time.
@@ -185,7 +185,7 @@ impl<'a> Late<'a> {
     }
 }
 
-impl<'a> Gate for Late<'a> {
+impl<'a> Gate for LateAsk<'a> {
     fn before(&self, _worker: u32, job: u32, step: u32) {
         if job == 1 && step == 0 {
             self.hold();

@@ -22,7 +22,7 @@ use Rattle.em_tree.specs.Index.{Children, IsIndex, has_child, is_in, is_parent}
 use Rattle.em_tree.proofs.Maps.{order, exact, entries_is, path_found, path_put, path_taken}
 use Rattle.em_tree.proofs.Tables.{same_key}
 use Rattle.em_tree.proofs.Indexes.{IsIndex-same, IsIndex-put, IsIndex-new, IsIndex-back, IsIndex-gone, IsIndex-empty, some_is}
-use Rattle.em_chain.specs.declared.lines.Line.{Line}
+use Rattle.em_chain.specs.declared.lines.PathChain.{PathChain}
 use Rattle.em_chain.specs.Pairs.{Pairs}
 use Rattle.em_chain.specs.Chains.{from_job, roomed, without}
 use Rattle.em_chain.proofs.Pairs.{apart}
@@ -34,11 +34,11 @@ some_same x y e = cc
 none_is : {A : Type 0} (y : A) → None ≡ Some y → ⊥
 none_is y e = absurd (cc)
 
-pub line_entries : (es : List (List ℕ × Line)) → IsStrictlySortedBy order (keys_of es) → entries (from_entries {R = order} es) ≡ es
+pub line_entries : (es : List (List ℕ × PathChain)) → IsStrictlySortedBy order (keys_of es) → entries (from_entries {R = order} es) ≡ es
 line_entries = entries_is nat_list_cmp_total exact
 
 -- what stands at q after a line is put at p, and taken from there
-pub line_put : (t : LineTable) (p q : List ℕ) (line : Line) → chain_at (insert t p line) q ≡ cond (eq_by_cmp order q p) line.chain (chain_at t q)
+pub line_put : (t : LineTable) (p q : List ℕ) (line : PathChain) → chain_at (insert t p line) q ≡ cond (eq_by_cmp order q p) line.chain (chain_at t q)
 line_put t p q line = ap chain_in (get-insert nat_list_cmp_total t p line q) ∙ by_case (eq_by_cmp order q p)
   where
     by_case : (b : Bool) → chain_in (cond b (Some line) (get t q)) ≡ cond b line.chain (chain_in (get t q))
@@ -69,13 +69,13 @@ nowhere f t p q e = by_case (eq_by_cmp order q p) refl
     by_case false k = refl
 
 -- a line at p, where its chain isn't empty and its parent is p's
-module _ (t : LineTable) (p : List ℕ) (line : Line) (m : Children) (h : IsLines m t) (full : line.chain ≢ []) (home : line.above ≡ parent_text p) where
-  put_filled : (q : List ℕ) (l : Line) (b : Bool) → cond b (Some line) (get t q) ≡ Some l → l.chain ≢ []
-  put_filled q l true e = subst (λ (x : Line). x.chain ≢ []) (some_same line l e) full
+module _ (t : LineTable) (p : List ℕ) (line : PathChain) (m : Children) (h : IsLines m t) (full : line.chain ≢ []) (home : line.above ≡ parent_text p) where
+  put_filled : (q : List ℕ) (l : PathChain) (b : Bool) → cond b (Some line) (get t q) ≡ Some l → l.chain ≢ []
+  put_filled q l true e = subst (λ (x : PathChain). x.chain ≢ []) (some_same line l e) full
   put_filled q l false e = h.filled q l e
 
-  put_homed : (q : List ℕ) (l : Line) (b : Bool) → eq_by_cmp order q p ≡ b → cond b (Some line) (get t q) ≡ Some l → l.above ≡ parent_text q
-  put_homed q l true k e = ap (λ (x : Line). x.above) (sym (some_same line l e)) ∙ home ∙ ap parent_text (sym (same_key q p k))
+  put_homed : (q : List ℕ) (l : PathChain) (b : Bool) → eq_by_cmp order q p ≡ b → cond b (Some line) (get t q) ≡ Some l → l.above ≡ parent_text q
+  put_homed q l true k e = ap (λ (x : PathChain). x.above) (sym (some_same line l e)) ∙ home ∙ ap parent_text (sym (same_key q p k))
   put_homed q l false k e = h.homed q l e
 
   put_lines : (n : Children) → IsIndex n (insert t p line) → IsLines n (insert t p line)
@@ -111,7 +111,7 @@ IsLines-gone t m n p h e = record {
   indexed = IsIndex-gone m n t p h.indexed e;
 }
   where
-    was : (q : List ℕ) (l : Line) (b : Bool) → cond b None (get t q) ≡ Some l → get t q ≡ Some l
+    was : (q : List ℕ) (l : PathChain) (b : Bool) → cond b None (get t q) ≡ Some l → get t q ≡ Some l
     was q l true g = absurd (none_is l g)
     was q l false g = g
 
@@ -119,12 +119,12 @@ pub IsLines-empty : (m : Children) → m.entries ≡ [] → IsLines m empty
 IsLines-empty m e = record {
   filled = λ q l g. absurd (none_is l (sym (get-empty order q) ∙ g));
   homed = λ q l g. absurd (none_is l (sym (get-empty order q) ∙ g));
-  indexed = IsIndex-empty Line m e;
+  indexed = IsIndex-empty PathChain m e;
 }
 
 -- ---- a chain that is written through what the map lent
 
-module _ (m n : BTreeMap (List ℕ) Line) (ch : Children) (p : List ℕ) (old line : Line) (found : Some old ≡ lookup (is_at (order p)) m.entries)
+module _ (m n : BTreeMap (List ℕ) PathChain) (ch : Children) (p : List ℕ) (old line : PathChain) (found : Some old ≡ lookup (is_at (order p)) m.entries)
     (good : IsStrictlySortedBy order (keys_of m.entries) × IsLines ch (from_entries {R = order} m.entries)) (w : WritesThrough order (order p) m line n) (above : line.above ≡ old.above) where
   there : get (from_entries {R = order} m.entries) p ≡ Some old
   there = sym (path_found m.entries p) ∙ sym found
@@ -159,10 +159,10 @@ module _ (m n : BTreeMap (List ℕ) Line) (ch : Children) (p : List ℕ) (old li
   old_at t is = ap (λ (u : LineTable). chain_at u p) (sym is) ∙ ap chain_in there
 
 -- no line is there
-pub not_there : (es : List (List ℕ × Line)) (p : List ℕ) (t : LineTable) → from_entries {R = order} es ≡ t → None ≡ lookup (is_at (order p)) es → get t p ≡ None
+pub not_there : (es : List (List ℕ × PathChain)) (p : List ℕ) (t : LineTable) → from_entries {R = order} es ≡ t → None ≡ lookup (is_at (order p)) es → get t p ≡ None
 not_there es p t is none = ap (λ (u : LineTable). get u p) (sym is) ∙ sym (path_found es p) ∙ sym none
 
-pub is_there : (es : List (List ℕ × Line)) (p : List ℕ) (line : Line) (t : LineTable) → from_entries {R = order} es ≡ t → Some line ≡ lookup (is_at (order p)) es → get t p ≡ Some line
+pub is_there : (es : List (List ℕ × PathChain)) (p : List ℕ) (line : PathChain) (t : LineTable) → from_entries {R = order} es ≡ t → Some line ≡ lookup (is_at (order p)) es → get t p ≡ Some line
 is_there es p line t is some = ap (λ (u : LineTable). get u p) (sym is) ∙ sym (path_found es p) ∙ sym some
 
 -- ---- chains that aren't empty
@@ -199,17 +199,17 @@ cut_full j (e ∷ c) h = by_case (nat_lt e.0 j) refl h (cut_full j c)
     by_case false k h rest = cons_full e (from_job j c)
 
 pub no_chain : (j : ℕ) (t : LineTable) (p : List ℕ) → get t p ≡ None → nat_eq (length (without j (chain_at t p))) 0 ≡ false → ⊥
-no_chain j t p none h = let z : true ≡ false = sym (ap (λ (o : Option Line). nat_eq (length (without j (chain_in o))) 0) none) ∙ h in absurd (cc)
+no_chain j t p none h = let z : true ≡ false = sym (ap (λ (o : Option PathChain). nat_eq (length (without j (chain_in o))) 0) none) ∙ h in absurd (cc)
 
 pub no_pair_there : (j : ℕ) (t : LineTable) (p : List ℕ) → get t p ≡ None → IsSome (find nat_cmp j (chain_at t p)) → ⊥
-no_pair_there j t p none h = let z : false ≡ true = sym (ap (λ (o : Option Line). is_some (find nat_cmp j (chain_in o))) none) ∙ h in absurd (cc)
+no_pair_there j t p none h = let z : false ≡ true = sym (ap (λ (o : Option PathChain). is_some (find nat_cmp j (chain_in o))) none) ∙ h in absurd (cc)
 
-pub at_line : (es : List (List ℕ × Line)) (p : List ℕ) (line : Line) (t : LineTable) → from_entries {R = order} es ≡ t → Some line ≡ lookup (is_at (order p)) es → chain_at t p ≡ line.chain
+pub at_line : (es : List (List ℕ × PathChain)) (p : List ℕ) (line : PathChain) (t : LineTable) → from_entries {R = order} es ≡ t → Some line ≡ lookup (is_at (order p)) es → chain_at t p ≡ line.chain
 at_line es p line t is some = ap chain_in (is_there es p line t is some)
 
 -- ---- a line more, a line less
 
-module _ (m n : BTreeMap (List ℕ) Line) (p : List ℕ) where
+module _ (m n : BTreeMap (List ℕ) PathChain) (p : List ℕ) where
   pub taken_is : UpdatesBy order (order p) m n None → from_entries {R = order} n.entries ≡ remove (from_entries {R = order} m.entries) p
   taken_is u = path_taken m n p u
 
@@ -220,7 +220,7 @@ module _ (m n : BTreeMap (List ℕ) Line) (p : List ℕ) where
       → ((q k : List ℕ) → has_child de q k ≡ (has_child ch q k && not (is_parent q p && eq_by_cmp order k p))) → IsLines de (from_entries {R = order} n.entries)
   taken_lines ch de u h e = subst (λ (t : LineTable). IsLines de t) (sym (taken_is u)) (IsLines-gone (from_entries m.entries) ch de p h e)
 
-  module _ (line : Line) (path : List ℕ) (same : path ≡ p) (u : UpdatesBy order (order path) m n (Some line)) where
+  module _ (line : PathChain) (path : List ℕ) (same : path ≡ p) (u : UpdatesBy order (order path) m n (Some line)) where
     added_is : from_entries {R = order} n.entries ≡ insert (from_entries {R = order} m.entries) p line
     added_is = path_put m n path line u ∙ ap (λ (k : List ℕ). insert (from_entries {R = order} m.entries) k line) same
 
@@ -235,7 +235,7 @@ module _ (m n : BTreeMap (List ℕ) Line) (p : List ℕ) where
 
 -- nothing was there
 pub place_new : (j : ℕ) (t : LineTable) (p q : List ℕ) → get t p ≡ None → cond (eq_by_cmp order q p) ((j, None) ∷ []) (chain_at t q) ≡ cond (eq_by_cmp order q p) (roomed j (chain_at t q)) (chain_at t q)
-place_new j t p q none = here (roomed j) t p q ((j, None) ∷ []) (sym (ap (λ (o : Option Line). roomed j (chain_in o)) none))
+place_new j t p q none = here (roomed j) t p q ((j, None) ∷ []) (sym (ap (λ (o : Option PathChain). roomed j (chain_in o)) none))
 
 pub erase_all : (j : ℕ) (t : LineTable) (p q : List ℕ) → nat_eq (length (without j (chain_at t p))) 0 ≡ true → cond (eq_by_cmp order q p) [] (chain_at t q) ≡ cond (eq_by_cmp order q p) (without j (chain_at t q)) (chain_at t q)
 erase_all j t p q none = here (without j) t p q [] (is_nothing (without j (chain_at t p)) none)

@@ -14,7 +14,7 @@ use Rattle.std.specs.Ordering.{eq_by_cmp, is_lt}
 use Rattle.std.specs.Cmp.Lexicographic.{nat_list_cmp_total}
 use Rattle.em_tree.specs.declared.node.Node.{Node}
 use Rattle.em_tree.specs.Trees.{Table, Changes, laid_over}
-use Rattle.em_chain.specs.declared.lines.Line.{Line}
+use Rattle.em_chain.specs.declared.lines.PathChain.{PathChain}
 use Rattle.em_chain.specs.Lines.{LineTable, IsHeld, chain_in, chain_at, merged_in}
 use Rattle.em_chain.proofs.Pairs.{tied}
 use Rattle.em_chain.proofs.Marking.{change_in, same_pairs, sorted_chain, found_chain, undone, missed, first_T, second_T, both_T}
@@ -148,10 +148,10 @@ stands_plain v j p = sym (found_in-is j p (entries v.posts) v.start.tree) ∙ fo
 -- ---- what is merged
 
 module _ (f : ℕ) where
-  abbrev pub heads : List (List ℕ × Line) → List (List ℕ × (ℕ × Option Node))
+  abbrev pub heads : List (List ℕ × PathChain) → List (List ℕ × (ℕ × Option Node))
   heads es = filter_map (λ e. option_map (λ x. (e.0, x)) (head_below f e.1.chain)) es
 
-  below_heads : (p : List ℕ) (es : List (List ℕ × Line)) → T (below_all order p es) → T (below_all order p (heads es))
+  below_heads : (p : List ℕ) (es : List (List ℕ × PathChain)) → T (below_all order p es) → T (below_all order p (heads es))
   below_heads p [] s = tt
   below_heads p (e ∷ es) s = by_head (head_below f e.1.chain) (below_heads p es (second_T (is_lt (order p e.0)) (below_all order p es) s))
     where
@@ -159,7 +159,7 @@ module _ (f : ℕ) where
       by_head None r = r
       by_head (Some x) r = both_T (is_lt (order p e.0)) (below_all order p (heads es)) (first_T (is_lt (order p e.0)) (below_all order p es) s) r
 
-  sorted_heads : (es : List (List ℕ × Line)) → T (is_sorted order es) → T (is_sorted order (heads es))
+  sorted_heads : (es : List (List ℕ × PathChain)) → T (is_sorted order es) → T (is_sorted order (heads es))
   sorted_heads [] s = tt
   sorted_heads (e ∷ es) s =
       by_head (head_below f e.1.chain) (sorted_heads es (second_T (below_all order e.0 es) (is_sorted order es) s)) (below_heads e.0 es (first_T (below_all order e.0 es) (is_sorted order es) s))
@@ -168,10 +168,10 @@ module _ (f : ℕ) where
       by_head None r b = r
       by_head (Some x) r b = both_T (below_all order e.0 (heads es)) (is_sorted order (heads es)) b r
 
-  abbrev head_in : Option Line → Option (ℕ × Option Node)
+  abbrev head_in : Option PathChain → Option (ℕ × Option Node)
   head_in o = head_below f (chain_in o)
 
-  find_heads : (p : List ℕ) (es : List (List ℕ × Line)) → T (is_sorted order es) → find order p (heads es) ≡ head_in (find order p es)
+  find_heads : (p : List ℕ) (es : List (List ℕ × PathChain)) → T (is_sorted order es) → find order p (heads es) ≡ head_in (find order p es)
   find_heads p [] s = refl
   find_heads p (e ∷ es) s =
       by_head (head_below f e.1.chain) (eq_by_cmp order p e.0) refl refl (find_heads p es (second_T (below_all order e.0 es) (is_sorted order es) s))
@@ -195,15 +195,15 @@ module _ (f : ℕ) where
   len_merged t = len-entries (merged_in f t) ∙ ap length (entries-from_sorted order (heads (entries t)) (sorted_heads (entries t) (entries_sorted t)))
 
 -- a line more, whose chain begins below the floor or doesn't
-pub head_counted : (f : ℕ) (e : List ℕ × Line) (es all : List (List ℕ × Line)) → all ≡ e ∷ es → is_some (head_below f e.1.chain) ≡ true → length (heads f all) ≡ length (heads f es) + 1
-head_counted f e es all is some = ap (λ (l : List (List ℕ × Line)). length (heads f l)) is ∙ by_head (head_below f e.1.chain) some
+pub head_counted : (f : ℕ) (e : List ℕ × PathChain) (es all : List (List ℕ × PathChain)) → all ≡ e ∷ es → is_some (head_below f e.1.chain) ≡ true → length (heads f all) ≡ length (heads f es) + 1
+head_counted f e es all is some = ap (λ (l : List (List ℕ × PathChain)). length (heads f l)) is ∙ by_head (head_below f e.1.chain) some
   where
     by_head : (o : Option (ℕ × Option Node)) → is_some o ≡ true → length (cons_option (option_map (λ x. (e.0, x)) o) (heads f es)) ≡ length (heads f es) + 1
     by_head None h = absurd (cc)
     by_head (Some x) h = omega arith
 
-pub head_passed : (f : ℕ) (e : List ℕ × Line) (es all : List (List ℕ × Line)) → all ≡ e ∷ es → is_some (head_below f e.1.chain) ≡ false → length (heads f all) ≡ length (heads f es)
-head_passed f e es all is none = ap (λ (l : List (List ℕ × Line)). length (heads f l)) is ∙ by_head (head_below f e.1.chain) none
+pub head_passed : (f : ℕ) (e : List ℕ × PathChain) (es all : List (List ℕ × PathChain)) → all ≡ e ∷ es → is_some (head_below f e.1.chain) ≡ false → length (heads f all) ≡ length (heads f es)
+head_passed f e es all is none = ap (λ (l : List (List ℕ × PathChain)). length (heads f l)) is ∙ by_head (head_below f e.1.chain) none
   where
     by_head : (o : Option (ℕ × Option Node)) → is_some o ≡ false → length (cons_option (option_map (λ x. (e.0, x)) o) (heads f es)) ≡ length (heads f es)
     by_head None h = refl
@@ -253,7 +253,7 @@ empty_held es t e f = let base : IsHeld 0 t (from_entries {R = nat_cmp} []) = re
     none_kept false = refl
 
 pub no_merged : (t : LineTable) → t ≡ empty → merged_in 0 t ≡ empty
-no_merged t e = same_map nat_list_cmp_total exact (merged_in 0 t) empty (λ q. get-merged 0 t q ∙ ap (λ (u : LineTable). head_below 0 (chain_at u q)) e ∙ ap (λ (o : Option Line). head_below 0 (chain_in o)) (get-empty order q) ∙ sym (get-empty order q))
+no_merged t e = same_map nat_list_cmp_total exact (merged_in 0 t) empty (λ q. get-merged 0 t q ∙ ap (λ (u : LineTable). head_below 0 (chain_at u q)) e ∙ ap (λ (o : Option PathChain). head_below 0 (chain_in o)) (get-empty order q) ∙ sym (get-empty order q))
 
 -- the chains are as they were
 pub same_held : (f : ℕ) (t u : LineTable) (ps : Posts) → IsHeld f t ps → ((q : List ℕ) → chain_at u q ≡ chain_at t q) → IsHeld f u ps

@@ -11,16 +11,16 @@ use Rattle.std.specs.Cmp.Lexicographic.{slice_cmp}
 use Rattle.std.specs.FinMap.{FinMap, get, entries, from_sorted}
 use Rattle.em_path.specs.Paths.{parent_text}
 use Rattle.em_tree.specs.Index.{Children, IsIndex}
-use Rattle.em_chain.specs.declared.lines.Line.{Line}
+use Rattle.em_chain.specs.declared.lines.PathChain.{PathChain}
 use Rattle.em_chain.specs.Pairs.{Pairs}
 use Rattle.em_chain.specs.Posts.{Posts, Merged}
 use Rattle.em_chain.specs.Chains.{chain_of, head_below}
 use Rattle.em_chain.specs.Floors.{kept, live_from}
 
 abbrev pub LineTable : Type 0
-LineTable = FinMap (slice_cmp nat_cmp) Line
+LineTable = FinMap (slice_cmp nat_cmp) PathChain
 
-abbrev pub chain_in : Option Line → Pairs
+abbrev pub chain_in : Option PathChain → Pairs
 chain_in None = []
 chain_in (Some line) = line.chain
 
@@ -35,6 +35,6 @@ pub record IsHeld (f : ℕ) (t : LineTable) (ps : Posts) : Type 0 where
   pub emptied : (j : ℕ) → get ps j ≡ kept f j (get ps j)
 
 pub record IsLines (m : Children) (t : LineTable) : Type 0 where
-  pub filled : (p : List ℕ) (line : Line) → get t p ≡ Some line → line.chain ≢ []
-  pub homed : (p : List ℕ) (line : Line) → get t p ≡ Some line → line.above ≡ parent_text p
+  pub filled : (p : List ℕ) (line : PathChain) → get t p ≡ Some line → line.chain ≢ []
+  pub homed : (p : List ℕ) (line : PathChain) → get t p ≡ Some line → line.above ≡ parent_text p
   pub indexed : IsIndex m t

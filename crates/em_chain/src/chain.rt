@@ -52,7 +52,7 @@ impl Steps {
 
 /// A place in a chain, and the job right before it.
 #[derive(Drop)]
-struct Spot {
+struct ChainIndex {
     at: usize,
     before: Option<u32>,
 }
@@ -110,7 +110,7 @@ impl Chain {
         high: usize,
         before: Option<u32>,
         steps: &mut Steps,
-    ) -> Spot
+    ) -> ChainIndex
         requires open { IsOpen job self.now low high }
         requires before { before ≡ job_before self.now low }
         ensures at { IsOpen job self.now result.at result.at }
@@ -121,7 +121,7 @@ impl Chain {
     {
         let _held = &self.held;
         if low == high {
-            return Spot { at: low, before };
+            return ChainIndex { at: low, before };
         }
         let middle = low + (high - low) / 2;
         let found = self.job_at(middle, steps);

@@ -21,7 +21,7 @@ use std::marker::Model;
 
 /// The chain of a path, and the path's parent, which the root has none of.
 #[derive(Drop)]
-pub(crate) struct Line {
+pub(crate) struct PathChain {
     above: Option<Path>,
     chain: Chain,
 }
@@ -31,20 +31,20 @@ pub(crate) struct Line {
 /// paths there are and of how many pairs their chains have, and `make_place` and `erase` also for
 /// each pair on the nearer side of the job's.
 #[derive(Drop)]
-pub(crate) struct Lines {
+pub(crate) struct PathChains {
     alloc: Global,
-    held: BTreeMap<Path, Line>,
+    held: BTreeMap<Path, PathChain>,
     children: Children,
 }
 
-impl Model for Lines {
+impl Model for PathChains {
     ghost use Rattle.std.specs.Ordering.{nat_cmp};
     ghost use Rattle.std.specs.Cmp.Lexicographic.{slice_cmp};
     ghost use Rattle.std.specs.List.Sorted.{IsStrictlySortedBy};
     ghost use Rattle.std.specs.Map.{keys_of};
     ghost use Rattle.std.specs.Coded.{coded_ℕ, coded_list};
     ghost use Rattle.std.specs.FinMap as map;
-    ghost use Rattle.em_chain.specs.contracts.lines.Line as line;
+    ghost use Rattle.em_chain.specs.contracts.lines.PathChain as line;
     ghost use Rattle.em_chain.specs.Lines.{LineTable, IsLines};
 
     ghost Value = { LineTable };
@@ -57,12 +57,12 @@ impl Model for Lines {
         × IsLines t.children (map.from_entries t.held.entries) };
 }
 
-impl Lines {
+impl PathChains {
     /// No chains.
-    pub(crate) fn new(alloc: Global) -> Lines
+    pub(crate) fn new(alloc: Global) -> PathChains
         ensures { result ≡ map.empty }
     {
-        Lines {
+        PathChains {
             alloc,
             held: BTreeMap::new(alloc),
             children: BTreeMap::new(alloc),
@@ -130,7 +130,7 @@ impl Lines {
         let above = parent_of(self.alloc, p)?;
         let chain = Chain::one(self.alloc, job)?;
         list(&mut self.children, self.alloc, &above, p)?;
-        match self.held.insert(path, Line { above, chain }) {
+        match self.held.insert(path, PathChain { above, chain }) {
             Ok(_) => Ok(()),
             Err(failed) => {
                 unlist(&mut self.children, &failed.value.1.above, p);

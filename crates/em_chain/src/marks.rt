@@ -14,7 +14,7 @@ ghost use Rattle.std.specs.List.{filter, sum_by};
 ghost use Rattle.std.specs.List.Sorted.{IsStrictlySortedBy};
 ghost use Rattle.std.specs.Map.{keys_of};
 
-use crate::lines::Lines;
+use crate::lines::PathChains;
 use crate::post::Post;
 use em_base::NoMemory;
 use em_path::Path;
@@ -47,7 +47,7 @@ fn copy_of(becomes: &Option<Node>) -> Result<Option<Node>, NoMemory>
 }
 
 /// Sees that the job has a pair in the chain of each path.
-fn make_room(lines: &mut Lines, changes: &[Change], job: u32) -> Result<(), NoMemory>
+fn make_room(lines: &mut PathChains, changes: &[Change], job: u32) -> Result<(), NoMemory>
     ensures roomed { (q : List ℕ) → Roomed job (chain_at lines.old q) (chain_at lines.new q) }
     ensures others { (q : List ℕ) → names changes.now q ≡ false
         → chain_at lines.new q ≡ chain_at lines.old q }
@@ -63,7 +63,7 @@ fn make_room(lines: &mut Lines, changes: &[Change], job: u32) -> Result<(), NoMe
 /// Sees that the job, which has posted what is given, has a pair in the chain of each path of its
 /// next delta.
 pub(crate) fn stage(
-    lines: &mut Lines,
+    lines: &mut PathChains,
     changes: &[Change],
     d: &Delta,
     old: Option<&Delta>,
@@ -91,7 +91,7 @@ pub(crate) fn stage(
 }
 
 /// The job makes each path, in whose chain it has a pair, what is given.
-fn write_all(lines: &mut Lines, changes: Vec<Change>, job: u32)
+fn write_all(lines: &mut PathChains, changes: Vec<Change>, job: u32)
     requires { (q : List ℕ) → names changes.items q ≡ true
         → IsSome (find nat_cmp job (chain_at lines.old q)) }
     ensures { (q : List ℕ) → chain_at lines.new q
@@ -104,7 +104,7 @@ fn write_all(lines: &mut Lines, changes: Vec<Change>, job: u32)
 
 /// Takes the job out of the chains of the paths that a delta names, but for those that another one
 /// does.
-pub(crate) fn drop_stale(lines: &mut Lines, d: &Delta, keep: Option<&Delta>, job: u32)
+pub(crate) fn drop_stale(lines: &mut PathChains, d: &Delta, keep: Option<&Delta>, job: u32)
     ensures { (q : List ℕ) → chain_at lines.new q
         ≡ dropped job (option_copied keep.entry) q (map.entries d.now) (chain_at lines.old q) }
 {
@@ -113,7 +113,7 @@ pub(crate) fn drop_stale(lines: &mut Lines, d: &Delta, keep: Option<&Delta>, job
     }
 }
 
-fn drop_one(lines: &mut Lines, p: &Path, keep: Option<&Delta>, job: u32)
+fn drop_one(lines: &mut PathChains, p: &Path, keep: Option<&Delta>, job: u32)
     ensures { (q : List ℕ) → chain_at lines.new q
         ≡ (if eq_by_cmp (slice_cmp nat_cmp) q p.now && not (keeps (option_copied keep.entry) p.now)
         then without job (chain_at lines.old q) else chain_at lines.old q) }
@@ -136,7 +136,7 @@ fn is_kept(keep: Option<&Delta>, p: &Path) -> bool
 /// What a job has posted before is taken out where its next delta doesn't name it, once that one is
 /// written.
 pub(crate) fn commit(
-    lines: &mut Lines,
+    lines: &mut PathChains,
     changes: Vec<Change>,
     old: Option<Post>,
     keep: Option<&Delta>,
@@ -155,7 +155,7 @@ pub(crate) fn commit(
 
 /// Takes what the job has posted before out of the chains, but for the paths that another delta
 /// names.
-pub(crate) fn drop_old(lines: &mut Lines, old: &Option<Post>, keep: Option<&Delta>, job: u32)
+pub(crate) fn drop_old(lines: &mut PathChains, old: &Option<Post>, keep: Option<&Delta>, job: u32)
     ensures { (q : List ℕ) → chain_at lines.new q
         ≡ dropped_by job (option_copied keep.entry) q old.now (chain_at lines.old q) }
 {
@@ -178,7 +178,7 @@ pub(crate) fn delta_of(posts: &BTreeMap<u32, Post>, job: u32) -> Option<&Delta>
 
 /// The chains of the paths that a delta names begin with the job, which has a pair there, or behind
 /// it.
-pub(crate) fn cut_all(lines: &mut Lines, d: &Delta, job: u32)
+pub(crate) fn cut_all(lines: &mut PathChains, d: &Delta, job: u32)
     requires { (q : List ℕ) → names (map.entries d.now) q ≡ true
         → IsSome (find nat_cmp job (chain_at lines.old q)) }
     ensures { (q : List ℕ) → chain_at lines.new q

@@ -12,7 +12,7 @@ ghost use Rattle.em_chain.specs.Floors.{chain_over, change_over, last_over, tabl
 ghost use Rattle.em_chain.specs.Listing.{IsListing, changed_at};
 
 use crate::chain::Steps;
-use crate::lines::Lines;
+use crate::lines::PathChains;
 use crate::marks::{
     changes_of, commit, count_live, cut_all, delta_of, drop_old, drop_stale, stage, take_delta,
 };
@@ -39,7 +39,7 @@ pub struct Versions {
     start: State,
     floor: u32,
     posts: BTreeMap<u32, Post>,
-    lines: Lines,
+    lines: PathChains,
 }
 
 impl Model for Versions {
@@ -78,7 +78,7 @@ impl Versions {
             start,
             floor: 0,
             posts: BTreeMap::new(alloc),
-            lines: Lines::new(alloc),
+            lines: PathChains::new(alloc),
         })
     }
 

@@ -8,8 +8,8 @@ use Rattle.std.specs.Prelude.{ℕ, Bool, true, false, List, [], ◌++◌, codes}
 use Rattle.em_base.specs.declared.place.Place.{Place}
 use Rattle.em_cmdline.specs.declared.order.WordNo.{WordNo}
 use Rattle.em_cmdline.specs.declared.order.WordNo.TheVariants as word
-use Rattle.em_reading.specs.declared.no.Fault.{Fault}
-use Rattle.em_reading.specs.declared.no.Fault.TheVariants as fault
+use Rattle.em_reading.specs.declared.no.MakefileFault.{MakefileFault}
+use Rattle.em_reading.specs.declared.no.MakefileFault.TheVariants as fault
 use Rattle.em_reading.specs.declared.no.RuleNo.{RuleNo}
 use Rattle.em_reading.specs.declared.no.RuleNo.TheVariants as rule
 use Rattle.em_reading.specs.declared.no.ReadNo.{ReadNo}
@@ -43,7 +43,7 @@ rule_text (rule.Static target) = codes "target " ++ quoted target ++ codes " doe
 rule_text (rule.Group target) = codes "grouped target " ++ quoted target ++ codes " needs a recipe"
 rule_text (rule.Mixed target) = codes "target file " ++ quoted target ++ codes " has both : and :: entries"
 
-abbrev pub read_text : Fault → List ℕ
+abbrev pub read_text : MakefileFault → List ℕ
 read_text fault.Separator = codes "missing separator"
 read_text fault.Conditional = codes "extraneous conditional"
 read_text fault.Endless = codes "missing endif"
@@ -55,7 +55,7 @@ read_text fault.Spent = codes "fuel spent"
 read_text fault.Limit = codes "limit"
 read_text (fault.Rule r) = rule_text r
 
-abbrev pub fault_line : Place → Fault → List ℕ
+abbrev pub fault_line : Place → MakefileFault → List ℕ
 fault_line p f = halted p (read_text f)
 
 abbrev pub read_line : ReadNo → List ℕ

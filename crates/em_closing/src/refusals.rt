@@ -6,7 +6,7 @@ ghost use Rattle.em_recipe.specs.Messages.{quoted};
 use em_base::{NoMemory, Place, Text};
 use em_cmdline::WordNo;
 use em_plan::PlanNo;
-use em_reading::{Fault, RuleNo};
+use em_reading::{MakefileFault, RuleNo};
 use em_recipe::{fault_text, put_halted, put_quoted};
 use std::alloc::Global;
 
@@ -90,25 +90,25 @@ fn joined(alloc: Global, first: &[u8], last: &[u8]) -> Result<Text, NoMemory>
     Ok(text)
 }
 
-fn read_text(alloc: Global, no: &Fault) -> Result<Text, NoMemory>
+fn read_text(alloc: Global, no: &MakefileFault) -> Result<Text, NoMemory>
     ensures { IfOk result (λ t. t ≡ refusals.read_text no.now) }
 {
     match no {
-        Fault::Separator => Text::from_slice(alloc, b"missing separator"),
-        Fault::Conditional => Text::from_slice(alloc, b"extraneous conditional"),
-        Fault::Endless => Text::from_slice(alloc, b"missing endif"),
-        Fault::Include(name) => joined(alloc, name.bytes(), b": absent"),
-        Fault::Expand(no) => fault_text(alloc, no),
-        Fault::Define => Text::from_slice(alloc, b"missing endef"),
-        Fault::Refused(name) => joined(alloc, b"refused: ", name.bytes()),
-        Fault::Spent => Text::from_slice(alloc, b"fuel spent"),
-        Fault::Limit => Text::from_slice(alloc, b"limit"),
-        Fault::Rule(no) => rule_text(alloc, no),
+        MakefileFault::Separator => Text::from_slice(alloc, b"missing separator"),
+        MakefileFault::Conditional => Text::from_slice(alloc, b"extraneous conditional"),
+        MakefileFault::Endless => Text::from_slice(alloc, b"missing endif"),
+        MakefileFault::Include(name) => joined(alloc, name.bytes(), b": absent"),
+        MakefileFault::Expand(no) => fault_text(alloc, no),
+        MakefileFault::Define => Text::from_slice(alloc, b"missing endef"),
+        MakefileFault::Refused(name) => joined(alloc, b"refused: ", name.bytes()),
+        MakefileFault::Spent => Text::from_slice(alloc, b"fuel spent"),
+        MakefileFault::Limit => Text::from_slice(alloc, b"limit"),
+        MakefileFault::Rule(no) => rule_text(alloc, no),
     }
 }
 
 /// Why the makefiles can't be read, at its place.
-pub fn fault_line(alloc: Global, place: &Place, no: &Fault) -> Result<Text, NoMemory>
+pub fn fault_line(alloc: Global, place: &Place, no: &MakefileFault) -> Result<Text, NoMemory>
     ensures { IfOk result (λ t. t ≡ refusals.fault_line place.now no.now) }
 {
     let text = read_text(alloc, no)?;

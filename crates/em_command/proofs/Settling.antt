@@ -25,7 +25,7 @@ use Rattle.em_word.specs.declared.shell.Shell.{Shell}
 use Rattle.em_command.specs.declared.jump.Jump.{Jump}
 use Rattle.em_command.specs.declared.jump.Jump.TheVariants.{End}
 use Rattle.em_command.specs.declared.here.Here.{Here}
-use Rattle.em_command.specs.declared.builtin.Answer.{Answer}
+use Rattle.em_command.specs.declared.builtin.BuiltinResult.{BuiltinResult}
 use Rattle.em_command.specs.declared.builtin.Ran.{Ran}
 use Rattle.em_command.specs.Jumps as jumps
 use Rattle.em_command.specs.Jumps.{is_free, of_desk}
@@ -84,13 +84,13 @@ built_end s t e (Err f) n is =
     first_error (Ok p) = f
     first_error (Err p) = p.0
 
-built_free : (name : List ℕ) (t : Shell) (r : Result Answer OperandNo) (x : Result Ran ExecNo) → performs.is_free is_want x ≡ false → with_state x t ≡ settled name (with_state r t) → performs.is_free (λ (y : OperandNo × Shell). operands.is_free y.0) (with_state r t) ≡ false
+built_free : (name : List ℕ) (t : Shell) (r : Result BuiltinResult OperandNo) (x : Result Ran ExecNo) → performs.is_free is_want x ≡ false → with_state x t ≡ settled name (with_state r t) → performs.is_free (λ (y : OperandNo × Shell). operands.is_free y.0) (with_state r t) ≡ false
 built_free name t (Ok a) x n is = refl
 built_free name t (Err (operand.Fault word why)) x n is = refl
 built_free name t (Err (operand.End e)) x n is = built_end t t e x n is
 
 module _ {V : Type 0} {tells : V → Told} {old new : DeskState V} {s t : Shell} {m : Asked} (name : List ℕ) where
-  built : (r : Result Answer OperandNo) (x : Result Ran ExecNo) → performs.is_free (λ (y : ExecNo × Shell). is_want y.0) (with_state x t) ≡ performs.is_free is_want x
+  built : (r : Result BuiltinResult OperandNo) (x : Result Ran ExecNo) → performs.is_free (λ (y : ExecNo × Shell). is_want y.0) (with_state x t) ≡ performs.is_free is_want x
       → (performs.is_free is_want x ≡ false → with_state x t ≡ settled name (with_state r t)) → Does operands.is_free tells old new s t r m → Does is_want tells old new s t x (settling name m)
   unfolding settling
   built r x same is q = let p = q.performs in record {
@@ -98,18 +98,18 @@ module _ {V : Type 0} {tells : V → Told} {old new : DeskState V} {s t : Shell}
       grows = p.grows;
       plain = λ n o all.
           let free : performs.is_free is_want x ≡ false = sym same ∙ n in
-          ap (λ (z : Result (Answer × Shell) (OperandNo × Shell) × Workspace). let y : Result (Ran × Shell) (ExecNo × Shell) × Workspace = (settled name z.0, z.1) in y) (p.plain (built_free name t r x free (is free)) o all)
+          ap (λ (z : Result (BuiltinResult × Shell) (OperandNo × Shell) × Workspace). let y : Result (Ran × Shell) (ExecNo × Shell) × Workspace = (settled name z.0, z.1) in y) (p.plain (built_free name t r x free (is free)) o all)
           ∙ ap (λ (y : Result (Ran × Shell) (ExecNo × Shell)). let z : Result (Ran × Shell) (ExecNo × Shell) × Workspace = (y, new.work) in z) (sym (is free));
     };
   }
 
-  pub settled_by : {r : Result Answer OperandNo} {x : Result Ran ExecNo} → (performs.is_free is_want x ≡ false → with_state x t ≡ settled name (with_state r t)) → Does operands.is_free tells old new s t r m → Does is_want tells old new s t x (settling name m)
+  pub settled_by : {r : Result BuiltinResult OperandNo} {x : Result Ran ExecNo} → (performs.is_free is_want x ≡ false → with_state x t ≡ settled name (with_state r t)) → Does operands.is_free tells old new s t r m → Does is_want tells old new s t x (settling name m)
   settled_by {r} {x = Ok a} is q = built r (Ok a) refl is q
   settled_by {r} {x = Err e} is q = built r (Err e) refl is q
 
 -- what a function found by the state alone
-pub said_s : {V : Type 0} {tells : V → Told} {d : DeskState V} {s : Shell} {r : Result Answer OperandNo} (f : Shell → Result Answer OperandNo) → (performs.is_free operands.is_free r ≡ false → r ≡ f s) → Does operands.is_free tells d d s s r (says f)
-said_s {s} f is = owned_s _ (λ n. ap (λ (y : Result Answer OperandNo). with_state y s) (is n))
+pub said_s : {V : Type 0} {tells : V → Told} {d : DeskState V} {s : Shell} {r : Result BuiltinResult OperandNo} (f : Shell → Result BuiltinResult OperandNo) → (performs.is_free operands.is_free r ≡ false → r ≡ f s) → Does operands.is_free tells d d s s r (says f)
+said_s {s} f is = owned_s _ (λ n. ap (λ (y : Result BuiltinResult OperandNo). with_state y s) (is n))
 
 pub free_desk : (e : DeskNo) → is_free (of_desk e) ≡ is_memory e
 free_desk (no.File f) = refl

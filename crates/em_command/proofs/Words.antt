@@ -18,7 +18,7 @@ use Rattle.em_utility.specs.Operands.{is_free}
 use Rattle.em_utility.specs.Writing.{nothing}
 use Rattle.em_word.specs.declared.shell.Shell.{Shell}
 use Rattle.em_command.specs.declared.builtin.Builtin.{Builtin}
-use Rattle.em_command.specs.declared.builtin.Answer.{Answer}
+use Rattle.em_command.specs.declared.builtin.BuiltinResult.{BuiltinResult}
 use Rattle.em_command.specs.declared.builtin.Ran.{Ran}
 use Rattle.em_command.specs.Builtins.{plain, well, wrong, each, each_of_some, change_directory, cd, asked_of, with_options, builtin_of, builtin}
 use Rattle.em_command.specs.Commands as commands
@@ -31,7 +31,7 @@ pub each_some : (change : List ℕ → Shell → Shell) (os : List (List ℕ)) (
 each_some change [] s e = absurd cc
 each_some change (o ∷ os) s e = refl
 
-module _ {V : Type 0} {tells : V → Told} {old new : DeskState V} {s t : Shell} {r : Result Answer OperandNo} where
+module _ {V : Type 0} {tells : V → Told} {old new : DeskState V} {s t : Shell} {r : Result BuiltinResult OperandNo} where
   pub cd_none : (os : List (List ℕ)) → length os < 1 → Does is_free tells old new s t r (refuse (wrong reason.MissingOperand)) → Does is_free tells old new s t r (cd os)
   cd_none [] lt p = p
   cd_none (o ∷ os) lt p = absurd (omega arith)
@@ -48,12 +48,12 @@ module _ {V : Type 0} {tells : V → Told} {old new : DeskState V} {s t : Shell}
 
 -- ---- options
 
-module _ {V : Type 0} {tells : V → Told} {old new : DeskState V} {s t : Shell} {r : Result Answer OperandNo} (b : Builtin) (in_loop : Bool) (words : List (List ℕ)) where
+module _ {V : Type 0} {tells : V → Told} {old new : DeskState V} {s t : Shell} {r : Result BuiltinResult OperandNo} (b : Builtin) (in_loop : Bool) (words : List (List ℕ)) where
   pub options_given : {o : Options} {x : Result Options ExecNo} → Ok o ≡ x → Does is_free tells old new s t r (asked_of b in_loop (drop o.taken words)) → Does is_free tells old new s t r (with_options b in_loop words x)
   options_given {o} is p = subst (λ (y : Result Options ExecNo). Does is_free tells old new s t r (with_options b in_loop words y)) is p
 
 module _ {V : Type 0} {tells : V → Told} {d : DeskState V} {s : Shell} (b : Builtin) (in_loop : Bool) (words : List (List ℕ)) where
-  unlisted : (e : ExecNo) (x : Result Options ExecNo) (r : Result Answer OperandNo) → (is_want e ≡ false → Err e ≡ x) → IsErrAnd r (λ y. y ≡ operand.End e) → Does is_free tells d d s s r (with_options b in_loop words x)
+  unlisted : (e : ExecNo) (x : Result Options ExecNo) (r : Result BuiltinResult OperandNo) → (is_want e ≡ false → Err e ≡ x) → IsErrAnd r (λ y. y ≡ operand.End e) → Does is_free tells d d s s r (with_options b in_loop words x)
   unlisted e x (Ok a) is end = absurd end
   unlisted e x (Err y) is end =
       subst (λ (z : OperandNo). Does is_free tells d d s s (Err z) (with_options b in_loop words x)) (sym end)
@@ -62,7 +62,7 @@ module _ {V : Type 0} {tells : V → Told} {d : DeskState V} {s : Shell} (b : Bu
       (λ free. subst (λ (y : Result Options ExecNo). Does is_free tells d d s s (Err (operand.End e)) (with_options b in_loop words y)) (is free) (refused_s (operand.End e) (λ h. refl))))
 
   -- an option's letter that isn't listed
-  pub options_refused : {e : ExecNo} {x : Result Options ExecNo} {r : Result Answer OperandNo} → (is_want e ≡ false → Err e ≡ x) → IsErrAnd r (λ y. y ≡ operand.End e) → Does is_free tells d d s s r (with_options b in_loop words x)
+  pub options_refused : {e : ExecNo} {x : Result Options ExecNo} {r : Result BuiltinResult OperandNo} → (is_want e ≡ false → Err e ≡ x) → IsErrAnd r (λ y. y ≡ operand.End e) → Does is_free tells d d s s r (with_options b in_loop words x)
   options_refused {e} {x} {r} is end = unlisted e x r is end
 
 -- ---- the command's name

@@ -31,7 +31,7 @@ use Rattle.em_command.specs.declared.jump.Flow.{Flow}
 use Rattle.em_command.specs.declared.jump.Flow.TheVariants as flow
 use Rattle.em_command.specs.declared.builtin.Builtin.{Builtin}
 use Rattle.em_command.specs.declared.builtin.Builtin.TheVariants.{Cd, Pwd, Exit, Export, Unset, Break, Continue}
-use Rattle.em_command.specs.declared.builtin.Answer.{Answer}
+use Rattle.em_command.specs.declared.builtin.BuiltinResult.{BuiltinResult}
 use Rattle.em_command.specs.declared.builtin.Ran.{Ran}
 use Rattle.em_command.specs.Heres.{with_text}
 
@@ -57,20 +57,20 @@ name_of Continue = codes "continue"
 
 -- what a built-in does: an answer, or the fault of an operand
 abbrev pub Asked : Type 0
-Asked = Steps Shell OperandNo Answer
+Asked = Steps Shell OperandNo BuiltinResult
 
 -- the same of one that asks nothing
 abbrev pub Sets : Type 0
-Sets = Shell → Result (Answer × Shell) (OperandNo × Shell)
+Sets = Shell → Result (BuiltinResult × Shell) (OperandNo × Shell)
 
 -- the same of one that changes nothing either
-abbrev pub says : (Shell → Result Answer OperandNo) → Asked
+abbrev pub says : (Shell → Result BuiltinResult OperandNo) → Asked
 says f = own (λ s. with_state (f s) s)
 
-abbrev pub answer : ℕ → List ℕ → Flow → Answer
+abbrev pub answer : ℕ → List ℕ → Flow → BuiltinResult
 answer status text f = record { status = status; text = text; flow = f }
 
-abbrev pub well : Answer
+abbrev pub well : BuiltinResult
 well = answer 0 [] flow.On
 
 -- it has too few operands or too many
@@ -111,24 +111,24 @@ cd [] = refuse (wrong reason.MissingOperand)
 cd (d ∷ []) = λ s. change_directory s.cwd d s
 cd (d ∷ e ∷ es) = refuse (wrong reason.ExtraOperand)
 
-abbrev pub pwd : List ℕ → List (List ℕ) → Result Answer OperandNo
+abbrev pub pwd : List ℕ → List (List ℕ) → Result BuiltinResult OperandNo
 pwd cwd [] = Ok (answer 0 (cwd ++ 10 ∷ []) flow.On)
 pwd cwd (o ∷ os) = Err (wrong reason.ExtraOperand)
 
 -- ---- exit, break, continue
 
 -- the status with which the shell ends: the last one, or the number that the word writes
-abbrev pub exit_by : List ℕ → Option ℕ → Result Answer OperandNo
+abbrev pub exit_by : List ℕ → Option ℕ → Result BuiltinResult OperandNo
 exit_by word (Some n) = Ok (answer n [] flow.Exit)
 exit_by word None = Err (operand.Fault word reason.NotANumber)
 
-abbrev pub exit : ℕ → List (List ℕ) → Result Answer OperandNo
+abbrev pub exit : ℕ → List (List ℕ) → Result BuiltinResult OperandNo
 exit last [] = Ok (answer last [] flow.Exit)
 exit last (n ∷ []) = exit_by n (number_of 255 n)
 exit last (n ∷ o ∷ os) = Err (wrong reason.ExtraOperand)
 
 -- outside a loop it does nothing
-abbrev pub leave : Bool → Flow → List (List ℕ) → Result Answer OperandNo
+abbrev pub leave : Bool → Flow → List (List ℕ) → Result BuiltinResult OperandNo
 leave in_loop f [] = Ok (answer 0 [] (if in_loop then f else flow.On))
 leave in_loop f (o ∷ os) = Err (wrong reason.ExtraOperand)
 
@@ -177,13 +177,13 @@ with_options b in_loop words (Err e) = refuse (operand.End e)
 unfoldable pub asked : Builtin → Bool → List (List ℕ) → Asked
 asked b in_loop words = with_options b in_loop words (read_options (name_of b) [] [] words)
 
-abbrev pub ran : Answer → Ran
+abbrev pub ran : BuiltinResult → Ran
 ran a = record { done = writing.written 1 a.text (record { status = a.status; pieces = [] }); flow = a.flow }
 
 abbrev pub plain : Done → Ran
 plain d = record { done = d; flow = flow.On }
 
-abbrev pub settled : List ℕ → Result (Answer × Shell) (OperandNo × Shell) → Result (Ran × Shell) (ExecNo × Shell)
+abbrev pub settled : List ℕ → Result (BuiltinResult × Shell) (OperandNo × Shell) → Result (Ran × Shell) (ExecNo × Shell)
 settled name (Ok (a, s)) = Ok (ran a, s)
 settled name (Err (operand.Fault word r, s)) = Ok (plain (faulted name word r nothing), s)
 settled name (Err (operand.End e, s)) = Err (e, s)

@@ -16,7 +16,7 @@ use Rattle.em_utility.specs.Operands.{named}
 use Rattle.em_command.specs.declared.jump.Jump.TheVariants.{End}
 use Rattle.em_command.specs.declared.streams.Sink.{Sink}
 use Rattle.em_command.specs.declared.streams.Sink.TheVariants.{Output, Errors, Nowhere, File}
-use Rattle.em_command.specs.declared.streams.Opened.{Opened}
+use Rattle.em_command.specs.declared.streams.OpenedFile.{OpenedFile}
 use Rattle.em_command.specs.declared.streams.Streams.{Streams}
 use Rattle.em_command.specs.Jumps.{Acts, Change, looked}
 use Rattle.em_command.specs.Heres.{piece, written, complain}
@@ -49,7 +49,7 @@ abbrev pub text_for : Streams → ℕ → List Piece → List ℕ
 text_for s i [] = []
 text_for s i (p ∷ ps) = into i (sink_of s p) p.text ++ text_for s i ps
 
-abbrev pub texts_from : Streams → List Piece → ℕ → List Opened → List (List ℕ)
+abbrev pub texts_from : Streams → List Piece → ℕ → List OpenedFile → List (List ℕ)
 texts_from s ps i [] = []
 texts_from s ps i (f ∷ fs) = text_for s i ps ∷ texts_from s ps (suc i) fs
 
@@ -64,7 +64,7 @@ append_to word p text (Some bytes) = named word (put p (bytes ++ text))
 unfoldable pub append_some : List ℕ → List ℕ → List ℕ → Action OperandNo (Unit {0})
 append_some word p text = action.◌>>=◌ (named word (content p)) (append_to word p text)
 
-abbrev pub append : Opened → List ℕ → Action OperandNo (Unit {0})
+abbrev pub append : OpenedFile → List ℕ → Action OperandNo (Unit {0})
 append f [] = action.done tt
 append f (b ∷ bs) = append_some f.word f.path (b ∷ bs)
 
@@ -74,10 +74,10 @@ told (Ok u) h = Ok (tt, h)
 told (Err (operand.Fault word r)) h = Ok (tt, complain word r h)
 told (Err (operand.End e)) h = Err (End e, h)
 
-unfoldable pub appended : Opened → List ℕ → Acts (Unit {0})
+unfoldable pub appended : OpenedFile → List ℕ → Acts (Unit {0})
 appended f text = looked (λ h. append f text) told
 
-abbrev pub append_each : List Opened → List (List ℕ) → Acts (Unit {0})
+abbrev pub append_each : List OpenedFile → List (List ℕ) → Acts (Unit {0})
 append_each [] ts = done tt
 append_each (f ∷ fs) [] = done tt
 append_each (f ∷ fs) (t ∷ ts) = do

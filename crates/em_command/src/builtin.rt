@@ -34,7 +34,7 @@ pub(crate) enum Builtin {
 
 /// What a built-in answers.
 #[derive(Drop)]
-pub(crate) struct Answer {
+pub(crate) struct BuiltinResult {
     pub(crate) status: u8,
     /// What it writes to stream 1.
     pub(crate) text: Text,
@@ -78,14 +78,14 @@ fn name_of(builtin: Builtin) -> &'static [u8]
     }
 }
 
-fn answered(status: u8, text: Text, flow: Flow) -> Answer
+fn answered(status: u8, text: Text, flow: Flow) -> BuiltinResult
     ensures { result ≡ builtins.answer status text flow }
 {
-    Answer { status, text, flow }
+    BuiltinResult { status, text, flow }
 }
 
 /// It was done, and there is nothing to say.
-fn well(alloc: Global) -> Answer
+fn well(alloc: Global) -> BuiltinResult
     ensures { result ≡ well }
 {
     answered(0, Text::new(alloc), Flow::On)
@@ -141,7 +141,7 @@ fn change_directory<V: View>(
     name: &[u8],
     shell: &mut Shell,
     desk: &mut Desk<V>,
-) -> Result<Answer, OperandNo>
+) -> Result<BuiltinResult, OperandNo>
     ensures { Does is_free V.tells desk.old desk.new shell.old shell.new result
         (change_directory shell.old.cwd name.now) }
 {
@@ -155,7 +155,7 @@ fn cd<V: View>(
     operands: &[Text],
     shell: &mut Shell,
     desk: &mut Desk<V>,
-) -> Result<Answer, OperandNo>
+) -> Result<BuiltinResult, OperandNo>
     ensures { Does is_free V.tells desk.old desk.new shell.old shell.new result (cd operands.now) }
 {
     match operands {
@@ -175,7 +175,7 @@ fn line_of(alloc: Global, text: &[u8]) -> Result<Text, NoMemory>
 }
 
 /// `pwd`
-fn pwd(alloc: Global, operands: &[Text], cwd: &Path) -> Result<Answer, OperandNo>
+fn pwd(alloc: Global, operands: &[Text], cwd: &Path) -> Result<BuiltinResult, OperandNo>
     ensures { free_in is_free result ≡ false → result ≡ builtins.pwd cwd.now operands.now }
 {
     match operands {
@@ -185,7 +185,7 @@ fn pwd(alloc: Global, operands: &[Text], cwd: &Path) -> Result<Answer, OperandNo
 }
 
 /// The status with which the shell ends.
-fn exit_by(alloc: Global, word: &[u8]) -> Result<Answer, OperandNo>
+fn exit_by(alloc: Global, word: &[u8]) -> Result<BuiltinResult, OperandNo>
     ensures { free_in is_free result ≡ false
         → result ≡ builtins.exit_by word.now (number_of 255 word.now) }
 {
@@ -196,7 +196,7 @@ fn exit_by(alloc: Global, word: &[u8]) -> Result<Answer, OperandNo>
 }
 
 /// `exit`
-fn exit(alloc: Global, operands: &[Text], status: u8) -> Result<Answer, OperandNo>
+fn exit(alloc: Global, operands: &[Text], status: u8) -> Result<BuiltinResult, OperandNo>
     ensures { free_in is_free result ≡ false → result ≡ builtins.exit status operands.now }
 {
     match operands {
@@ -207,7 +207,12 @@ fn exit(alloc: Global, operands: &[Text], status: u8) -> Result<Answer, OperandN
 }
 
 /// `break` and `continue`
-fn leave(alloc: Global, operands: &[Text], in_loop: bool, flow: Flow) -> Result<Answer, OperandNo>
+fn leave(
+    alloc: Global,
+    operands: &[Text],
+    in_loop: bool,
+    flow: Flow,
+) -> Result<BuiltinResult, OperandNo>
     ensures { free_in is_free result ≡ false → result ≡ builtins.leave in_loop flow operands.now }
 {
     if !operands.is_empty() {
@@ -249,7 +254,7 @@ fn export_one(alloc: Global, word: &[u8], shell: &mut Shell) -> Result<(), NoMem
 }
 
 /// `export`
-fn export(alloc: Global, operands: &[Text], shell: &mut Shell) -> Result<Answer, OperandNo>
+fn export(alloc: Global, operands: &[Text], shell: &mut Shell) -> Result<BuiltinResult, OperandNo>
     ensures { Works is_free shell.old shell.new result (each_of_some export_one operands.now) }
 {
     if operands.is_empty() {
@@ -262,7 +267,7 @@ fn export(alloc: Global, operands: &[Text], shell: &mut Shell) -> Result<Answer,
 }
 
 /// `unset`
-fn unset(alloc: Global, operands: &[Text], shell: &mut Shell) -> Result<Answer, OperandNo>
+fn unset(alloc: Global, operands: &[Text], shell: &mut Shell) -> Result<BuiltinResult, OperandNo>
     ensures { Works is_free shell.old shell.new result (each_of_some unset_one operands.now) }
 {
     if operands.is_empty() {
@@ -281,7 +286,7 @@ fn asked_of<V: View>(
     operands: &[Text],
     shell: &mut Shell,
     desk: &mut Desk<V>,
-) -> Result<Answer, OperandNo>
+) -> Result<BuiltinResult, OperandNo>
     ensures { Does is_free V.tells desk.old desk.new shell.old shell.new result
         (asked_of builtin in_loop operands.now) }
 {
@@ -303,7 +308,7 @@ fn asked<V: View>(
     words: &[Text],
     shell: &mut Shell,
     desk: &mut Desk<V>,
-) -> Result<Answer, OperandNo>
+) -> Result<BuiltinResult, OperandNo>
     ensures { Does is_free V.tells desk.old desk.new shell.old shell.new result
         (asked builtin in_loop words.now) }
 {
@@ -329,7 +334,7 @@ pub(crate) fn plain(done: Done) -> Ran
 }
 
 /// What the answer leaves.
-fn ran_of(alloc: Global, answer: Answer) -> Result<Ran, NoMemory>
+fn ran_of(alloc: Global, answer: BuiltinResult) -> Result<Ran, NoMemory>
     ensures { IfOk result (λ r. r ≡ builtins.ran answer) }
 {
     let mut done = begun(alloc);
@@ -350,7 +355,11 @@ fn faulted(alloc: Global, name: &[u8], word: &[u8], reason: Reason) -> Result<Ra
     Ok(plain(done))
 }
 
-fn settled(alloc: Global, name: &[u8], given: Result<Answer, OperandNo>) -> Result<Ran, ExecNo>
+fn settled(
+    alloc: Global,
+    name: &[u8],
+    given: Result<BuiltinResult, OperandNo>,
+) -> Result<Ran, ExecNo>
     ensures { free_in is_want result ≡ false → (s : Shell)
         → with_state result s ≡ settled name.now (with_state given s) }
 {

@@ -10,7 +10,7 @@ ghost use Rattle.em_utility.specs.Operands.{is_free};
 
 use crate::here::Here;
 use crate::jump::Jump;
-use crate::streams::{Opened, Sink, Streams};
+use crate::streams::{OpenedFile, Sink, Streams};
 use em_base::{NoMemory, Seq, Text};
 use em_utility::{OperandNo, named};
 use em_view::{Desk, Piece, View};
@@ -90,7 +90,7 @@ fn joined(alloc: Global, bytes: &[u8], text: &[u8]) -> Result<Text, NoMemory>
 
 fn append_some<V: View>(
     alloc: Global,
-    file: &Opened,
+    file: &OpenedFile,
     text: &[u8],
     desk: &mut Desk<V>,
 ) -> Result<(), OperandNo>
@@ -108,7 +108,7 @@ fn append_some<V: View>(
 /// Appends a text to a file, where it isn't empty and the file is there.
 fn append<V: View>(
     alloc: Global,
-    file: &Opened,
+    file: &OpenedFile,
     text: &[u8],
     desk: &mut Desk<V>,
 ) -> Result<(), OperandNo>
@@ -133,7 +133,7 @@ fn told(alloc: Global, given: Result<(), OperandNo>, here: &mut Here) -> Result<
 
 fn appended<V: View>(
     alloc: Global,
-    file: &Opened,
+    file: &OpenedFile,
     text: &[u8],
     here: &mut Here,
     desk: &mut Desk<V>,
@@ -148,7 +148,7 @@ fn appended<V: View>(
 /// Appends to one file after another the text of its place.
 fn append_each<V: View>(
     alloc: Global,
-    files: &[Opened],
+    files: &[OpenedFile],
     texts: &[Text],
     here: &mut Here,
     desk: &mut Desk<V>,

@@ -14,4 +14,4 @@ pub use act::perform;
 pub use delivery::{deliver, hand};
 pub use here::{Here, Scene};
 pub use jump::{Flow, Jump};
-pub use streams::{Opened, Sink, Streams, redirect};
+pub use streams::{OpenedFile, Sink, Streams, redirect};

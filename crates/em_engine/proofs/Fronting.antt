@@ -1,25 +1,17 @@
--- A front with one job more, and the table of which job changed a path last.
-use Rattle.std.proofs.Common.{◌≡◌, ◌<◌, ◌≤◌, ◌+◌, ◌^◌, ℕ, zero, suc, Bool, true, false, cond, ◌||◌, List, [], ◌∷◌, ◌++◌, Option, Some, None, length, map, take, get_or, refl, sym, ap, subst, ◌∙◌, add-zero, arith, slice_get}
-use Rattle.std.specs.Prelude.{IsSome, IsSomeAnd, is_some}
-use Rattle.std.specs.declared.cmp.Ordering.{Ordering}
-use Rattle.std.specs.Ordering.{nat_cmp, eq_by_cmp}
-use Rattle.std.specs.Cmp.Lexicographic.{slice_cmp, nat_list_cmp_total}
-use Rattle.std.specs.FinMap.{FinMap, get, insert, keys, contains_key-keys, get-insert}
-use Rattle.std.proofs.lemmas.Cmp.{eq_by_cmp_equiv}
-use Rattle.std.proofs.Math.Bool.{or-true}
-use Rattle.std.proofs.lemmas.List.{length-map}
-use Rattle.std.proofs.lemmas.List.Folds.{list_any_more}
+-- A front with one job more, and which job changed a path last.
+use Rattle.std.proofs.Common.{◌≡◌, ◌<◌, ◌≤◌, ◌+◌, ◌^◌, ℕ, zero, suc, Bool, true, false, cond, List, [], ◌∷◌, ◌++◌, Option, Some, None, length, map, take, get_or, refl, sym, ap, subst, ◌∙◌, add-zero, arith, slice_get}
+use Rattle.std.specs.Prelude.{IsSomeAnd, is_some}
+use Rattle.std.specs.FinMap.{get}
+use Rattle.std.proofs.lemmas.List.{length-map, length-take-le, take_more}
 use Rattle.em_tree.specs.declared.outcome.Outcome.{Outcome}
 use Rattle.em_tree.specs.declared.state.State.{State}
 use Rattle.em_tree.specs.Trees.{Changes}
-use Rattle.em_tree.proofs.Tables.{same_key}
 use Rattle.em_view.specs.declared.effect.Effect.{Effect}
 use Rattle.em_view.specs.Serial.{after}
 use Rattle.em_run.specs.declared.run.Parts.{Parts}
 use Rattle.em_run.specs.Runs.{effect_in}
 use Rattle.em_run.specs.Serial.{Made, Ran, is_early, IsSerial}
 use Rattle.em_run.proofs.Serials.{state_more, ran_more, is_early_more}
-use Rattle.em_engine.specs.Changed.{flat, is_among}
 use Rattle.em_engine.specs.Fronts.{Standing, next_of, last_from, named_last, committed, Stands, IsStanding}
 
 next_by : {S : Type 0} (b : Bool) (o : Option S) (next : S) → cond b None o ≡ Some next → (b ≡ false) × (o ≡ Some next)
@@ -108,72 +100,29 @@ last_push found n (e ∷ ds) d p =
     ∙ ap (λ (k : ℕ). cond (is_some (get d p)) (Some k) (last_from (cond (is_some (get e p)) (Some n) found) (n + 1) ds p))
     (let k : n + 1 + length ds ≡ n + length (e ∷ ds) = omega arith in k)
 
--- the paths that a delta more names are changed by it last
-pub named_more : (ds : List Changes) (d : Changes) (p : List ℕ) → named_last (ds ++ d ∷ []) p ≡ cond (is_among p (keys d)) (Some (length ds)) (named_last ds p)
-named_more ds d p = last_push None 0 ds d p
-    ∙ ap (λ (k : ℕ). cond (is_some (get d p)) (Some k) (named_last ds p)) (let k : 0 + length ds ≡ length ds = omega arith in k)
-    ∙ ap (λ (b : Bool). cond b (Some (length ds)) (named_last ds p)) (contains_key-keys d p)
+module _ (ds : List Changes) (i : ℕ) (d : Changes) (p : List ℕ) (lt : i < length ds) (at : d ≡ get_or ds i d) where
+  named_up_to : named_last (take (i + 1) ds) p ≡ cond (is_some (get d p)) (Some i) (named_last (take i ds) p)
+  named_up_to =
+      let count : length (take i ds) ≡ i = length-take-le i ds (omega (arith, lt)) in
+      let place : 0 + length (take i ds) ≡ i = omega (arith, count) in
+      ap (λ (es : List Changes). named_last es p) (take_more ds i d lt ∙ ap (λ (e : Changes). take i ds ++ e ∷ []) (sym at))
+      ∙ last_push None 0 (take i ds) d p
+      ∙ ap (λ (k : ℕ). cond (is_some (get d p)) (Some k) (named_last (take i ds) p)) place
 
--- ---- the table
+  -- the last delta of these names the path
+  pub named_here : is_some (get d p) ≡ true → named_last (take (i + 1) ds) p ≡ Some i
+  named_here h = named_up_to ∙ ap (λ (b : Bool). cond b (Some i) (named_last (take i ds) p)) h
 
-abbrev order : List ℕ → List ℕ → Ordering
-order = slice_cmp nat_cmp
+  -- it doesn't
+  pub named_before : is_some (get d p) ≡ false → named_last (take (i + 1) ds) p ≡ named_last (take i ds) p
+  named_before h = named_up_to ∙ ap (λ (b : Bool). cond b (Some i) (named_last (take i ds) p)) h
 
-abbrev Places : Type 0
-Places = FinMap (slice_cmp nat_cmp) (Option ℕ)
-
-module _ (t : Places) (name : List ℕ) where
-  -- a place more says nothing
-  pub place_same : get t name ≡ None → (p : List ℕ) → flat (get (insert t name None) p) ≡ flat (get t p)
-  place_same none p = ap flat (get-insert nat_list_cmp_total t name None p) ∙ by_case (eq_by_cmp order p name) refl
-    where
-      by_case : (b : Bool) → eq_by_cmp order p name ≡ b → flat (cond b (Some None) (get t p)) ≡ flat (get t p)
-      by_case true e = sym (ap flat (ap (get t) (same_key p name e) ∙ none))
-      by_case false e = refl
-
-  module _ (v : Option ℕ) (p : List ℕ) where
-    pub place_stays : IsSome (get t p) → IsSome (get (insert t name v) p)
-    place_stays h = ap is_some (get-insert nat_list_cmp_total t name v p) ∙ by_case (eq_by_cmp order p name)
-      where
-        by_case : (b : Bool) → is_some (cond b (Some v) (get t p)) ≡ true
-        by_case true = refl
-        by_case false = h
-
-    pub place_here : eq_by_cmp order p name ≡ true → IsSome (get (insert t name v) p)
-    place_here e = ap is_some (get-insert nat_list_cmp_total t name v p) ∙ ap (λ b. is_some (cond b (Some v) (get t p))) e
-
--- each path up to here has a place, and one more
-pub room_more : (names : List (List ℕ)) (i : ℕ) (x : List ℕ) (old new : Places) → i < length names → x ≡ get_or names i x
-    → ((p : List ℕ) → IsSome (get old p) → IsSome (get new p)) → IsSome (get new x)
-    → ((p : List ℕ) → is_among p (take i names) ≡ true → IsSome (get old p))
-    → (p : List ℕ) → is_among p (take (i + 1) names) ≡ true → IsSome (get new p)
-room_more names i x old new lt is stays here room p among =
-    by_case (is_among p (take i names)) (eq_by_cmp order p (get_or names i x)) refl refl (sym (list_any_more (eq_by_cmp order p) names i x lt) ∙ among)
-  where
-    by_case : (a b : Bool) → is_among p (take i names) ≡ a → eq_by_cmp order p (get_or names i x) ≡ b → (a || b) ≡ true → IsSome (get new p)
-    by_case true b e f g = stays p (room p e)
-    by_case false true e f g = ap is_some (ap (get new) (same_key p (get_or names i x) f ∙ sym is)) ∙ here
-    by_case false false e f g = cc
-
--- the rest of the paths are marked
-pub mark_step : (t u : Places) (job : ℕ) (x p : List ℕ) (rest : List (List ℕ)) → u ≡ insert t x (Some job)
-    → cond (is_among p rest) (Some job) (flat (get u p)) ≡ cond (is_among p (x ∷ rest)) (Some job) (flat (get t p))
-mark_step t u job x p rest is = ap (λ (w : Places). cond (is_among p rest) (Some job) (flat (get w p))) is
-    ∙ ap (λ (o : Option (Option ℕ)). cond (is_among p rest) (Some job) (flat o)) (get-insert nat_list_cmp_total t x (Some job) p) ∙ by_case (eq_by_cmp order p x) (is_among p rest)
-  where
-    by_case : (b a : Bool) → cond a (Some job) (flat (cond b (Some (Some job)) (get t p))) ≡ cond (b || a) (Some job) (flat (get t p))
-    by_case true true = refl
-    by_case true false = refl
-    by_case false a = refl
-
-pub among_first : (x : List ℕ) (rest : List (List ℕ)) → is_among x (x ∷ rest) ≡ true
-among_first x rest = ap (λ (b : Bool). b || is_among x rest) ((eq_by_cmp_equiv nat_list_cmp_total).refl x)
-
-pub among_rest : (p x : List ℕ) (rest : List (List ℕ)) → is_among p rest ≡ true → is_among p (x ∷ rest) ≡ true
-among_rest p x rest h = ap (λ (b : Bool). eq_by_cmp order p x || b) h ∙ or-true (eq_by_cmp order p x)
-
-pub place_one : (t : Places) (name : List ℕ) (v : Option ℕ) → IsSome (get (insert t name v) name)
-place_one t name v = place_here t name v name ((eq_by_cmp_equiv nat_list_cmp_total).refl name)
+-- fewer jobs are committed than a number can tell
+pub few_deltas : {S : Type 0} (makes : S → State → Effect → ℕ → Type 0) (ends : S → Outcome → Bool) (v : Standing S) → IsStanding makes ends v → length v.deltas < 2 ^ 32
+few_deltas makes ends v b =
+    let count : length v.deltas ≡ length b.made = ap length b.stands.deltas_are ∙ length-map b.made _ in
+    let within = ran_within makes ends v.start v.specs b.made b.stands.ran in
+    omega (arith, count, within, b.small)
 
 pub no_some : {A : Type 0} (o : Option A) → is_some o ≡ false → o ≡ None
 no_some None h = refl

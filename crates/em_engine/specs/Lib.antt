@@ -6,6 +6,5 @@ pub mod Boards
 pub mod Calls
 pub mod Fronts
 pub mod Verdicts
-pub mod Changed
 pub mod Codes
 pub mod Laws

@@ -2,14 +2,14 @@
 ghost use Rattle.std.specs.Prelude.{◌≡◌, ◌↔◌, ◌<◌, ◌^◌, ℕ, [], Some, All, IsTrue, IfOk, IfErr, OnOk, OnErr, MatchBool, length, map, replicate, slice_get, slice_index_or, true};
 ghost use Rattle.em_engine.specs.declared.event.Event.TheVariants as event;
 ghost use Rattle.em_engine.specs.declared.event.Phase.TheVariants as phase;
-ghost use Rattle.em_engine.specs.declared.ready.Stage.TheVariants as stage;
+ghost use Rattle.em_engine.specs.declared.ready.JobState.TheVariants as stage;
 ghost use Rattle.em_engine.specs.Stages.{CanClaim};
 ghost use Rattle.em_engine.specs.Journal.{IsLegal, first, weight_of, asked_of};
 ghost use Rattle.em_engine.specs.Boards.{Seen, AreTied, stage_of, told, stages, is_kept};
 ghost use Rattle.em_engine.specs.Calls.{entry, noted, moved, put, answer_now, can_take, can_settle, left_by, Claims, Takes};
 
 use crate::event::{Event, Phase, Taken};
-use crate::ready::{Claim, Ready};
+use crate::ready::{Claim, ReadyQueue};
 use em_base::{NoMemory, Seq};
 use em_chain::{Post, Versions};
 use em_run::{Run, Spec};
@@ -27,7 +27,7 @@ use std::mem;
 pub struct Board<S: Spec> {
     alloc: Global,
     versions: Versions,
-    ready: Ready,
+    ready: ReadyQueue,
     phases: Vec<Phase<S>>,
     asked: Vec<Usage>,
     settled: u32,
@@ -93,7 +93,7 @@ impl<S: Spec> Board<S> {
         let phases = free_phases(alloc, count)?;
         let asked = no_entries(alloc, count)?;
         let versions = Versions::new(alloc, start)?;
-        let ready = Ready::new(alloc, waits)?;
+        let ready = ReadyQueue::new(alloc, waits)?;
         Ok(Board {
             alloc,
             versions,

@@ -1,4 +1,4 @@
-//! Flags, the first raised one of which is found at once.
+//! FlagTree, the first raised one of which is found at once.
 ghost use Rattle.std.specs.Prelude.{◌≡◌, ◌≢◌, ℕ, ◌<◌, ◌≤◌, ◌^◌, Some, IfOk, MatchOption, true, length, slice_get, slice_set};
 ghost use Rattle.em_engine.specs.Flags.{IsFirst};
 
@@ -6,19 +6,19 @@ use em_base::NoMemory;
 use std::alloc::Global;
 use std::marker::Model;
 
-/// Flags in a row, seen as a list. The first raised one is found, and a flag is put, in steps for
+/// FlagTree in a row, seen as a list. The first raised one is found, and a flag is put, in steps for
 /// the logarithm of how many there are, and both take no memory.
 ///
 /// `any` is a full binary tree in a row: node `k` tells whether a flag below it is raised, its
 /// halves are the nodes `2 * k` and `2 * k + 1`, and the flags are the nodes from `width` on.
 #[derive(Drop)]
-pub struct Flags {
+pub struct FlagTree {
     levels: u32,
     width: usize,
     any: Vec<bool>,
 }
 
-impl Model for Flags {
+impl Model for FlagTree {
     ghost use Rattle.std.specs.Prelude.{List, Bool, drop};
     ghost use Rattle.em_engine.specs.Flags.{IsTree};
 
@@ -29,15 +29,15 @@ impl Model for Flags {
     ghost invariant = { λ f. IsTree f.levels f.width f.any.items };
 }
 
-impl Flags {
+impl FlagTree {
     /// At least so many flags, none of them raised.
-    pub fn new(alloc: Global, count: usize) -> Result<Flags, NoMemory>
+    pub fn new(alloc: Global, count: usize) -> Result<FlagTree, NoMemory>
         requires { count < 2 ^ 32 }
         ensures { IfOk result (λ f. (count ≤ length f) × ((i : ℕ) → slice_get f i ≢ Some true)) }
     {
         let (levels, width) = size_for(count);
         let any = vec![in alloc; false; 2 * width]?;
-        Ok(Flags { levels, width, any })
+        Ok(FlagTree { levels, width, any })
     }
 
     /// The place of the first raised flag; `None` exactly where none is raised.

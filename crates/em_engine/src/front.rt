@@ -6,9 +6,9 @@ ghost use Rattle.em_run.specs.Runs.{effect_in, Gives};
 ghost use Rattle.em_engine.specs.Fronts.{Standing, next_of, named_last, committed, last_change, IsStanding, AreNumbered};
 ghost use Rattle.em_engine.specs.Verdicts.{IsVerdict, IsFirstApart, IsFirstWrong};
 
-use crate::changed::{make_room, mark, named};
+use crate::changed::named_last;
 use crate::note::Verdict;
-use em_base::{NoMemory, Seq, Table, Text};
+use em_base::{NoMemory, Seq, Text};
 use em_path::Path;
 use em_run::{Run, Spec};
 use em_tree::{Answer, Delta, Entry, Look, Question, State, Usage};
@@ -28,15 +28,10 @@ pub struct Front<S: Spec> {
     ended: bool,
     fuel: Vec<u64>,
     deltas: Vec<Delta>,
-    /// By path the last committed job that changed it; a path may have a place though none has.
-    changed: Table<Option<u32>>,
 }
 
 impl<S: Spec> Model for Front<S> {
-    ghost use Rattle.std.specs.Prelude.{◌≡◌, ℕ, List};
-    ghost use Rattle.std.specs.FinMap.{get};
-    ghost use Rattle.em_engine.specs.Fronts.{Standing, IsStanding, AreNumbered, named_last};
-    ghost use Rattle.em_engine.specs.Changed.{flat};
+    ghost use Rattle.em_engine.specs.Fronts.{Standing, IsStanding, AreNumbered};
 
     ghost Value = { Standing S };
 
@@ -61,7 +56,6 @@ impl<S: Spec> Model for Front<S> {
       fuel = f.fuel.items;
       deltas = f.deltas.items;
     })
-        × ((p : List ℕ) → flat (get f.changed p) ≡ named_last f.deltas.items p)
         × AreNumbered S.job_of f.specs };
 }
 
@@ -89,7 +83,6 @@ impl<S: Spec> Front<S> {
             ended: false,
             fuel: Vec::new(alloc),
             deltas: Vec::new(alloc),
-            changed: Table::new(alloc),
         })
     }
 
@@ -114,7 +107,8 @@ impl<S: Spec> Front<S> {
         self.specs.get(self.deltas.len())
     }
 
-    /// The last committed job that changed what the question asks, in one search.
+    /// The last committed job that changed what the question asks. A search in what each job
+    /// changed, from the last one back to that one.
     pub fn last_change(&self, q: &Question) -> Option<u32>
         ensures { result ≡ last_change self.now q.now }
     {
@@ -143,10 +137,7 @@ impl<S: Spec> Front<S> {
     fn changed_last(&self, p: &Path) -> Option<u32>
         ensures { result ≡ named_last self.now.deltas p.now }
     {
-        match self.changed.get(p.text()) {
-            Some(job) => *job,
-            None => None,
-        }
+        named_last(self.deltas.as_slice(), p)
     }
 
     /// What is to be found of a run that the board answered so. Steps for each look of the usage as
@@ -189,13 +180,6 @@ impl<S: Spec> Front<S> {
         ensures err { IfErr result (λ r. (r ≡ run) × (self.new ≡ self.old)) }
         ensures gives { OnOk result (Gives S.makes run self.old.state) }
     {
-        let job = self.deltas.len() as u32;
-        let Ok(names) = named(self.alloc, run.delta()) else {
-            return Err(run);
-        };
-        let Ok(()) = make_room(&mut self.changed, self.alloc, names.as_slice()) else {
-            return Err(run);
-        };
         let Ok(()) = self.fuel.reserve(1) else {
             return Err(run);
         };
@@ -205,7 +189,6 @@ impl<S: Spec> Front<S> {
         let Ok(()) = lay_run(self.alloc, &mut self.state, &run) else {
             return Err(run);
         };
-        mark(&mut self.changed, names, job);
         self.ended = run.spec().ends(run.outcome());
         let parts = run.into_parts();
         self.fuel.push_reserved(parts.fuel);
@@ -227,7 +210,6 @@ impl<S: Spec> Front<S> {
             ended: _,
             fuel,
             deltas: _,
-            changed: _,
         } = self;
         (state, fuel)
     }

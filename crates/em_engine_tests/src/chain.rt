@@ -10,14 +10,14 @@ use std::test::Fail;
 mod walk;
 
 /// A path, and the stamp of the file that a job makes there; 0 stands for none.
-type Change = (&'static str, u64);
+type StampRow = (&'static str, u64);
 
 /// A call, with the job.
-enum Step {
+enum JobCall {
     /// Posts the changes of a job that made something.
-    Post(u32, &'static [Change]),
+    Post(u32, &'static [StampRow]),
     /// The same of a job that was up to date.
-    Upto(u32, &'static [Change]),
+    Upto(u32, &'static [StampRow]),
     Withdraw(u32),
     Raise(u32),
     /// What the job is answered of the path, of the root's names and of job 2.
@@ -30,10 +30,10 @@ enum Step {
     Walk,
 }
 
-use Step::*;
+use JobCall::*;
 
 /// The calls over a root with stamp 1, and what they say.
-type Row = (&'static [Step], &'static str);
+type Row = (&'static [JobCall], &'static str);
 
 static ROWS: [Row; 6] = [
     // A post is seen above its job until it is withdrawn.
@@ -161,7 +161,7 @@ fn change(alloc: Global, delta: &mut Delta, text: &str, stamp: u64) -> Result<()
     delta.set(path, node)
 }
 
-fn delta_of(alloc: Global, changes: &[Change]) -> Result<Delta, NoMemory> {
+fn delta_of(alloc: Global, changes: &[StampRow]) -> Result<Delta, NoMemory> {
     let mut delta = Delta::new(alloc);
     for (text, stamp) in changes {
         change(alloc, &mut delta, text, *stamp)?;
@@ -177,12 +177,12 @@ fn put(v: &mut Versions, job: u32, delta: Delta, outcome: Outcome) -> Result<(),
     v.post(job, delta, outcome)
 }
 
-fn made(alloc: Global, v: &mut Versions, job: u32, changes: &[Change]) -> Result<(), NoMemory> {
+fn made(alloc: Global, v: &mut Versions, job: u32, changes: &[StampRow]) -> Result<(), NoMemory> {
     let delta = delta_of(alloc, changes)?;
     put(v, job, delta, Outcome::Made)
 }
 
-fn upto(alloc: Global, v: &mut Versions, job: u32, changes: &[Change]) -> Result<(), NoMemory> {
+fn upto(alloc: Global, v: &mut Versions, job: u32, changes: &[StampRow]) -> Result<(), NoMemory> {
     let delta = delta_of(alloc, changes)?;
     put(v, job, delta, Outcome::Upto)
 }
@@ -318,8 +318,8 @@ fn count(v: &Versions, log: &mut String) -> Result<(), AllocError> {
 fn take_step(
     alloc: Global,
     v: &mut Versions,
-    done: &[Step],
-    step: &Step,
+    done: &[JobCall],
+    step: &JobCall,
     log: &mut String,
 ) -> Result<(), NoMemory> {
     match step {
@@ -337,7 +337,7 @@ fn take_step(
 fn take_all(
     alloc: Global,
     v: &mut Versions,
-    steps: &[Step],
+    steps: &[JobCall],
     log: &mut String,
 ) -> Result<(), NoMemory> {
     for i in 0..steps.len() {
@@ -346,12 +346,12 @@ fn take_all(
     Ok(())
 }
 
-fn play(alloc: Global, steps: &[Step], log: &mut String) -> Result<(), NoMemory> {
+fn play(alloc: Global, steps: &[JobCall], log: &mut String) -> Result<(), NoMemory> {
     let mut v = start(alloc)?;
     take_all(alloc, &mut v, steps, log)
 }
 
-fn log_of(alloc: Global, steps: &[Step]) -> Result<String, NoMemory> {
+fn log_of(alloc: Global, steps: &[JobCall]) -> Result<String, NoMemory> {
     let mut log = String::new(alloc);
     play(alloc, steps, &mut log)?;
     Ok(log)

@@ -11,7 +11,7 @@ use Rattle.em_command.specs.declared.jump.Jump.{Jump}
 use Rattle.em_command.specs.declared.jump.Jump.TheVariants.{Exit, Break, Continue, End}
 use Rattle.em_command.specs.declared.here.Here.{Here}
 use Rattle.em_exec.specs.declared.sub.SubWords.{SubWords}
-use Rattle.em_exec.specs.declared.sub.Heard.{Heard}
+use Rattle.em_exec.specs.declared.sub.WordsHeard.{WordsHeard}
 use Rattle.em_exec.specs.Exec.{Session}
 use Rattle.em_exec.specs.Subs.{closed_with, is_ended}
 
@@ -25,7 +25,7 @@ pub same_end : (A : Type 0) {B : Type 0} (j : Jump) (r : Result B Jump) → IsEr
 same_end A j (Ok b) is = absurd is
 same_end A {B} j (Err x) is = ap (λ (y : Jump). is_ended {A = A} (Err y)) (sym is) ∙ of_any A B x
 
-pub unended : (P : Type 0) (s u : Session) (h : Here) (r : Result Heard Jump) (x : Result SubWords ExecNo) → (performs.is_free is_want x ≡ false → with_state x u ≡ closed_with s (with_state r h)) → (is_ended r ≡ false → P) → IfOk x (λ w. P)
+pub unended : (P : Type 0) (s u : Session) (h : Here) (r : Result WordsHeard Jump) (x : Result SubWords ExecNo) → (performs.is_free is_want x ≡ false → with_state x u ≡ closed_with s (with_state r h)) → (is_ended r ≡ false → P) → IfOk x (λ w. P)
 unended P s u h r (Err e) is p = tt
 unended P s u h (Ok heard) (Ok w) is p = p refl
 unended P s u h (Err Exit) (Ok w) is p = p refl

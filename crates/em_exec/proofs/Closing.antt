@@ -17,8 +17,8 @@ use Rattle.em_exec.specs.Words.{in_copy}
 use Rattle.em_exec.specs.Running.{script_at}
 use Rattle.em_exec.specs.Exec.{Session, closed, run}
 use Rattle.em_exec.specs.declared.sub.SubWords.{SubWords}
-use Rattle.em_exec.specs.declared.sub.Heard.{Heard}
-use Rattle.em_exec.specs.declared.sub.Heard.TheVariants.{Told as Hears, Missed, Ran}
+use Rattle.em_exec.specs.declared.sub.WordsHeard.{WordsHeard}
+use Rattle.em_exec.specs.declared.sub.WordsHeard.TheVariants.{Told as Hears, Missed, Ran}
 use Rattle.em_exec.specs.Subs.{SubForm, heard, closed_with, words_of}
 
 ended_free : {A : Type 0} (r : Result A Jump) (h : Here) → performs.is_free (λ (x : Jump × Here). is_free x.0) (with_state r h) ≡ performs.is_free is_free r
@@ -52,7 +52,7 @@ module _ {V : Type 0} {tells : V → Told} {old new : DeskState V} {s u : Sessio
 
 -- ---- the words of a line
 
-words_free : (s : Session) (r : Result Heard Jump) (h : Here) → performs.is_free (λ (e : ExecNo × Session). is_want e.0) (closed_with s (with_state r h)) ≡ performs.is_free is_free r
+words_free : (s : Session) (r : Result WordsHeard Jump) (h : Here) → performs.is_free (λ (e : ExecNo × Session). is_want e.0) (closed_with s (with_state r h)) ≡ performs.is_free is_free r
 words_free s (Ok (Hears ws)) h = refl
 words_free s (Ok (Missed name)) h = refl
 words_free s (Ok Ran) h = refl
@@ -61,7 +61,7 @@ words_free s (Err Break) h = refl
 words_free s (Err Continue) h = refl
 words_free s (Err (End e)) h = refl
 
-module _ {V : Type 0} {tells : V → Told} {old new : DeskState V} {s u : Session} {h : Here} {r : Result Heard Jump} {x : Result SubWords ExecNo} (f : SubForm) where
+module _ {V : Type 0} {tells : V → Told} {old new : DeskState V} {s u : Session} {h : Here} {r : Result WordsHeard Jump} {x : Result SubWords ExecNo} (f : SubForm) where
   pub closing_words : Does is_free tells old new (begun s.shell) h r (heard (script_at 64) (in_copy []) f) → (performs.is_free is_want x ≡ false → with_state x u ≡ closed_with s (with_state r h)) → Does is_want tells old new s u x (words_of f)
   unfolding words_of
   closing_words p is = record {
@@ -70,7 +70,7 @@ module _ {V : Type 0} {tells : V → Told} {old new : DeskState V} {s u : Sessio
       plain = λ n o all.
           let end = is (sym (session_free x u) ∙ n) in
           let kept = sym (words_free s r h) ∙ ap (λ (z : Result (SubWords × Session) (ExecNo × Session)). performs.is_free (λ (e : ExecNo × Session). is_want e.0) z) (sym end) ∙ n in
-          ap (λ (z : Result (Heard × Here) (Jump × Here) × Workspace). let y : Result (SubWords × Session) (ExecNo × Session) × Workspace = (closed_with s z.0, z.1) in y) (p.performs.plain (ended_free r h ∙ kept) o all)
+          ap (λ (z : Result (WordsHeard × Here) (Jump × Here) × Workspace). let y : Result (SubWords × Session) (ExecNo × Session) × Workspace = (closed_with s z.0, z.1) in y) (p.performs.plain (ended_free r h ∙ kept) o all)
           ∙ ap (λ (z : Result (SubWords × Session) (ExecNo × Session)). let y : Result (SubWords × Session) (ExecNo × Session) × Workspace = (z, new.work) in y) (sym end);
     };
   }

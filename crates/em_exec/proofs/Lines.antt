@@ -19,7 +19,7 @@ use Rattle.em_command.specs.declared.here.Here.{Here}
 use Rattle.em_command.specs.declared.here.Scene.{Scene}
 use Rattle.em_command.specs.Jumps.{is_free}
 use Rattle.em_exec.specs.declared.sub.SubWords.{SubWords}
-use Rattle.em_exec.specs.declared.sub.Heard.{Heard}
+use Rattle.em_exec.specs.declared.sub.WordsHeard.{WordsHeard}
 use Rattle.em_exec.specs.Words.{Deeper}
 use Rattle.em_exec.specs.Exec.{Session}
 use Rattle.em_exec.specs.Subs.{SubForm, Behind, path_of, enter_by, enter, inside, ordinary, by_fields, behind, form_by, form_in, words_of, words_if}
@@ -33,7 +33,7 @@ module _ {V : Type 0} {tells : V → Told} {old new : DeskState V} {h u : Here} 
 
 -- ---- how many fields there are
 
-module _ {V : Type 0} {tells : V → Told} {old new : DeskState V} {h u : Here} {r : Result Heard Jump} (deeper : Deeper) (scene : Scene) (cd : Simple) (j : Joined) (make : Simple) where
+module _ {V : Type 0} {tells : V → Told} {old new : DeskState V} {h u : Here} {r : Result WordsHeard Jump} (deeper : Deeper) (scene : Scene) (cd : Simple) (j : Joined) (make : Simple) where
   pub by_two : (ws : List (List ℕ)) (name : List ℕ) → length ws ≡ 2 → name ≡ get_or ws 1 name → Does is_free tells old new h u r (inside deeper scene name make) → Does is_free tells old new h u r (by_fields deeper scene cd j make ws)
   by_two [] name two is p = absurd (omega (arith, two))
   by_two (a ∷ []) name two is p = absurd (omega (arith, two))

@@ -35,8 +35,8 @@ use Rattle.em_command.specs.Jumps.{Acts, Change, of_desk}
 use Rattle.em_command.specs.Heres.{begun}
 use Rattle.em_exec.specs.declared.sub.SubWords.{SubWords}
 use Rattle.em_exec.specs.declared.sub.SubWords.TheVariants.{Words, NoDir, Status}
-use Rattle.em_exec.specs.declared.sub.Heard.{Heard}
-use Rattle.em_exec.specs.declared.sub.Heard.TheVariants.{Told, Missed, Ran}
+use Rattle.em_exec.specs.declared.sub.WordsHeard.{WordsHeard}
+use Rattle.em_exec.specs.declared.sub.WordsHeard.TheVariants.{Told, Missed, Ran}
 use Rattle.em_exec.specs.Literals.{is_text}
 use Rattle.em_exec.specs.Words.{Deeper, in_copy, fields}
 use Rattle.em_exec.specs.Running.{CommandBody, unsubstituted, of_words, joined_one, script_at}
@@ -157,40 +157,40 @@ module _ (deeper : Deeper) (scene : Scene) where
     fields_in c
 
   -- the words behind the name
-  abbrev pub told : List (List ℕ) → Acts Heard
+  abbrev pub told : List (List ℕ) → Acts WordsHeard
   told ws = done (Told (drop 1 ws))
 
-  abbrev pub if_there : List ℕ → Simple → Bool → Acts Heard
+  abbrev pub if_there : List ℕ → Simple → Bool → Acts WordsHeard
   if_there name make true = fields_in make >>= told
   if_there name make false = done (Missed name)
 
   -- the command's unit, the directory, and then the words, which are expanded there
-  unfoldable pub inside : List ℕ → Simple → Acts Heard
+  unfoldable pub inside : List ℕ → Simple → Acts WordsHeard
   inside name make = do
     u ← below of_desk (spend 1)
     there ← enter name
     if_there name make there
 
   -- what `cd` does with these words, and what is joined to it
-  unfoldable pub ordinary : Simple → List (List ℕ) → Joined → Acts Heard
+  unfoldable pub ordinary : Simple → List (List ℕ) → Joined → Acts WordsHeard
   ordinary cd words j = do
     u ← of_words deeper scene cd words
     v ← joined_one deeper scene j
     done Ran
 
   -- where W comes to one field; else the line is an ordinary one
-  abbrev pub by_fields : Simple → Joined → Simple → List (List ℕ) → Acts Heard
+  abbrev pub by_fields : Simple → Joined → Simple → List (List ℕ) → Acts WordsHeard
   by_fields cd j make (c ∷ name ∷ []) = inside name make
   by_fields cd j make words = ordinary cd words j
 
-  abbrev pub heard : SubForm → Acts Heard
+  abbrev pub heard : SubForm → Acts WordsHeard
   heard (Alone make) = charged make >>= told
   heard (Behind cd j make) = charged cd >>= by_fields cd j make
 
 -- ---- a line
 
 -- what the line comes to, and the session behind it; `exit` and a name that isn't set end the line
-abbrev pub closed_with : Session → Result (Heard × Here) (Jump × Here) → Result (SubWords × Session) (ExecNo × Session)
+abbrev pub closed_with : Session → Result (WordsHeard × Here) (Jump × Here) → Result (SubWords × Session) (ExecNo × Session)
 closed_with s (Ok (Told ws, h)) = Ok (Words ws, left_by h s)
 closed_with s (Ok (Missed name, h)) = Ok (NoDir name, left_by h s)
 closed_with s (Ok (Ran, h)) = Ok (Status h.shell.status, left_by h s)

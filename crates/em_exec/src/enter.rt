@@ -6,7 +6,7 @@ ghost use Rattle.em_exec.specs.Subs as subs;
 ghost use Rattle.em_view.specs.Steps.{Does};
 
 use crate::parts::charge_unit;
-use crate::sub::{Heard, behind_first, fields_in};
+use crate::sub::{WordsHeard, behind_first, fields_in};
 use em_base::{NoMemory, Text};
 use em_command::{Here, Jump, Scene};
 use em_path::{Path, PathNo};
@@ -67,14 +67,14 @@ pub(crate) fn inside<V: View>(
     scene: &Scene,
     here: &mut Here,
     desk: &mut Desk<V>,
-) -> Result<Heard, Jump>
+) -> Result<WordsHeard, Jump>
     ensures { Does is_free V.tells desk.old desk.new here.old here.new result
         (subs.inside (script_at left) scene.now name.now make.now) }
 {
     charge_unit(desk)?;
     if !enter(alloc, name.bytes(), here, desk)? {
-        return Ok(Heard::Missed(name.copy(alloc)?));
+        return Ok(WordsHeard::Missed(name.copy(alloc)?));
     }
     let words = fields_in(alloc, left, make, scene, here, desk)?;
-    Ok(Heard::Told(behind_first(words)))
+    Ok(WordsHeard::Told(behind_first(words)))
 }

@@ -34,7 +34,7 @@ pub enum SubWords {
 
 /// What was heard of the words.
 #[derive(Drop)]
-pub(crate) enum Heard {
+pub(crate) enum WordsHeard {
     /// Those behind the name.
     Told(Seq<Text>),
     /// This is no directory.
@@ -97,13 +97,13 @@ fn ordinary<V: View>(
     scene: &Scene,
     here: &mut Here,
     desk: &mut Desk<V>,
-) -> Result<Heard, Jump>
+) -> Result<WordsHeard, Jump>
     ensures { Does is_free V.tells desk.old desk.new here.old here.new result
         (subs.ordinary (script_at left) scene.now cd.now words.now joined.now) }
 {
     worded_in(alloc, left, cd, words, scene, here, desk)?;
     joined_in(alloc, left, joined, scene, here, desk)?;
-    Ok(Heard::Ran)
+    Ok(WordsHeard::Ran)
 }
 
 /// The line once the words of its `cd` are known. Where they aren't two it is an ordinary one.
@@ -117,7 +117,7 @@ fn by_fields<V: View>(
     scene: &Scene,
     here: &mut Here,
     desk: &mut Desk<V>,
-) -> Result<Heard, Jump>
+) -> Result<WordsHeard, Jump>
     ensures { Does is_free V.tells desk.old desk.new here.old here.new result
         (subs.by_fields (script_at left) scene.now cd.now joined.now make.now words.now) }
 {
@@ -135,13 +135,13 @@ fn heard_alone<V: View>(
     scene: &Scene,
     here: &mut Here,
     desk: &mut Desk<V>,
-) -> Result<Heard, Jump>
+) -> Result<WordsHeard, Jump>
     ensures does { Does is_free V.tells desk.old desk.new here.old here.new result
         (subs.heard (script_at left) scene.now (Alone make.now)) }
     ensures burns { is_ended result ≡ false → desk.new.work.fuel < desk.old.work.fuel }
 {
     let words = charged(alloc, left, make, scene, here, desk)?;
-    Ok(Heard::Told(behind_first(words)))
+    Ok(WordsHeard::Told(behind_first(words)))
 }
 
 /// The words of a command behind `cd W &&`.
@@ -154,7 +154,7 @@ fn heard_behind<V: View>(
     scene: &Scene,
     here: &mut Here,
     desk: &mut Desk<V>,
-) -> Result<Heard, Jump>
+) -> Result<WordsHeard, Jump>
     ensures does { Does is_free V.tells desk.old desk.new here.old here.new result
         (subs.heard (script_at left) scene.now (Behind cd.now joined.now make.now)) }
     ensures burns { is_ended result ≡ false → desk.new.work.fuel < desk.old.work.fuel }
@@ -175,7 +175,7 @@ fn heard_behind<V: View>(
 
 /// Goes back to the shell that was lent, with what was heard.
 fn close_with(
-    ended: Result<Heard, Jump>,
+    ended: Result<WordsHeard, Jump>,
     here: Here,
     shell: &mut Shell,
     out: &mut Text,
@@ -188,9 +188,9 @@ fn close_with(
     let status = here.shell.status;
     go_back(here, shell, out)?;
     match ended {
-        Ok(Heard::Told(words)) => Ok(SubWords::Words(words)),
-        Ok(Heard::Missed(name)) => Ok(SubWords::NoDir(name)),
-        Ok(Heard::Ran) | Err(Jump::Exit) | Err(Jump::Break) | Err(Jump::Continue) => {
+        Ok(WordsHeard::Told(words)) => Ok(SubWords::Words(words)),
+        Ok(WordsHeard::Missed(name)) => Ok(SubWords::NoDir(name)),
+        Ok(WordsHeard::Ran) | Err(Jump::Exit) | Err(Jump::Break) | Err(Jump::Continue) => {
             Ok(SubWords::Status(status))
         }
         Err(Jump::End(e)) => Err(e),

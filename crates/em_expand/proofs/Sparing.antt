@@ -34,10 +34,10 @@ use Rattle.em_view.specs.Steps as steps
 use Rattle.em_expand.specs.declared.no.ExpandNo.{ExpandNo}
 use Rattle.em_expand.specs.declared.no.ExpandNo.TheVariants as no
 use Rattle.em_expand.specs.declared.spoken.Spoken.{Spoken}
-use Rattle.em_expand.specs.declared.table.Function.{Function}
-use Rattle.em_expand.specs.declared.table.Function.TheVariants.{Refused, If, Or, And, Foreach, Call, Plain}
-use Rattle.em_expand.specs.declared.table.Plain.{Plain as PlainFunction}
-use Rattle.em_expand.specs.declared.table.Plain.TheVariants as plain_function
+use Rattle.em_expand.specs.declared.table.FunctionKind.{FunctionKind}
+use Rattle.em_expand.specs.declared.table.FunctionKind.TheVariants.{Refused, If, Or, And, Foreach, Call, Plain}
+use Rattle.em_expand.specs.declared.table.SimpleFunction.{SimpleFunction}
+use Rattle.em_expand.specs.declared.table.SimpleFunction.TheVariants as plain_function
 use Rattle.em_expand.specs.Calls.{Call as Called, Substitution, call_of, substitution_of}
 use Rattle.em_expand.specs.Desks.{Says, of_desk, pay}
 use Rattle.em_expand.specs.Scopes.{Frame, each, called, within as inside, is_open, argument, nth}
@@ -271,7 +271,7 @@ all_wildcard : (cwd patterns out : List ℕ) → SparesAll (put_wildcard cwd pat
 unfolding put_wildcard
 all_wildcard cwd patterns out = all_then (all_below of_desk (spares_wildcard patterns cwd)) (λ ns. all_done _)
 
-all_plain : (set : Setting) (frames : List Frame) (name : List ℕ) (f : PlainFunction) (args : List (List ℕ)) (out : List ℕ) → SparesAll (put_plain set frames name f args out)
+all_plain : (set : Setting) (frames : List Frame) (name : List ℕ) (f : SimpleFunction) (args : List (List ℕ)) (out : List ℕ) → SparesAll (put_plain set frames name f args out)
 all_plain set frames name plain_function.Text args out = all_own _
 all_plain set frames name plain_function.Name args out = all_done _
 all_plain set frames name plain_function.Wildcard args out = all_wildcard set.cwd (nth 0 args) out
@@ -327,7 +327,7 @@ module _ (deeper : Deeper) (h : (frames : List Frame) (text out : List ℕ) → 
   unfolding call
   all_call vars frames args out = all_called frames args (meaning_of vars frames (argument args 0)) out
 
-  all_function : (set : Setting) (frames : List Frame) (row : Row) (f : Function) (args : List (List ℕ)) (out : List ℕ) → SparesAll (put_call deeper set frames row f args out)
+  all_function : (set : Setting) (frames : List Frame) (row : Row) (f : FunctionKind) (args : List (List ℕ)) (out : List ℕ) → SparesAll (put_call deeper set frames row f args out)
   all_function set frames row Refused args out = all_refuse _
   all_function set frames row If args out = all_enough row args (all_choose frames args out)
   all_function set frames row Or args out = all_until frames true args [] out

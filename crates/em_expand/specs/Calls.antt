@@ -8,7 +8,7 @@ use Rattle.em_base.specs.Blanks.{is_blank, trimmed_start}
 use Rattle.em_refs.specs.declared.part.Bracket.{Bracket}
 use Rattle.em_refs.specs.Parts.{opening_of, closing_of}
 use Rattle.em_wordlist.specs.Stems.{is_percent}
-use Rattle.em_expand.specs.declared.calls.Call as code
+use Rattle.em_expand.specs.declared.calls.FunctionCall as code
 use Rattle.em_expand.specs.declared.calls.Substitution as parts
 use Rattle.em_expand.specs.Table.{Row, row_of, function_of}
 
@@ -98,7 +98,7 @@ with_percent from text = if list_any is_percent from then text else 37 ∷ text
 
 -- ---- what the code has for these
 
-abbrev pub call_seen : code.Call → Call
+abbrev pub call_seen : code.FunctionCall → Call
 call_seen c = record { row = row_of c.row.now; args = map (λ a. a.now) c.args.items }
 
 abbrev pub substitution_seen : parts.Substitution → Substitution

@@ -26,11 +26,11 @@ use Rattle.em_view.specs.Do.{◌>>=◌}
 use Rattle.em_expand.specs.declared.no.ExpandNo.{ExpandNo}
 use Rattle.em_expand.specs.declared.no.ExpandNo.TheVariants as no
 use Rattle.em_expand.specs.declared.spoken.Spoken.{Spoken}
-use Rattle.em_expand.specs.declared.table.Function.{Function}
-use Rattle.em_expand.specs.declared.table.Function.TheVariants.{Refused, If, Or, And, Foreach, Call, Plain}
+use Rattle.em_expand.specs.declared.table.FunctionKind.{FunctionKind}
+use Rattle.em_expand.specs.declared.table.FunctionKind.TheVariants.{Refused, If, Or, And, Foreach, Call, Plain}
 use Rattle.em_expand.specs.declared.text.Setting as code
-use Rattle.em_expand.specs.declared.table.Plain as declared
-use Rattle.em_expand.specs.declared.table.Plain.TheVariants.{Text, Name, Wildcard, Value, Origin, Flavour, Eval, Info, Warning, Error}
+use Rattle.em_expand.specs.declared.table.SimpleFunction as declared
+use Rattle.em_expand.specs.declared.table.SimpleFunction.TheVariants.{Text, Name, Wildcard, Value, Origin, Flavour, Eval, Info, Warning, Error}
 use Rattle.em_expand.specs.Desks.{Says, of_desk, pay}
 use Rattle.em_expand.specs.Layered.{entries_of}
 use Rattle.em_expand.specs.Scopes.{Frame, each, called, within, nth, is_open, argument}
@@ -89,7 +89,7 @@ say t out s = Ok (out, record s { said = s.said ++ t })
 abbrev pub keep : List ℕ → List ℕ → Spoken → Result (List ℕ × Spoken) (ExpandNo × Spoken)
 keep t out s = Ok (out, record s { evals = s.evals ++ t ∷ [] })
 
-abbrev pub put_plain : Setting → List Frame → List ℕ → declared.Plain → List (List ℕ) → List ℕ → Says (List ℕ)
+abbrev pub put_plain : Setting → List Frame → List ℕ → declared.SimpleFunction → List (List ℕ) → List ℕ → Says (List ℕ)
 put_plain set frames name Text args out = gives (text_value name (text_function name args) out)
 put_plain set frames name Name args out = done (out ++ unwrap_or (name_function name args) [])
 put_plain set frames name Wildcard args out = put_wildcard set.cwd (nth 0 args) out
@@ -157,7 +157,7 @@ call deeper vars frames args out = put_called deeper frames args (meaning_of var
 
 -- ---- references
 
-abbrev pub put_call : Deeper → Setting → List Frame → Row → Function → List (List ℕ) → List ℕ → Says (List ℕ)
+abbrev pub put_call : Deeper → Setting → List Frame → Row → FunctionKind → List (List ℕ) → List ℕ → Says (List ℕ)
 put_call deeper set frames row Refused args out = refuse (no.Refused row.name)
 put_call deeper set frames row If args out = enough row args (choose deeper frames args out)
 put_call deeper set frames row Or args out = until deeper frames true args [] out

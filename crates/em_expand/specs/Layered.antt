@@ -10,8 +10,8 @@ use Rattle.em_vars.specs.declared.var.Flavour.TheVariants as flavour
 use Rattle.em_vars.specs.declared.var.Origin.TheVariants as origin
 use Rattle.em_vars.specs.Entries.{Entries, with_value}
 use Rattle.em_expand.specs.declared.layers.Layers.{Layers}
-use Rattle.em_expand.specs.declared.layers.Held.{Held}
-use Rattle.em_expand.specs.declared.layers.Held.TheVariants.{Own, Shared}
+use Rattle.em_expand.specs.declared.layers.LayeredVar.{LayeredVar}
+use Rattle.em_expand.specs.declared.layers.LayeredVar.TheVariants.{Own, Shared}
 
 abbrev pub automatic : List ℕ → Var
 automatic text = record { flavour = flavour.Simple; origin = origin.Automatic; text = text; exported = false }
@@ -28,6 +28,6 @@ own_text own name = option_map (λ p. p.1) (find (λ p. bytes_eq name p.0) own)
 abbrev pub entries_of : Layers → Entries
 entries_of vars = with_own vars.shared.now vars.own.now
 
-abbrev pub var_of : Held → Var
+abbrev pub var_of : LayeredVar → Var
 var_of (Own t) = automatic t.now
 var_of (Shared v) = v.now

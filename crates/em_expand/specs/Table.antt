@@ -4,20 +4,20 @@
 use Rattle.std.specs.Prelude.{ℕ, Bool, List, [], ◌∷◌, Option, Some, None, codes}
 use Rattle.std.specs.List.{find}
 use Rattle.std.specs.Str.{bytes_eq}
-use Rattle.em_expand.specs.declared.table.Function.{Function}
-use Rattle.em_expand.specs.declared.table.Function.TheVariants.{Refused, If, Or, And, Foreach, Call, Plain}
-use Rattle.em_expand.specs.declared.table.Plain.TheVariants.{Text, Name, Wildcard, Value, Origin, Flavour, Eval, Info, Warning, Error}
-use Rattle.em_expand.specs.declared.table.Entry.{Entry}
+use Rattle.em_expand.specs.declared.table.FunctionKind.{FunctionKind}
+use Rattle.em_expand.specs.declared.table.FunctionKind.TheVariants.{Refused, If, Or, And, Foreach, Call, Plain}
+use Rattle.em_expand.specs.declared.table.SimpleFunction.TheVariants.{Text, Name, Wildcard, Value, Origin, Flavour, Eval, Info, Warning, Error}
+use Rattle.em_expand.specs.declared.table.FunctionRow.{FunctionRow}
 
 pub record Row : Type 0 where
   pub name : List ℕ
-  pub function : Function
+  pub function : FunctionKind
   -- how many arguments it needs
   pub least : ℕ
   -- how many it has at most, where there is a limit: the last one takes all commas behind it
   pub greatest : Option ℕ
 
-abbrev pub row : List ℕ → Function → ℕ → Option ℕ → Row
+abbrev pub row : List ℕ → FunctionKind → ℕ → Option ℕ → Row
 row name function least greatest = record { name = name; function = function; least = least; greatest = greatest }
 
 abbrev pub table : List Row
@@ -70,5 +70,5 @@ unfoldable pub function_of : List ℕ → Option Row
 function_of name = find (is_named name) table
 
 -- the row that the code has for a function
-abbrev pub row_of : Entry → Row
+abbrev pub row_of : FunctionRow → Row
 row_of e = record { name = e.name.now; function = e.function; least = e.least; greatest = e.greatest }

@@ -7,15 +7,15 @@ ghost use Rattle.em_wordlist.specs.Stems.{is_percent};
 ghost use Rattle.em_expand.specs.Calls as calls;
 ghost use Rattle.em_expand.specs.Calls.{call_seen, substitution_seen, split, commas_of, word_length, call_in, call_of, substitution_of, with_percent};
 
-use crate::table::{Entry, function_of};
+use crate::table::{FunctionRow, function_of};
 use em_base::{NoMemory, Text, is_blank, trim_start};
 use em_refs::Bracket;
 use std::alloc::Global;
 
 /// A call of a function.
 #[derive(Drop)]
-pub(crate) struct Call<'a> {
-    pub(crate) row: &'static Entry,
+pub(crate) struct FunctionCall<'a> {
+    pub(crate) row: &'static FunctionRow,
     /// The arguments, unexpanded.
     pub(crate) args: Vec<&'a [u8]>,
 }
@@ -85,7 +85,7 @@ fn call_in<'a>(
     alloc: Global,
     bracket: Bracket,
     text: &'a [u8],
-) -> Result<Option<Call<'a>>, NoMemory>
+) -> Result<Option<FunctionCall<'a>>, NoMemory>
     ensures { IfOk result (λ c. option_map call_seen c ≡ call_in bracket text.now) }
 {
     let length = word_length(text);
@@ -97,7 +97,7 @@ fn call_in<'a>(
     };
     let given = trim_start(rest);
     let args = split(alloc, bracket, commas_of(row.greatest, given), given)?;
-    Ok(Some(Call { row, args }))
+    Ok(Some(FunctionCall { row, args }))
 }
 
 /// The call that the text in a reference's brackets is, where it is one: behind leading blanks the
@@ -108,7 +108,7 @@ pub(crate) fn call_of<'a>(
     alloc: Global,
     bracket: Option<Bracket>,
     inner: &'a [u8],
-) -> Result<Option<Call<'a>>, NoMemory>
+) -> Result<Option<FunctionCall<'a>>, NoMemory>
     ensures { IfOk result (λ c. option_map call_seen c ≡ call_of bracket inner.now) }
 {
     match bracket {

@@ -41,7 +41,7 @@ pub struct Layers<'a> {
 }
 
 /// A variable, and the layer in which it is.
-pub(crate) enum Held<'a> {
+pub(crate) enum LayeredVar<'a> {
     /// A text of its own.
     Own(&'a [u8]),
     Shared(&'a Var),
@@ -58,12 +58,12 @@ pub fn own_text<'a>(own: &'a [OwnVar], name: &[u8]) -> Option<&'a [u8]>
 
 /// The variable of this name. A search, and steps for each of the text's own variables.
 #[tactic(auto, using(crate::proofs::Layering::own_value, crate::proofs::Layering::shared_value))]
-pub(crate) fn variable_of<'a>(vars: &Layers<'a>, name: &[u8]) -> Option<Held<'a>>
+pub(crate) fn variable_of<'a>(vars: &Layers<'a>, name: &[u8]) -> Option<LayeredVar<'a>>
     ensures { option_map var_of result ≡ value_of (entries_of vars.now) name.now }
 {
     if let Some(text) = own_text(vars.own, name) {
-        return Some(Held::Own(text));
+        return Some(LayeredVar::Own(text));
     }
     let var = vars.shared.get(name)?;
-    Some(Held::Shared(var))
+    Some(LayeredVar::Shared(var))
 }

@@ -16,7 +16,7 @@ use crate::calls::{Substitution, with_percent};
 use crate::no::{ExpandNo, bad_argument, user_error};
 use crate::scope::{Scope, nth};
 use crate::spoken::Spoken;
-use crate::table::{Entry, Plain};
+use crate::table::{FunctionRow, SimpleFunction};
 use crate::text::Setting;
 use crate::values::{flavour_of, origin_of, text_of};
 use em_base::{NoMemory, Place, Text};
@@ -152,7 +152,7 @@ fn put_plain<V: View>(
     desk: &mut Desk<V>,
     spoken: &mut Spoken,
     name: &[u8],
-    function: Plain,
+    function: SimpleFunction,
     args: &[Text],
     out: Text,
 ) -> Result<Text, ExpandNo>
@@ -161,16 +161,16 @@ fn put_plain<V: View>(
 {
     let first = nth(0, args);
     match function {
-        Plain::Text => text_value(alloc, name, args, out),
-        Plain::Name => name_value(alloc, name, args, out),
-        Plain::Wildcard => put_wildcard(alloc, setting.cwd, first, desk, out),
-        Plain::Value => put(out, text_of(setting.vars, scope, first)),
-        Plain::Origin => put(out, origin_of(setting.vars, scope, first)),
-        Plain::Flavour => put(out, flavour_of(setting.vars, scope, first)),
-        Plain::Eval => keep(alloc, spoken, first, out),
-        Plain::Info => info(spoken, first, out),
-        Plain::Warning => warn(alloc, setting.place, spoken, first, out),
-        Plain::Error => Err(user_error(alloc, first)),
+        SimpleFunction::Text => text_value(alloc, name, args, out),
+        SimpleFunction::Name => name_value(alloc, name, args, out),
+        SimpleFunction::Wildcard => put_wildcard(alloc, setting.cwd, first, desk, out),
+        SimpleFunction::Value => put(out, text_of(setting.vars, scope, first)),
+        SimpleFunction::Origin => put(out, origin_of(setting.vars, scope, first)),
+        SimpleFunction::Flavour => put(out, flavour_of(setting.vars, scope, first)),
+        SimpleFunction::Eval => keep(alloc, spoken, first, out),
+        SimpleFunction::Info => info(spoken, first, out),
+        SimpleFunction::Warning => warn(alloc, setting.place, spoken, first, out),
+        SimpleFunction::Error => Err(user_error(alloc, first)),
     }
 }
 
@@ -181,8 +181,8 @@ pub(crate) fn put_value<V: View>(
     scope: &Scope,
     desk: &mut Desk<V>,
     spoken: &mut Spoken,
-    row: &Entry,
-    function: Plain,
+    row: &FunctionRow,
+    function: SimpleFunction,
     args: &[Text],
     out: Text,
 ) -> Result<Text, ExpandNo>

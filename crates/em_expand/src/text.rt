@@ -15,7 +15,7 @@ use crate::pick::{cost, ends, length_of, nth, picked};
 use crate::put::{pay, put, put_value, substituted};
 use crate::scope::{Scope, argument, is_open};
 use crate::spoken::Spoken;
-use crate::table::{Entry, Function};
+use crate::table::{FunctionKind, FunctionRow};
 use crate::values::{Meaning, meaning_of};
 use em_base::{Place, Seq, Text, trim};
 use em_path::Path;
@@ -138,7 +138,7 @@ fn put_call<V: View>(
     scope: &Scope,
     desk: &mut Desk<V>,
     spoken: &mut Spoken,
-    row: &Entry,
+    row: &FunctionRow,
     args: &[&[u8]],
     out: Text,
 ) -> Result<Text, ExpandNo>
@@ -148,12 +148,12 @@ fn put_call<V: View>(
         (λ a. a.now) args.now) out) }
 {
     match row.function {
-        Function::Refused => Err(refused(alloc, row.name)),
-        Function::If => choose(alloc, left, setting, scope, desk, spoken, row, args, out),
-        Function::Or => until(alloc, left, setting, scope, desk, spoken, true, args, out),
-        Function::And => until(alloc, left, setting, scope, desk, spoken, false, args, out),
-        Function::Foreach => foreach(alloc, left, setting, scope, desk, spoken, row, args, out),
-        Function::Call => {
+        FunctionKind::Refused => Err(refused(alloc, row.name)),
+        FunctionKind::If => choose(alloc, left, setting, scope, desk, spoken, row, args, out),
+        FunctionKind::Or => until(alloc, left, setting, scope, desk, spoken, true, args, out),
+        FunctionKind::And => until(alloc, left, setting, scope, desk, spoken, false, args, out),
+        FunctionKind::Foreach => foreach(alloc, left, setting, scope, desk, spoken, row, args, out),
+        FunctionKind::Call => {
             let values = arguments(alloc, left, setting, scope, desk, spoken, args)?;
             call(
                 alloc,
@@ -166,7 +166,7 @@ fn put_call<V: View>(
                 out,
             )
         }
-        Function::Plain(function) => {
+        FunctionKind::Plain(function) => {
             let values = arguments(alloc, left, setting, scope, desk, spoken, args)?;
             put_value(
                 alloc,
@@ -249,7 +249,7 @@ fn choose<V: View>(
     scope: &Scope,
     desk: &mut Desk<V>,
     spoken: &mut Spoken,
-    row: &Entry,
+    row: &FunctionRow,
     args: &[&[u8]],
     out: Text,
 ) -> Result<Text, ExpandNo>
@@ -306,7 +306,7 @@ fn foreach<V: View>(
     scope: &Scope,
     desk: &mut Desk<V>,
     spoken: &mut Spoken,
-    row: &Entry,
+    row: &FunctionRow,
     args: &[&[u8]],
     out: Text,
 ) -> Result<Text, ExpandNo>

@@ -4,7 +4,7 @@ ghost use Rattle.em_expand.specs.Layered.{entries_of};
 ghost use Rattle.em_expand.specs.Scopes.{frames_of};
 ghost use Rattle.em_expand.specs.Values.{stands, meaning_of, text_of, origin_of, flavour_of};
 
-use crate::layers::{Held, Layers, variable_of};
+use crate::layers::{LayeredVar, Layers, variable_of};
 use crate::scope::{Scope, bound};
 use em_vars::{Flavour, Origin};
 
@@ -33,8 +33,8 @@ pub(crate) fn meaning_of<'b, 'v>(
     }
     match variable_of(vars, name) {
         None => Meaning::Simple(b""),
-        Some(Held::Own(text)) => Meaning::Simple(text),
-        Some(Held::Shared(var)) => match var.flavour {
+        Some(LayeredVar::Own(text)) => Meaning::Simple(text),
+        Some(LayeredVar::Shared(var)) => match var.flavour {
             Flavour::Simple => Meaning::Simple(var.text.bytes()),
             Flavour::Recursive => Meaning::Recursive(var.text.bytes()),
         },
@@ -61,8 +61,8 @@ pub(crate) fn origin_of(vars: &Layers, scope: &Scope, name: &[u8]) -> &'static [
     }
     match variable_of(vars, name) {
         None => b"undefined",
-        Some(Held::Own(_)) => b"automatic",
-        Some(Held::Shared(var)) => match var.origin {
+        Some(LayeredVar::Own(_)) => b"automatic",
+        Some(LayeredVar::Shared(var)) => match var.origin {
             Origin::Default => b"default",
             Origin::File => b"file",
             Origin::CommandLine => b"command line",
@@ -81,8 +81,8 @@ pub(crate) fn flavour_of(vars: &Layers, scope: &Scope, name: &[u8]) -> &'static 
     }
     match variable_of(vars, name) {
         None => b"undefined",
-        Some(Held::Own(_)) => b"simple",
-        Some(Held::Shared(var)) => match var.flavour {
+        Some(LayeredVar::Own(_)) => b"simple",
+        Some(LayeredVar::Shared(var)) => match var.flavour {
             Flavour::Simple => b"simple",
             Flavour::Recursive => b"recursive",
         },

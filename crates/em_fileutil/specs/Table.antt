@@ -2,16 +2,16 @@
 use Rattle.std.specs.Prelude.{ℕ, Bool, List, [], ◌∷◌, Option, codes}
 use Rattle.std.specs.List.{find}
 use Rattle.std.specs.Str.{bytes_eq}
-use Rattle.em_fileutil.specs.declared.table.Utility.{Utility}
-use Rattle.em_fileutil.specs.declared.table.Utility.TheVariants.{Copy, Move, Remove, MakeDirectory, RemoveDirectory, Touch, ListDirectory, MakeLink, ReadLink}
-use Rattle.em_fileutil.specs.declared.table.Entry.{Entry}
+use Rattle.em_fileutil.specs.declared.table.FileUtility.{FileUtility}
+use Rattle.em_fileutil.specs.declared.table.FileUtility.TheVariants.{Copy, Move, Remove, MakeDirectory, RemoveDirectory, Touch, ListDirectory, MakeLink, ReadLink}
+use Rattle.em_fileutil.specs.declared.table.UtilityRow.{UtilityRow}
 
 pub record Row : Type 0 where
   pub name : List ℕ
-  pub utility : Utility
+  pub utility : FileUtility
   pub letters : List ℕ
 
-abbrev pub row : List ℕ → Utility → List ℕ → Row
+abbrev pub row : List ℕ → FileUtility → List ℕ → Row
 row name utility letters = record { name = name; utility = utility; letters = letters }
 
 abbrev pub table : List Row
@@ -28,7 +28,7 @@ table =
     ∷ []
 
 -- the row of the code's entry
-abbrev pub row_of : Entry → Row
+abbrev pub row_of : UtilityRow → Row
 row_of e = record { name = e.name.now; utility = e.utility; letters = e.letters.now }
 
 abbrev pub is_named : List ℕ → Row → Bool

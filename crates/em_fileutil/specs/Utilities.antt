@@ -20,8 +20,8 @@ use Rattle.em_fileutil.specs.declared.copy.Manner.{Manner}
 use Rattle.em_fileutil.specs.declared.copy.Manner.TheVariants.{Copy, CopyTree, Move}
 use Rattle.em_fileutil.specs.declared.remove.Removal.{Removal}
 use Rattle.em_fileutil.specs.declared.list.Listing.{Listing}
-use Rattle.em_fileutil.specs.declared.table.Utility.{Utility}
-use Rattle.em_fileutil.specs.declared.table.Utility.TheVariants as named
+use Rattle.em_fileutil.specs.declared.table.FileUtility.{FileUtility}
+use Rattle.em_fileutil.specs.declared.table.FileUtility.TheVariants as named
 use Rattle.em_fileutil.specs.Spots.{ending}
 use Rattle.em_fileutil.specs.Copying.{target_at}
 use Rattle.em_fileutil.specs.Linking.{link_operand, read_link}
@@ -92,7 +92,7 @@ read_one name cwd (l ∷ []) = caught name (read_link cwd l)
 read_one name cwd (l ∷ o ∷ os) = extra name
 
 -- `has` tells whether a letter is given
-abbrev pub run : Utility → List ℕ → (ℕ → Bool) → List ℕ → List (List ℕ) → Runs
+abbrev pub run : FileUtility → List ℕ → (ℕ → Bool) → List ℕ → List (List ℕ) → Runs
 run named.Copy name has cwd os = copy name (if has 114 then CopyTree else Copy) cwd os
 run named.Move name has cwd os = copy name Move cwd os
 run named.Remove name has cwd os = remove name (record { force = has 102; recursive = has 114 }) cwd os

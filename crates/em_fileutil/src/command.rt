@@ -14,7 +14,7 @@ use crate::copy::{Manner, target_at};
 use crate::link::{link_operand, read_link};
 use crate::list::Listing;
 use crate::remove::Removal;
-use crate::table::{Entry, Utility, utility_of};
+use crate::table::{FileUtility, UtilityRow, utility_of};
 use em_base::{Construct, NoMemory, Seq, Text};
 use em_path::Path;
 use em_utility::{OperandNo, Options, Reason, begun, fail, read_options, settle};
@@ -241,7 +241,7 @@ fn copy_manner(recursive: bool) -> Manner
 /// Does what a utility does with its options and operands.
 fn run<V: View>(
     alloc: Global,
-    entry: &Entry,
+    entry: &UtilityRow,
     options: &Options,
     cwd: &Path,
     operands: &[Text],
@@ -254,23 +254,23 @@ fn run<V: View>(
 {
     let name = entry.name;
     match entry.utility {
-        Utility::Copy => {
+        FileUtility::Copy => {
             let manner = copy_manner(options.has(b'r'));
             copy(alloc, name, manner, cwd, operands, desk, done)
         }
-        Utility::Move => copy(alloc, name, Manner::Move, cwd, operands, desk, done),
-        Utility::Remove => {
+        FileUtility::Move => copy(alloc, name, Manner::Move, cwd, operands, desk, done),
+        FileUtility::Remove => {
             let how = Removal {
                 force: options.has(b'f'),
                 recursive: options.has(b'r'),
             };
             remove(alloc, name, how, cwd, operands, desk, done)
         }
-        Utility::MakeDirectory => {
+        FileUtility::MakeDirectory => {
             let act = Act::MakeDirectory(options.has(b'p'));
             for_some(alloc, name, &act, cwd, operands, desk, done)
         }
-        Utility::RemoveDirectory => {
+        FileUtility::RemoveDirectory => {
             for_some(
                 alloc,
                 name,
@@ -281,11 +281,11 @@ fn run<V: View>(
                 done,
             )
         }
-        Utility::Touch => {
+        FileUtility::Touch => {
             let act = Act::Touch(!options.has(b'c'));
             for_some(alloc, name, &act, cwd, operands, desk, done)
         }
-        Utility::ListDirectory => {
+        FileUtility::ListDirectory => {
             let how = Listing {
                 all: options.has(b'a'),
                 itself: options.has(b'd'),
@@ -293,14 +293,14 @@ fn run<V: View>(
             };
             list(alloc, name, how, cwd, operands, desk, done)
         }
-        Utility::MakeLink => link(alloc, name, options, cwd, operands, desk, done),
-        Utility::ReadLink => read_one(alloc, name, cwd, operands, desk, done),
+        FileUtility::MakeLink => link(alloc, name, options, cwd, operands, desk, done),
+        FileUtility::ReadLink => read_one(alloc, name, cwd, operands, desk, done),
     }
 }
 
 fn utility_by<V: View>(
     alloc: Global,
-    entry: &Entry,
+    entry: &UtilityRow,
     words: &[Text],
     cwd: &Path,
     desk: &mut Desk<V>,

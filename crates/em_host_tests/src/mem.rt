@@ -5,21 +5,21 @@ use std::test::Fail;
 
 /// A call on a host.
 #[derive(Clone, Copy)]
-enum Act {
+enum HostCall {
     Take(&'static [u8]),
     Replace(&'static [u8], &'static [u8]),
     Print(&'static [u8]),
 }
 
 /// Makes the call, and gives what it took.
-fn made(alloc: Global, host: &mut MemHost, act: Act) -> Result<Option<Vec<u8>>, HostNo> {
+fn made(alloc: Global, host: &mut MemHost, act: HostCall) -> Result<Option<Vec<u8>>, HostNo> {
     match act {
-        Act::Take(name) => host.take(alloc, name),
-        Act::Replace(name, bytes) => {
+        HostCall::Take(name) => host.take(alloc, name),
+        HostCall::Replace(name, bytes) => {
             host.replace(alloc, name, bytes)?;
             Ok(None)
         }
-        Act::Print(bytes) => {
+        HostCall::Print(bytes) => {
             host.print(bytes)?;
             Ok(None)
         }
@@ -27,14 +27,14 @@ fn made(alloc: Global, host: &mut MemHost, act: Act) -> Result<Option<Vec<u8>>, 
 }
 
 /// The call as a host notes it.
-fn noted(alloc: Global, act: Act, ok: bool) -> Result<Called, NoMemory> {
+fn noted(alloc: Global, act: HostCall, ok: bool) -> Result<Called, NoMemory> {
     let call = match act {
-        Act::Take(name) => Call::Take(Text::from_slice(alloc, name)?),
-        Act::Replace(name, bytes) => Call::Replace {
+        HostCall::Take(name) => Call::Take(Text::from_slice(alloc, name)?),
+        HostCall::Replace(name, bytes) => Call::Replace {
             name: Text::from_slice(alloc, name)?,
             bytes: Text::from_slice(alloc, bytes)?,
         },
-        Act::Print(bytes) => Call::Print(Text::from_slice(alloc, bytes)?),
+        HostCall::Print(bytes) => Call::Print(Text::from_slice(alloc, bytes)?),
     };
     Ok(Called { call, ok })
 }
@@ -52,12 +52,12 @@ fn host(alloc: Global) -> Result<MemHost, NoMemory> {
 fn a_memory_host_keeps_files_output_and_calls(rt: HostRuntime) -> Result<(), Fail> {
     let mut host = host(rt.alloc())?;
     for (at, (act, ok, taken)) in [
-        (Act::Replace(b"b", b"2"), true, None),
-        (Act::Replace(b"a", b"3"), false, None),
-        (Act::Print(b"x = 1\n"), true, None),
-        (Act::Print(b"lost"), false, None),
-        (Act::Take(b"a"), true, Some(b"1".as_slice())),
-        (Act::Take(b"c"), true, None),
+        (HostCall::Replace(b"b", b"2"), true, None),
+        (HostCall::Replace(b"a", b"3"), false, None),
+        (HostCall::Print(b"x = 1\n"), true, None),
+        (HostCall::Print(b"lost"), false, None),
+        (HostCall::Take(b"a"), true, Some(b"1".as_slice())),
+        (HostCall::Take(b"c"), true, None),
     ]
     .into_iter()
     .enumerate()

@@ -4,6 +4,4 @@
 #[cfg(test)]
 mod image;
 #[cfg(test)]
-mod nodes;
-#[cfg(test)]
 mod tree;

@@ -1,6 +1,6 @@
-use crate::nodes::{add, file, path};
 use em_base::{Construct, NoMemory, Place, Text, TryClone};
 use em_path::Path;
+use em_states::{add, file, path};
 use em_tree::{
     Answer, Delta, Entry, Kind, NameList, Node, Outcome, Outcomes, Question, State, Tree,
 };
@@ -101,30 +101,35 @@ fn outcomes(alloc: Global) -> Result<Outcomes, NoMemory> {
 
 /// What a question asks of a path.
 #[derive(Clone, Copy)]
-enum Asked {
+enum QuestionKind {
     Kind,
     Stamp,
     Content,
     Names,
 }
 
-fn question_of(ask: Asked, path: Path) -> Question {
+fn question_of(ask: QuestionKind, path: Path) -> Question {
     match ask {
-        Asked::Kind => Question::Kind(path),
-        Asked::Stamp => Question::Stamp(path),
-        Asked::Content => Question::Content(path),
-        Asked::Names => Question::Names(path),
+        QuestionKind::Kind => Question::Kind(path),
+        QuestionKind::Stamp => Question::Stamp(path),
+        QuestionKind::Content => Question::Content(path),
+        QuestionKind::Names => Question::Names(path),
     }
 }
 
-fn question(alloc: Global, ask: Asked, text: &[u8]) -> Result<Question, Fail> {
+fn question(alloc: Global, ask: QuestionKind, text: &[u8]) -> Result<Question, Fail> {
     let path = path(alloc, text)?;
     Ok(question_of(ask, path))
 }
 
 /// Each question on a path.
 fn add_questions(alloc: Global, all: &mut Vec<Question>, text: &[u8]) -> Result<(), Fail> {
-    for ask in [Asked::Kind, Asked::Stamp, Asked::Content, Asked::Names] {
+    for ask in [
+        QuestionKind::Kind,
+        QuestionKind::Stamp,
+        QuestionKind::Content,
+        QuestionKind::Names,
+    ] {
         let question = question(alloc, ask, text)?;
         all.push(question)?;
     }
@@ -271,13 +276,13 @@ fn answer_of(alloc: Global, other: Other) -> Answer {
     }
 }
 
-const OTHERS: [(Asked, &[u8], Other); 6] = [
-    (Asked::Kind, b"/d/a0", Other::Dir),
-    (Asked::Stamp, b"/d/a0", Other::Stamp(8)),
-    (Asked::Content, b"/d/a0", Other::Stamp(7)),
-    (Asked::Content, b"/d/a0", Other::NoContent),
-    (Asked::Names, b"/d", Other::NoNames),
-    (Asked::Names, b"/d", Other::EmptyNames),
+const OTHERS: [(QuestionKind, &[u8], Other); 6] = [
+    (QuestionKind::Kind, b"/d/a0", Other::Dir),
+    (QuestionKind::Stamp, b"/d/a0", Other::Stamp(8)),
+    (QuestionKind::Content, b"/d/a0", Other::Stamp(7)),
+    (QuestionKind::Content, b"/d/a0", Other::NoContent),
+    (QuestionKind::Names, b"/d", Other::NoNames),
+    (QuestionKind::Names, b"/d", Other::EmptyNames),
 ];
 
 fn agrees(state: &State, question: Question, answer: Answer) -> bool {

@@ -27,17 +27,17 @@ use Rattle.em_expand.proofs.Sparing.{Spares, SparesAll, spares_stamp, spares_out
 use Rattle.em_task.specs.declared.job.Job.{Job}
 use Rattle.em_job.specs.declared.awaiting.Awaited.{Awaited}
 use Rattle.em_job.specs.declared.awaiting.Ending.{Ending}
-use Rattle.em_job.specs.declared.due.Verdict.{Verdict}
-use Rattle.em_job.specs.declared.due.Verdict.TheVariants as decision
-use Rattle.em_job.specs.declared.prepare.Opened.{Opened}
+use Rattle.em_job.specs.declared.due.JobDecision.{JobDecision}
+use Rattle.em_job.specs.declared.due.JobDecision.TheVariants as decision
+use Rattle.em_job.specs.declared.prepare.RecipeStart.{RecipeStart}
 use Rattle.em_job.specs.declared.prepare.Placed.{Placed}
 use Rattle.em_job.specs.declared.prepare.Prepared.{Prepared}
 use Rattle.em_job.specs.declared.prepare.Prepared.TheVariants.{Ended, Lines}
 use Rattle.em_job.specs.declared.carry.LineEnd.{LineEnd}
 use Rattle.em_job.specs.declared.carry.LineEnd.TheVariants as line_end
-use Rattle.em_job.specs.declared.ready.Ready.{Ready}
-use Rattle.em_job.specs.declared.stop.Stop.{Stop}
-use Rattle.em_job.specs.declared.stop.Stop.TheVariants as stop
+use Rattle.em_job.specs.declared.ready.ParsedLine.{ParsedLine}
+use Rattle.em_job.specs.declared.stop.JobStop.{JobStop}
+use Rattle.em_job.specs.declared.stop.JobStop.TheVariants as stop
 use Rattle.em_job.specs.Stops.{Acts, early, of_expand}
 use Rattle.em_job.specs.Deciding.{ending_of, await_job, together, await_jobs, unasked, awaited, await_normal, await_order, behind, prerequisites, path_of, stamp_by, stamp_of, stamps_of, newer_among, with_newer, is_newer, is_one_absent, is_due, reasons, unruled, by_recipe, decision as decided}
 use Rattle.em_job.specs.Preparing.{Autos, say, no_evals, expand_at, placed, expand_lines, recipe_of, expand_recipe, no_rule, by_decision, decide, if_fine, prepare_with, prepare}
@@ -130,7 +130,7 @@ spares_lines : (j : Job) (autos : Autos) (ls : List RecipeLine) (so_far : List P
 spares_lines j autos [] so_far = all_done _
 spares_lines j autos (l ∷ ls) so_far = all_then (spares_at j autos l.place l.text) (λ t. spares_lines j autos ls _)
 
-spares_decided : (j : Job) (owns : List (Option ℕ)) (newer : List (List ℕ)) (v : Verdict) → SparesAll (by_decision j owns newer v)
+spares_decided : (j : Job) (owns : List (Option ℕ)) (newer : List (List ℕ)) (v : JobDecision) → SparesAll (by_decision j owns newer v)
 unfolding expand_recipe
 spares_decided j owns newer (decision.Ended o) = all_done _
 spares_decided j owns newer decision.NoRule = all_then (all_own _) (λ u. all_done _)
@@ -151,7 +151,7 @@ spares_prepare j = all_then (reads_prerequisites j).spares (λ p. spares_fine j 
 abbrev IsAsBefore : Outcome → Spoken → Spoken → Type 0
 IsAsBefore o s t = is_silent o ≡ true → t ≡ s
 
-abbrev Idles : Result (Prepared × Spoken) (Stop × Spoken) → Spoken → Type 0
+abbrev Idles : Result (Prepared × Spoken) (JobStop × Spoken) → Spoken → Type 0
 Idles (Ok (Ended o, t)) s = IsAsBefore o s t
 Idles (Ok (Lines x ps, t)) s = Unit {0}
 Idles (Err p) s = Unit {0}
@@ -160,7 +160,7 @@ record Idle (m : Acts Prepared) : Type 0 where
   by : (s : Spoken) (o : Oracle) (w : Workspace) → Idles (m s o w).0 s
 
 module _ {A : Type 0} where
-  idles_on : (k : A → Acts Prepared) → ((a : A) → Idle (k a)) → (r : Result (A × Spoken) (Stop × Spoken)) (v : Workspace) (s : Spoken) (o : Oracle) → Stays r s → Idles (go_on r v (λ p. k p.0 p.1) o).0 s
+  idles_on : (k : A → Acts Prepared) → ((a : A) → Idle (k a)) → (r : Result (A × Spoken) (JobStop × Spoken)) (v : Workspace) (s : Spoken) (o : Oracle) → Stays r s → Idles (go_on r v (λ p. k p.0 p.1) o).0 s
   idles_on k h (Ok p) v s o e = subst (λ (t : Spoken). Idles (k p.0 p.1 o v).0 t) e ((h p.0).by p.1 o v)
   idles_on k h (Err p) v s o e = tt
 
@@ -177,12 +177,12 @@ unfolding and_then ◌>>=◌ own done
 idle_no_rule j = record { by = λ s o w n. absurd (cc) }
 
 -- lines to run are no end
-abbrev NoEnd : Result (Prepared × Spoken) (Stop × Spoken) → Type 0
+abbrev NoEnd : Result (Prepared × Spoken) (JobStop × Spoken) → Type 0
 NoEnd (Ok (Ended o, t)) = ⊥
 NoEnd (Ok (Lines x ps, t)) = Unit {0}
 NoEnd (Err p) = Unit {0}
 
-idles_so : (r : Result (Prepared × Spoken) (Stop × Spoken)) (s : Spoken) → NoEnd r → Idles r s
+idles_so : (r : Result (Prepared × Spoken) (JobStop × Spoken)) (s : Spoken) → NoEnd r → Idles r s
 idles_so (Ok (Ended o, t)) s h = absurd h
 idles_so (Ok (Lines x ps, t)) s h = tt
 idles_so (Err p) s h = tt
@@ -196,11 +196,11 @@ idle_lines j owns names = record {
   by = λ s o w. let z = expand_lines j (texts j.plan names) (recipe_of j) [] s o w in idles_so (expand_recipe j owns names s o w).0 s (by_lines z.0 z.1 o);
 }
   where
-    by_lines : (r : Result (List Placed × Spoken) (Stop × Spoken)) (v : Workspace) (o : Oracle) → NoEnd (go_on r v (λ p. to_run owns (texts j.plan names) p.0 p.1) o).0
+    by_lines : (r : Result (List Placed × Spoken) (JobStop × Spoken)) (v : Workspace) (o : Oracle) → NoEnd (go_on r v (λ p. to_run owns (texts j.plan names) p.0 p.1) o).0
     by_lines (Ok p) v o = tt
     by_lines (Err p) v o = tt
 
-idle_decided : (j : Job) (owns : List (Option ℕ)) (newer : List (List ℕ)) (v : Verdict) → Idle (by_decision j owns newer v)
+idle_decided : (j : Job) (owns : List (Option ℕ)) (newer : List (List ℕ)) (v : JobDecision) → Idle (by_decision j owns newer v)
 idle_decided j owns newer (decision.Ended o) = idle_ended o
 idle_decided j owns newer decision.NoRule = idle_no_rule j
 idle_decided j owns newer decision.Remake = idle_lines j owns _
@@ -216,14 +216,14 @@ idle_prepare j = idle_then (reads_prerequisites j) (λ p. idle_fine j p.0 p.1)
 
 -- ---- a job whose recipe has begun ends as made, or as failed
 
-abbrev Works : Result (Outcome × Spoken) (Stop × Spoken) → Type 0
+abbrev Works : Result (Outcome × Spoken) (JobStop × Spoken) → Type 0
 Works (Ok p) = is_idle p.0 ≡ false
 Works (Err p) = Unit {0}
 
 record Busy (m : Acts Outcome) : Type 0 where
   by : (s : Spoken) (o : Oracle) (w : Workspace) → Works (m s o w).0
 
-abbrev Turns : Result (LineEnd × Spoken) (Stop × Spoken) → Type 0
+abbrev Turns : Result (LineEnd × Spoken) (JobStop × Spoken) → Type 0
 Turns (Ok (line_end.Next env, t)) = Unit {0}
 Turns (Ok (line_end.Ended o, t)) = is_idle o ≡ false
 Turns (Err p) = Unit {0}
@@ -232,7 +232,7 @@ record BusyTurn (m : Acts LineEnd) : Type 0 where
   by : (s : Spoken) (o : Oracle) (w : Workspace) → Turns (m s o w).0
 
 module _ {A : Type 0} where
-  turns_on : (k : A → Acts LineEnd) → ((a : A) → BusyTurn (k a)) → (r : Result (A × Spoken) (Stop × Spoken)) (v : Workspace) (o : Oracle) → Turns (go_on r v (λ p. k p.0 p.1) o).0
+  turns_on : (k : A → Acts LineEnd) → ((a : A) → BusyTurn (k a)) → (r : Result (A × Spoken) (JobStop × Spoken)) (v : Workspace) (o : Oracle) → Turns (go_on r v (λ p. k p.0 p.1) o).0
   turns_on k h (Ok p) v o = (h p.0).by p.1 o v
   turns_on k h (Err p) v o = tt
 
@@ -240,7 +240,7 @@ module _ {A : Type 0} where
   unfolding and_then ◌>>=◌
   turn_then m {k} h = record { by = λ s o w. turns_on k h (m s o w).0 (m s o w).1 o }
 
-  works_on : (k : A → Acts Outcome) → ((a : A) → Busy (k a)) → (r : Result (A × Spoken) (Stop × Spoken)) (v : Workspace) (o : Oracle) → Works (go_on r v (λ p. k p.0 p.1) o).0
+  works_on : (k : A → Acts Outcome) → ((a : A) → Busy (k a)) → (r : Result (A × Spoken) (JobStop × Spoken)) (v : Workspace) (o : Oracle) → Works (go_on r v (λ p. k p.0 p.1) o).0
   works_on k h (Ok p) v o = (h p.0).by p.1 o v
   works_on k h (Err p) v o = tt
 
@@ -270,21 +270,21 @@ stopped : (m : Acts Outcome) → Busy m → BusyTurn (and_then m to_end)
 unfolding and_then ◌>>=◌ done
 stopped m h = record { by = λ s o w. by_end (m s o w).0 (m s o w).1 o (h.by s o w) }
   where
-    by_end : (r : Result (Outcome × Spoken) (Stop × Spoken)) (v : Workspace) (o : Oracle) → Works r → Turns (go_on r v (λ p. to_end p.0 p.1) o).0
+    by_end : (r : Result (Outcome × Spoken) (JobStop × Spoken)) (v : Workspace) (o : Oracle) → Works r → Turns (go_on r v (λ p. to_end p.0 p.1) o).0
     by_end (Ok p) v o e = e
     by_end (Err p) v o e = tt
 
-busy_turn : (j : Job) (x : Opened) (env : Option Entries) (r : Ready) → BusyTurn (turn_of j x env r)
+busy_turn : (j : Job) (x : RecipeStart) (env : Option Entries) (r : ParsedLine) → BusyTurn (turn_of j x env r)
 unfolding turn_of
 busy_turn j x env r = turn_then _ (λ ran. turn_by _ (turn_next ran.0) (turn_by (is_lenient j r.placed) (turn_then _ (λ u. turn_next ran.0)) (stopped _ (busy_fail j x.stamps r.placed.place ran.1))))
 
-lines_go : (rest : Option Entries → Acts Outcome) → ((env : Option Entries) → Busy (rest env)) → (r : Result (LineEnd × Spoken) (Stop × Spoken)) (v : Workspace) (o : Oracle) → Turns r → Works (go_on r v (λ p. lines_by rest p.0 p.1) o).0
+lines_go : (rest : Option Entries → Acts Outcome) → ((env : Option Entries) → Busy (rest env)) → (r : Result (LineEnd × Spoken) (JobStop × Spoken)) (v : Workspace) (o : Oracle) → Turns r → Works (go_on r v (λ p. lines_by rest p.0 p.1) o).0
 unfolding done
 lines_go rest h (Ok (line_end.Next env, t)) v o e = (h env).by t o v
 lines_go rest h (Ok (line_end.Ended out, t)) v o e = e
 lines_go rest h (Err p) v o e = tt
 
-busy_lines : (j : Job) (x : Opened) (env : Option Entries) (rs : List Ready) → Busy (lines_from j x env rs)
+busy_lines : (j : Job) (x : RecipeStart) (env : Option Entries) (rs : List ParsedLine) → Busy (lines_from j x env rs)
 unfolding and_then ◌>>=◌ done
 busy_lines j x env [] = record { by = λ s o w. refl }
 busy_lines j x env (r ∷ rs) = record {
@@ -294,7 +294,7 @@ busy_lines j x env (r ∷ rs) = record {
 -- ---- from a job's steps to its effect
 
 abbrev Finish : Type 0
-Finish = Result (Outcome × Spoken) (Stop × Spoken)
+Finish = Result (Outcome × Spoken) (JobStop × Spoken)
 
 -- an idle end comes with the files as they were, a silent one with the state too
 abbrev IdleEnd : Finish → Spoken → Changes → Changes → Type 0
@@ -304,7 +304,7 @@ IdleEnd (Err p) s c d = Unit {0}
 both_ways : {b : Bool} → b ≡ false → b ≡ true → ⊥
 both_ways e f = absurd (let no : true ≡ false = sym f ∙ e in cc)
 
-idle_steps : (j : Job) (ready : List Ready) (s : Spoken) (o : Oracle) (w : Workspace) → IdleEnd (steps j ready s o w).0 s w.changes (steps j ready s o w).1.changes
+idle_steps : (j : Job) (ready : List ParsedLine) (s : Spoken) (o : Oracle) (w : Workspace) → IdleEnd (steps j ready s o w).0 s w.changes (steps j ready s o w).1.changes
 unfolding steps and_then ◌>>=◌ done
 idle_steps j ready s o w = by_prepared (prepare j s o w).0 (prepare j s o w).1 (((spares_prepare j).at s).by o w) ((idle_prepare j).by s o w)
   where
@@ -312,7 +312,7 @@ idle_steps j ready s o w = by_prepared (prepare j s o w).0 (prepare j s o w).1 (
     busy_end (Ok p) c d e = λ idle. absurd (both_ways e idle)
     busy_end (Err p) c d e = tt
 
-    by_prepared : (r : Result (Prepared × Spoken) (Stop × Spoken)) (v : Workspace) → v.changes ≡ w.changes → Idles r s
+    by_prepared : (r : Result (Prepared × Spoken) (JobStop × Spoken)) (v : Workspace) → v.changes ≡ w.changes → Idles r s
         → IdleEnd (go_on r v (λ p. carry_out j (course_of ready p.0) p.1) o).0 s w.changes (go_on r v (λ p. carry_out j (course_of ready p.0) p.1) o).1.changes
     by_prepared (Ok (Ended out, t)) v e h = λ idle. (e, h)
     by_prepared (Ok (Lines x ps, t)) v e h = busy_end (lines_from j x None ready t o v).0 w.changes (lines_from j x None ready t o v).1.changes ((busy_lines j x None ready).by t o v)
@@ -374,7 +374,7 @@ module _ (j : Job) (s : State) (e : Effect) (n : ℕ) (makes : Makes j s e n) wh
 -- ---- jobs that never come to a recipe
 
 module _ (Q : Outcome → Type 0) where
-  abbrev Prepares : Result (Prepared × Spoken) (Stop × Spoken) → Type 0
+  abbrev Prepares : Result (Prepared × Spoken) (JobStop × Spoken) → Type 0
   Prepares (Ok (Ended o, t)) = Q o
   Prepares (Ok (Lines x ps, t)) = ⊥
   Prepares (Err p) = Unit {0}
@@ -383,7 +383,7 @@ module _ (Q : Outcome → Type 0) where
     by : (s : Spoken) (o : Oracle) (w : Workspace) → Prepares (m s o w).0
 
   module _ {A : Type 0} where
-    prepares_on : (k : A → Acts Prepared) → ((a : A) → IsPrepared (k a)) → (r : Result (A × Spoken) (Stop × Spoken)) (v : Workspace) (o : Oracle) → Prepares (go_on r v (λ p. k p.0 p.1) o).0
+    prepares_on : (k : A → Acts Prepared) → ((a : A) → IsPrepared (k a)) → (r : Result (A × Spoken) (JobStop × Spoken)) (v : Workspace) (o : Oracle) → Prepares (go_on r v (λ p. k p.0 p.1) o).0
     prepares_on k h (Ok p) v o = (h p.0).by p.1 o v
     prepares_on k h (Err p) v o = tt
 
@@ -395,12 +395,12 @@ module _ (Q : Outcome → Type 0) where
   unfolding done
   prepared_done o q = record { by = λ s a w. q }
 
-  abbrev Decides : Verdict → Type 0
+  abbrev Decides : JobDecision → Type 0
   Decides (decision.Ended o) = Q o
   Decides decision.NoRule = Q outcome.NoRule
   Decides decision.Remake = ⊥
 
-  prepared_decided : (j : Job) (owns : List (Option ℕ)) (newer : List (List ℕ)) (v : Verdict) → Decides v → IsPrepared (by_decision j owns newer v)
+  prepared_decided : (j : Job) (owns : List (Option ℕ)) (newer : List (List ℕ)) (v : JobDecision) → Decides v → IsPrepared (by_decision j owns newer v)
   prepared_decided j owns newer (decision.Ended o) q = prepared_done o q
   prepared_decided j owns newer decision.NoRule q = prepared_then _ (λ u. prepared_done outcome.NoRule q)
   prepared_decided j owns newer decision.Remake q = absurd q
@@ -420,11 +420,11 @@ module _ (Q : Outcome → Type 0) where
     EndsSo (Ok p) c d = Q p.0 × (d ≡ c)
     EndsSo (Err p) c d = d ≡ c
 
-    ends_so : (ready : List Ready) (s : Spoken) (o : Oracle) (w : Workspace) → EndsSo (steps j ready s o w).0 w.changes (steps j ready s o w).1.changes
+    ends_so : (ready : List ParsedLine) (s : Spoken) (o : Oracle) (w : Workspace) → EndsSo (steps j ready s o w).0 w.changes (steps j ready s o w).1.changes
     unfolding steps and_then ◌>>=◌ done
     ends_so ready s o w = by_prepared (prepare j s o w).0 (prepare j s o w).1 (((spares_prepare j).at s).by o w) (prepared_all.by s o w)
       where
-        by_prepared : (r : Result (Prepared × Spoken) (Stop × Spoken)) (v : Workspace) → v.changes ≡ w.changes → Prepares r
+        by_prepared : (r : Result (Prepared × Spoken) (JobStop × Spoken)) (v : Workspace) → v.changes ≡ w.changes → Prepares r
             → EndsSo (go_on r v (λ p. carry_out j (course_of ready p.0) p.1) o).0 w.changes (go_on r v (λ p. carry_out j (course_of ready p.0) p.1) o).1.changes
         by_prepared (Ok (Ended out, t)) v e h = (h, e)
         by_prepared (Ok (Lines x ps, t)) v e h = absurd h
@@ -491,7 +491,7 @@ module _ (j : Job) (dry : j.flags.dry ≡ true) where
   shown_only : (l : Placed) → l.command.marks.forced ≡ false → does_run j l ≡ false
   shown_only l e = ap (λ (b : Bool). not b || l.command.marks.forced) dry ∙ e
 
-  dry_turn : (x : Opened) (env : Option Entries) (r : Ready) (s : Spoken) (o : Oracle) (w : Workspace) → r.placed.command.marks.forced ≡ false
+  dry_turn : (x : RecipeStart) (env : Option Entries) (r : ParsedLine) (s : Spoken) (o : Oracle) (w : Workspace) → r.placed.command.marks.forced ≡ false
       → turn_of j x env r s o w ≡ (Ok (line_end.Next env, record s { said = s.said ++ echo j r.placed }), w)
   unfolding turn_of run_line and_then ◌>>=◌ own done
   dry_turn x env r s o w e =
@@ -500,7 +500,7 @@ module _ (j : Job) (dry : j.flags.dry ≡ true) where
   abbrev Unforced : List Placed → Type 0
   Unforced ps = AllByRecursion (λ p. p.command.marks.forced ≡ false) ps
 
-  dry_lines : (x : Opened) (env : Option Entries) (ps : List Placed) (rs : List Ready) → AreRead ps rs → Unforced ps → SparesAll (lines_from j x env rs)
+  dry_lines : (x : RecipeStart) (env : Option Entries) (ps : List Placed) (rs : List ParsedLine) → AreRead ps rs → Unforced ps → SparesAll (lines_from j x env rs)
   unfolding and_then ◌>>=◌
   dry_lines x env [] [] read none = all_done _
   dry_lines x env [] (r ∷ rs) read none = absurd read
@@ -511,7 +511,7 @@ module _ (j : Job) (dry : j.flags.dry ≡ true) where
       record {
         at = λ s. record {
           by = λ o w.
-              ap (λ (z : Result (LineEnd × Spoken) (Stop × Spoken) × Workspace). (go_on z.0 z.1 (λ q. lines_by (λ next. lines_from j x next rs) q.0 q.1) o).1.changes) (dry_turn x env r s o w forced)
+              ap (λ (z : Result (LineEnd × Spoken) (JobStop × Spoken) × Workspace). (go_on z.0 z.1 (λ q. lines_by (λ next. lines_from j x next rs) q.0 q.1) o).1.changes) (dry_turn x env r s o w forced)
               ∙ (more.at (record s { said = s.said ++ echo j r.placed })).by o w;
         };
       }
@@ -520,7 +520,7 @@ module _ (j : Job) (dry : j.flags.dry ≡ true) where
   unfolding lines_on steps and_then ◌>>=◌ done
   dry_changes s e n makes none = same_changes j s e n makes ∙ by_prepared (prepare j silence (snapshot s) (begin j)).0 (prepare j silence (snapshot s) (begin j)).1 (((spares_prepare j).at silence).by (snapshot s) (begin j)) makes.read none
     where
-      by_prepared : (r : Result (Prepared × Spoken) (Stop × Spoken)) (v : Workspace) → v.changes ≡ empty → AreRead (lines_in (result_of r)) makes.ready → AreUnforced (lines_in (result_of r))
+      by_prepared : (r : Result (Prepared × Spoken) (JobStop × Spoken)) (v : Workspace) → v.changes ≡ empty → AreRead (lines_in (result_of r)) makes.ready → AreUnforced (lines_in (result_of r))
           → (go_on r v (λ p. carry_out j (course_of makes.ready p.0) p.1) (snapshot s)).1.changes ≡ empty
       by_prepared (Ok (Ended out, t)) v h read free = h
       by_prepared (Ok (Lines x ps, t)) v h read free = ((dry_lines x None ps makes.ready read (recursion_from_All (λ p. p.command.marks.forced ≡ false) ps free)).at t).by (snapshot s) v ∙ h

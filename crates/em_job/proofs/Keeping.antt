@@ -28,7 +28,7 @@ use Rattle.em_view.proofs.Looking.{seen_kind}
 use Rattle.em_expand.specs.declared.spoken.Spoken.{Spoken}
 use Rattle.em_expand.proofs.Sparing.{SparesAll, spares_kind, spares_stamp, all_done, all_own, all_refuse, all_below}
 use Rattle.em_task.specs.declared.job.Job.{Job}
-use Rattle.em_job.specs.declared.stop.Stop.{Stop}
+use Rattle.em_job.specs.declared.stop.JobStop.{JobStop}
 use Rattle.em_job.specs.Stops.{Acts, of_desk}
 use Rattle.em_job.specs.Deciding.{is_phony, path_of, same_stamp}
 use Rattle.em_job.specs.Carrying.{after_removal, remove_target, if_changed, remove_changed, if_file, delete_at, delete_by, delete_one, delete_each, delete}
@@ -63,7 +63,7 @@ module _ (j : Job) (p : Place) where
 
 -- ---- what a desk tells on a state
 
-abbrev Tells : {A : Type 0} → A → Result (A × Spoken) (Stop × Spoken) → Type 0
+abbrev Tells : {A : Type 0} → A → Result (A × Spoken) (JobStop × Spoken) → Type 0
 Tells a (Ok x) = x.0 ≡ a
 Tells a (Err x) = Unit {0}
 
@@ -261,7 +261,7 @@ module _ (j : Job) (p : Place) (s : State) where
   AreKept w ts = AllByRecursion (λ t. is_kept s w j t.0 t.1 ≡ true) ts
 
   kept_on : (ts : List (List ℕ)) (bs : List (Option ℕ)) (w : Workspace) → ((said : Spoken) (v : Workspace) → AreKept v (zip ts bs) → (delete_each j p ts bs said (snapshot s) v).1.changes ≡ v.changes) → AreKept w (zip ts bs)
-      → (r : Result (Unit {0} × Spoken) (Stop × Spoken)) (v : Workspace) → v.changes ≡ w.changes → (go_on r v (λ x. delete_each j p ts bs x.1) (snapshot s)).1.changes ≡ w.changes
+      → (r : Result (Unit {0} × Spoken) (JobStop × Spoken)) (v : Workspace) → v.changes ≡ w.changes → (go_on r v (λ x. delete_each j p ts bs x.1) (snapshot s)).1.changes ≡ w.changes
   kept_on ts bs w more h (Ok x) v e = more x.1 v (subst (λ (c : Changes). AreKept (record w { changes = c }) (zip ts bs)) (sym e) h) ∙ e
   kept_on ts bs w more h (Err x) v e = e
 
@@ -290,7 +290,7 @@ module _ (j : Job) (p : Place) (s : State) where
     same_behind t b said w bare (inr e) = other_node s (delete_one j p t b said (snapshot s) w).1 w q (path_of j.cwd t) e (only_one j p t b said s w bare)
 
     other_on : (ts : List (List ℕ)) (bs : List (Option ℕ)) (w : Workspace) → ((said : Spoken) (v : Workspace) → IsBare s v.changes → AreKeptAt v (zip ts bs) → node_at s (delete_each j p ts bs said (snapshot s) v).1 q ≡ node_at s v q)
-        → (r : Result (Unit {0} × Spoken) (Stop × Spoken)) (v : Workspace) → node_at s v q ≡ node_at s w q → IsBare s v.changes → AreKeptAt v (zip ts bs) → node_at s (go_on r v (λ x. delete_each j p ts bs x.1) (snapshot s)).1 q ≡ node_at s w q
+        → (r : Result (Unit {0} × Spoken) (JobStop × Spoken)) (v : Workspace) → node_at s v q ≡ node_at s w q → IsBare s v.changes → AreKeptAt v (zip ts bs) → node_at s (go_on r v (λ x. delete_each j p ts bs x.1) (snapshot s)).1 q ≡ node_at s w q
     other_on ts bs w more (Ok x) v e bare h = more x.1 v bare h ∙ e
     other_on ts bs w more (Err x) v e bare h = e
 

@@ -24,50 +24,50 @@ use Rattle.em_expand.specs.Layered.{own_text}
 use Rattle.em_vars.specs.Entries.{Entries, value_of, keeps, with_value}
 use Rattle.em_expand.specs.declared.spoken.Spoken.{Spoken}
 use Rattle.em_exec.specs.Exec.{Session}
-use Rattle.em_script.specs.declared.line.Line.{Line}
+use Rattle.em_script.specs.declared.line.ShellLine.{ShellLine}
 use Rattle.em_script.specs.Lines as script
 use Rattle.em_recipe.specs.Messages as messages
 use Rattle.em_word.specs.declared.shell.Shell.{Shell}
 use Rattle.em_task.specs.Handed.{is_of_order, is_handed}
 use Rattle.em_task.specs.declared.job.Job.{Job}
 use Rattle.em_job.specs.declared.prepare.Placed.{Placed}
-use Rattle.em_job.specs.declared.prepare.Opened.{Opened}
+use Rattle.em_job.specs.declared.prepare.RecipeStart.{RecipeStart}
 use Rattle.em_job.specs.declared.prepare.Prepared.{Prepared}
 use Rattle.em_job.specs.declared.prepare.Prepared.TheVariants.{Ended, Lines}
-use Rattle.em_job.specs.declared.ready.Ready.{Ready}
+use Rattle.em_job.specs.declared.ready.ParsedLine.{ParsedLine}
 use Rattle.em_job.specs.declared.ready.Course.{Course}
 use Rattle.em_job.specs.declared.ready.Course.TheVariants as course
 use Rattle.em_job.specs.declared.carry.LineEnd.{LineEnd}
 use Rattle.em_job.specs.declared.carry.LineEnd.TheVariants as line_end
 use Rattle.em_job.specs.declared.carry.LineEnd.TheVariants.{Next}
-use Rattle.em_job.specs.declared.stop.Stop.{Stop}
-use Rattle.em_job.specs.declared.stop.Stop.TheVariants.{Spent, NoMemory}
+use Rattle.em_job.specs.declared.stop.JobStop.{JobStop}
+use Rattle.em_job.specs.declared.stop.JobStop.TheVariants.{Spent, NoMemory}
 use Rattle.em_job.specs.Stops.{Acts, of_desk, of_line}
 use Rattle.em_job.specs.Deciding.{is_phony, path_of, same_stamp}
 use Rattle.em_job.specs.Preparing.{Autos, say, expand_at}
 
 -- each line with what it is by the grammar
-abbrev pub AreRead : List Placed → List Ready → Type 0
+abbrev pub AreRead : List Placed → List ParsedLine → Type 0
 AreRead [] [] = Unit {0}
 AreRead (p ∷ ps) (r ∷ rs) = (r.placed ≡ p) × (script.IsRead p.command.text r.line × AreRead ps rs)
 AreRead ps rs = ⊥
 
 -- the lines that are to run
-abbrev pub lines_in : Result Prepared Stop → List Placed
+abbrev pub lines_in : Result Prepared JobStop → List Placed
 lines_in (Ok (Lines x ps)) = ps
 lines_in _ = []
 
 -- the same with each line read
-abbrev pub course_of : List Ready → Prepared → Course
+abbrev pub course_of : List ParsedLine → Prepared → Course
 course_of ready (Ended o) = course.Ended o
 course_of ready (Lines x ps) = course.Run x ready
 
-abbrev pub courses : List Ready → Result Prepared Stop → Result Course Stop
+abbrev pub courses : List ParsedLine → Result Prepared JobStop → Result Course JobStop
 courses ready (Ok p) = Ok (course_of ready p)
 courses ready (Err e) = Err e
 
-pub record IsReadAs (prepared : Result Prepared Stop) (course : Result Course Stop) : Type 0 where
-  pub ready : List Ready
+pub record IsReadAs (prepared : Result Prepared JobStop) (course : Result Course JobStop) : Type 0 where
+  pub ready : List ParsedLine
   pub read : AreRead (lines_in prepared) ready
   pub is : course ≡ courses ready prepared
 
@@ -146,21 +146,21 @@ unfoldable pub run_in : Place → Steps Session ExecNo ℕ → Shell → Acts �
 run_in p m shell = within (session_of shell) said_in (of_line p) m
 
 -- its status
-unfoldable pub in_shell : Job → Entries → Place → Line → Acts ℕ
+unfoldable pub in_shell : Job → Entries → Place → ShellLine → Acts ℕ
 in_shell j env p line = run_in p (script.run_line line) (shell_of j env)
 
-unfoldable pub run : Job → Autos → Option Entries → Place → Line → Acts (Option Entries × ℕ)
+unfoldable pub run : Job → Autos → Option Entries → Place → ShellLine → Acts (Option Entries × ℕ)
 run j autos env p line = do
   e ← environment_once j autos p env
   status ← in_shell j e p line
   done (Some e, status)
 
 -- one that is only shown has status 0
-abbrev pub if_runs : Job → Autos → Option Entries → Placed → Line → Bool → Acts (Option Entries × ℕ)
+abbrev pub if_runs : Job → Autos → Option Entries → Placed → ShellLine → Bool → Acts (Option Entries × ℕ)
 if_runs j autos env l line true = run j autos env l.place line
 if_runs j autos env l line false = done (env, 0)
 
-unfoldable pub run_line : Job → Autos → Option Entries → Placed → Line → Acts (Option Entries × ℕ)
+unfoldable pub run_line : Job → Autos → Option Entries → Placed → ShellLine → Acts (Option Entries × ℕ)
 run_line j autos env l line = do
   u ← own (say (echo j l))
   if_runs j autos env l line (does_run j l)
@@ -241,7 +241,7 @@ after_line j befores l next status = if status == 0 then done (Next next) else i
       o ← fail j befores l.place status
       done (line_end.Ended o)
 
-unfoldable pub turn_of : Job → Opened → Option Entries → Ready → Acts LineEnd
+unfoldable pub turn_of : Job → RecipeStart → Option Entries → ParsedLine → Acts LineEnd
 turn_of j x env r = do
   ran ← run_line j x.autos env r.placed r.line
   after_line j x.stamps r.placed ran.0 ran.1
@@ -250,7 +250,7 @@ abbrev pub lines_by : (Option Entries → Acts Outcome) → LineEnd → Acts Out
 lines_by rest (Next env) = rest env
 lines_by rest (line_end.Ended o) = done o
 
-abbrev pub lines_from : Job → Opened → Option Entries → List Ready → Acts Outcome
+abbrev pub lines_from : Job → RecipeStart → Option Entries → List ParsedLine → Acts Outcome
 lines_from j x env [] = done outcome.Made
 lines_from j x env (r ∷ rs) = turn_of j x env r >>= lines_by (λ next. lines_from j x next rs)
 

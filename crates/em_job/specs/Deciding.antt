@@ -24,8 +24,8 @@ use Rattle.em_recipe.specs.Automatic.{names_of}
 use Rattle.em_task.specs.declared.job.Job.{Job}
 use Rattle.em_job.specs.declared.awaiting.Awaited.{Awaited}
 use Rattle.em_job.specs.declared.awaiting.Ending.{Ending}
-use Rattle.em_job.specs.declared.due.Verdict.{Verdict}
-use Rattle.em_job.specs.declared.due.Verdict.TheVariants.{Ended, NoRule, Remake}
+use Rattle.em_job.specs.declared.due.JobDecision.{JobDecision}
+use Rattle.em_job.specs.declared.due.JobDecision.TheVariants.{Ended, NoRule, Remake}
 use Rattle.em_job.specs.Stops.{Acts, early}
 
 -- the outcomes of prerequisites with which a job goes on
@@ -180,16 +180,16 @@ abbrev pub without_recipe : Bool → Outcome
 without_recipe true = outcome.Counted
 without_recipe false = outcome.Upto
 
-abbrev pub by_recipe : Option (List RecipeLine) → Bool → Bool → Verdict
+abbrev pub by_recipe : Option (List RecipeLine) → Bool → Bool → JobDecision
 by_recipe None due question = Ended (without_recipe due)
 by_recipe (Some lines) false question = Ended outcome.Upto
 by_recipe (Some lines) true true = Ended outcome.Made
 by_recipe (Some lines) true false = Remake
 
 -- targets that are neither phony nor have a rule
-abbrev pub unruled : Bool → Verdict
+abbrev pub unruled : Bool → JobDecision
 unruled true = NoRule
 unruled false = Ended outcome.Upto
 
-abbrev pub decision : Job → List (Option ℕ) → List (List ℕ) → Verdict
+abbrev pub decision : Job → List (Option ℕ) → List (List ℕ) → JobDecision
 decision j owns newer = if not (j.plan.phony || j.plan.ruled) then unruled (is_one_absent owns) else by_recipe j.plan.recipe (is_due j owns newer) j.flags.question

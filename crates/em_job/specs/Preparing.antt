@@ -13,24 +13,24 @@ use Rattle.em_rules.specs.declared.rule.RecipeLine.{RecipeLine}
 use Rattle.em_expand.specs.declared.spoken.Spoken.{Spoken}
 use Rattle.em_expand.specs.Layered.{with_own}
 use Rattle.em_expand.specs.Expansion.{expansion}
-use Rattle.em_recipe.specs.declared.command.Command.{Command}
+use Rattle.em_recipe.specs.declared.command.RecipeCommand.{RecipeCommand}
 use Rattle.em_recipe.specs.Commands.{commands_of}
 use Rattle.em_recipe.specs.Automatic.{texts}
 use Rattle.em_recipe.specs.Messages as messages
 use Rattle.em_task.specs.declared.job.Job.{Job}
 use Rattle.em_job.specs.declared.awaiting.Awaited.{Awaited}
-use Rattle.em_job.specs.declared.due.Verdict.{Verdict}
-use Rattle.em_job.specs.declared.due.Verdict.TheVariants as decision
+use Rattle.em_job.specs.declared.due.JobDecision.{JobDecision}
+use Rattle.em_job.specs.declared.due.JobDecision.TheVariants as decision
 use Rattle.em_job.specs.declared.prepare.Placed.{Placed}
 use Rattle.em_job.specs.declared.prepare.Prepared.{Prepared}
 use Rattle.em_job.specs.declared.prepare.Prepared.TheVariants.{Ended, Lines}
-use Rattle.em_job.specs.declared.stop.Stop.{Stop}
-use Rattle.em_job.specs.declared.stop.Stop.TheVariants.{Refused}
+use Rattle.em_job.specs.declared.stop.JobStop.{JobStop}
+use Rattle.em_job.specs.declared.stop.JobStop.TheVariants.{Refused}
 use Rattle.em_job.specs.Stops.{Acts, of_expand}
 use Rattle.em_job.specs.Deciding.{Known, prerequisites, stamps_of, newer_among, reasons, decision}
 
 -- the text stands behind what was said
-abbrev pub say : List ℕ → Spoken → Result (Unit {0} × Spoken) (Stop × Spoken)
+abbrev pub say : List ℕ → Spoken → Result (Unit {0} × Spoken) (JobStop × Spoken)
 say text s = Ok (tt, record s { said = s.said ++ text })
 
 abbrev pub itself : Spoken → Spoken
@@ -39,10 +39,10 @@ itself s = s
 abbrev pub instead : Spoken → Spoken → Spoken
 instead old new = new
 
-abbrev pub no_evals : Place → Spoken → Result (Unit {0} × Spoken) (Stop × Spoken)
+abbrev pub no_evals : Place → Spoken → Result (Unit {0} × Spoken) (JobStop × Spoken)
 no_evals p s = by_evals s.evals
   where
-    by_evals : List (List ℕ) → Result (Unit {0} × Spoken) (Stop × Spoken)
+    by_evals : List (List ℕ) → Result (Unit {0} × Spoken) (JobStop × Spoken)
     by_evals [] = Ok (tt, s)
     by_evals (e ∷ es) = Err (Refused construct.Eval p, s)
 
@@ -56,7 +56,7 @@ expand_at j autos p text = do
   u ← own (no_evals p)
   done t
 
-abbrev pub placed : Place → Command → Placed
+abbrev pub placed : Place → RecipeCommand → Placed
 placed p c = record { place = p; command = c }
 
 abbrev pub expand_lines : Job → Autos → List RecipeLine → List Placed → Acts (List Placed)
@@ -78,7 +78,7 @@ no_rule j = do
   u ← own (say (messages.no_rule j.plan.target j.plan.needed_by j.flags.keep_going))
   done (Ended outcome.NoRule)
 
-abbrev pub by_decision : Job → List (Option ℕ) → List (List ℕ) → Verdict → Acts Prepared
+abbrev pub by_decision : Job → List (Option ℕ) → List (List ℕ) → JobDecision → Acts Prepared
 by_decision j owns newer (decision.Ended o) = done (Ended o)
 by_decision j owns newer decision.NoRule = no_rule j
 by_decision j owns newer decision.Remake = expand_recipe j owns (reasons j owns newer)

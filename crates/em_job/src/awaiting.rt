@@ -5,7 +5,7 @@ ghost use Rattle.em_job.specs.Stops.{is_free};
 ghost use Rattle.em_job.specs.Deciding as deciding;
 ghost use Rattle.em_view.specs.Steps.{Does};
 
-use crate::stop::{Stop, early};
+use crate::stop::{JobStop, early};
 use em_base::{NoMemory, Seq, Text};
 use em_plan::Pre;
 use em_task::Job;
@@ -84,7 +84,7 @@ fn behind<'a>(known: Option<&'a [Outcome]>, pres: &[Pre]) -> Option<&'a [Outcome
 }
 
 /// How a job of a prerequisite ended, by the desk's answer.
-fn await_desk<V: View>(desk: &mut Desk<V>, dry: bool, job: u32) -> Result<Ending, Stop>
+fn await_desk<V: View>(desk: &mut Desk<V>, dry: bool, job: u32) -> Result<Ending, JobStop>
     ensures { (s : Spoken) → Does is_free V.tells desk.old desk.new s s result
         (deciding.await_job None dry job) }
 {
@@ -108,7 +108,7 @@ fn await_job<V: View>(
     known: Option<&[Outcome]>,
     dry: bool,
     job: u32,
-) -> Result<Ending, Stop>
+) -> Result<Ending, JobStop>
     ensures { (s : Spoken) → Does is_free V.tells desk.old desk.new s s result
         (deciding.await_job (option_map (λ o. o.now) known.entry) dry job) }
 {
@@ -137,7 +137,7 @@ fn await_jobs<V: View>(
     known: Option<&[Outcome]>,
     dry: bool,
     jobs: &[u32],
-) -> Result<Ending, Stop>
+) -> Result<Ending, JobStop>
     ensures { (s : Spoken) → Does is_free V.tells desk.old desk.new s s result
         (deciding.await_jobs (option_map (λ o. o.now) known.entry) dry jobs.now
         deciding.unasked) }
@@ -183,7 +183,7 @@ fn await_normal<V: View>(
     known: Option<&[Outcome]>,
     dry: bool,
     pres: &[Pre],
-) -> Result<(Seq<Awaited>, bool), Stop>
+) -> Result<(Seq<Awaited>, bool), JobStop>
     ensures { (s : Spoken) → Does is_free V.tells desk.old desk.new s s result
         (deciding.await_normal (option_map (λ o. o.now) known.entry) dry pres.now [] true) }
 {
@@ -205,7 +205,7 @@ fn await_order<V: View>(
     known: Option<&[Outcome]>,
     pres: &[Pre],
     before: bool,
-) -> Result<bool, Stop>
+) -> Result<bool, JobStop>
     ensures { (s : Spoken) → Does is_free V.tells desk.old desk.new s s result
         (deciding.await_order (option_map (λ o. o.now) known.entry) pres.now before) }
 {
@@ -225,7 +225,7 @@ pub(crate) fn prerequisites<V: View>(
     desk: &mut Desk<V>,
     known: Option<&[Outcome]>,
     job: &Job,
-) -> Result<(Seq<Awaited>, bool), Stop>
+) -> Result<(Seq<Awaited>, bool), JobStop>
     ensures { (s : Spoken) → Does is_free V.tells desk.old desk.new s s result
         (deciding.prerequisites (option_map (λ o. o.now) known.entry) job.now) }
 {

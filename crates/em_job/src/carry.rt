@@ -8,9 +8,9 @@ ghost use Rattle.em_view.specs.Steps.{Does, Works};
 
 use crate::fail::fail;
 use crate::line::run_line;
-use crate::prepare::{Opened, Placed};
-use crate::ready::{Course, Ready};
-use crate::stop::Stop;
+use crate::prepare::{Placed, RecipeStart};
+use crate::ready::{Course, ParsedLine};
+use crate::stop::JobStop;
 use em_base::Place;
 use em_expand::Spoken;
 use em_recipe::put_ignored;
@@ -20,7 +20,7 @@ use em_vars::Vars;
 use em_view::{Desk, View};
 use std::alloc::Global;
 
-fn say_ignored(spoken: &mut Spoken, job: &Job, place: &Place, status: u8) -> Result<(), Stop>
+fn say_ignored(spoken: &mut Spoken, job: &Job, place: &Place, status: u8) -> Result<(), JobStop>
     ensures { Works is_free spoken.old spoken.new result
         (preparing.say (messages.ignored place.now job.now.plan.target status)) }
 {
@@ -71,7 +71,7 @@ pub fn after_line<V: View>(
     placed: &Placed,
     next: Option<Vars>,
     status: u8,
-) -> Result<LineEnd, Stop>
+) -> Result<LineEnd, JobStop>
     ensures { Does is_free V.tells desk.old desk.new spoken.old spoken.new result
         (carrying.after_line job.now stamps.now placed.now next status) }
 {
@@ -92,14 +92,14 @@ fn run_turn<V: View>(
     desk: &mut Desk<V>,
     spoken: &mut Spoken,
     job: &Job,
-    opened: &Opened,
+    opened: &RecipeStart,
     env: Option<Vars>,
-    ready: &Ready,
-) -> Result<LineEnd, Stop>
+    ready: &ParsedLine,
+) -> Result<LineEnd, JobStop>
     ensures { Does is_free V.tells desk.old desk.new spoken.old spoken.new result
         (carrying.turn_of job.now opened.now env ready.now) }
 {
-    let Ready { placed, line } = ready;
+    let ParsedLine { placed, line } = ready;
     let autos = opened.autos.items();
     let (next, status) = run_line(alloc, desk, spoken, job, autos, env, placed, line)?;
     let stamps = opened.stamps.items();
@@ -112,9 +112,9 @@ fn run_lines<V: View>(
     desk: &mut Desk<V>,
     spoken: &mut Spoken,
     job: &Job,
-    opened: &Opened,
-    lines: &[Ready],
-) -> Result<Outcome, Stop>
+    opened: &RecipeStart,
+    lines: &[ParsedLine],
+) -> Result<Outcome, JobStop>
     ensures { Does is_free V.tells desk.old desk.new spoken.old spoken.new result
         (carrying.lines_from job.now opened.now None lines.now) }
 {
@@ -136,7 +136,7 @@ fn carry_course<V: View>(
     spoken: &mut Spoken,
     job: &Job,
     course: Course,
-) -> Result<Outcome, Stop>
+) -> Result<Outcome, JobStop>
     ensures { Does is_free V.tells desk.old desk.new spoken.old spoken.new result
         (carrying.carry_out job.now course) }
 {
@@ -154,8 +154,8 @@ pub(crate) fn carry_out<V: View>(
     desk: &mut Desk<V>,
     spoken: &mut Spoken,
     job: &Job,
-    course: Result<Course, Stop>,
-) -> Result<Outcome, Stop>
+    course: Result<Course, JobStop>,
+) -> Result<Outcome, JobStop>
     ensures ok { IfOk course
         (λ c. Does is_free V.tells desk.old desk.new spoken.old spoken.new result
         (carrying.carry_out job.now c)) }

@@ -8,7 +8,7 @@ ghost use Rattle.em_recipe.specs.Automatic as automatic;
 ghost use Rattle.em_view.specs.Steps.{Does};
 
 use crate::awaiting::Awaited;
-use crate::stop::{Stop, early};
+use crate::stop::{JobStop, early};
 use em_base::{NoMemory, Seq, Text};
 use em_path::{Path, PathNo};
 use em_plan::Pre;
@@ -18,7 +18,7 @@ use em_view::{Desk, View};
 use std::alloc::Global;
 
 /// What becomes of a job.
-pub(crate) enum Verdict {
+pub(crate) enum JobDecision {
     Ended(Outcome),
     NoRule,
     Remake,
@@ -41,7 +41,7 @@ pub(crate) fn stamp_of<V: View>(
     desk: &mut Desk<V>,
     cwd: &Path,
     name: &[u8],
-) -> Result<Option<u64>, Stop>
+) -> Result<Option<u64>, JobStop>
     ensures { (s : Spoken) → Does is_free V.tells desk.old desk.new s s result
         (deciding.stamp_of cwd.now name.now) }
 {
@@ -60,7 +60,7 @@ pub(crate) fn stamps_of<V: View>(
     desk: &mut Desk<V>,
     cwd: &Path,
     names: &[Text],
-) -> Result<Seq<Option<u64>>, Stop>
+) -> Result<Seq<Option<u64>>, JobStop>
     ensures { (s : Spoken) → Does is_free V.tells desk.old desk.new s s result
         (deciding.stamps_of cwd.now names.now []) }
 {
@@ -146,7 +146,7 @@ pub(crate) fn newer_among<V: View>(
     job: &Job,
     owns: &[Option<u64>],
     normal: &[Awaited],
-) -> Result<Seq<Text>, Stop>
+) -> Result<Seq<Text>, JobStop>
     ensures { (s : Spoken) → Does is_free V.tells desk.old desk.new s s result
         (deciding.newer_among job.now owns.now normal.now []) }
 {
@@ -214,18 +214,18 @@ pub(crate) fn reasons(
 }
 
 /// What becomes of a job whose targets are neither phony nor have a rule.
-fn unruled(is_one_absent: bool) -> Verdict
+fn unruled(is_one_absent: bool) -> JobDecision
     ensures { result ≡ deciding.unruled is_one_absent }
 {
     if is_one_absent {
-        Verdict::NoRule
+        JobDecision::NoRule
     } else {
-        Verdict::Ended(Outcome::Upto)
+        JobDecision::Ended(Outcome::Upto)
     }
 }
 
 /// What becomes of the job.
-pub(crate) fn decision(job: &Job, owns: &[Option<u64>], newer: &[Text]) -> Verdict
+pub(crate) fn decision(job: &Job, owns: &[Option<u64>], newer: &[Text]) -> JobDecision
     ensures { result ≡ deciding.decision job.now owns.now newer.now }
 {
     if !(job.plan.get().phony || job.plan.get().ruled) {
@@ -233,10 +233,10 @@ pub(crate) fn decision(job: &Job, owns: &[Option<u64>], newer: &[Text]) -> Verdi
     }
     let due = is_due(job, owns, newer);
     match &job.plan.get().recipe {
-        None if due => Verdict::Ended(Outcome::Counted),
-        None => Verdict::Ended(Outcome::Upto),
-        Some(_) if !due => Verdict::Ended(Outcome::Upto),
-        Some(_) if job.flags.question => Verdict::Ended(Outcome::Made),
-        Some(_) => Verdict::Remake,
+        None if due => JobDecision::Ended(Outcome::Counted),
+        None => JobDecision::Ended(Outcome::Upto),
+        Some(_) if !due => JobDecision::Ended(Outcome::Upto),
+        Some(_) if job.flags.question => JobDecision::Ended(Outcome::Made),
+        Some(_) => JobDecision::Remake,
     }
 }

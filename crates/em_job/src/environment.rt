@@ -5,7 +5,7 @@ ghost use Rattle.em_job.specs.Carrying as carrying;
 ghost use Rattle.em_view.specs.Steps.{Does};
 
 use crate::prepare::expand_at;
-use crate::stop::Stop;
+use crate::stop::JobStop;
 use em_base::{NoMemory, Place, Text};
 use em_expand::{OwnVar, Spoken, own_text};
 use em_task::{Job, is_handed, is_of_order};
@@ -29,7 +29,7 @@ fn handed_text<V: View>(
     autos: &[OwnVar],
     place: &Place,
     var: &Var,
-) -> Result<Text, Stop>
+) -> Result<Text, JobStop>
     ensures { Does is_free V.tells desk.old desk.new spoken.old spoken.new result
         (carrying.handed_text job.now autos.now place.now var.now) }
 {
@@ -72,7 +72,7 @@ fn hand<V: View>(
     env: Vars,
     name: &[u8],
     var: &Var,
-) -> Result<Vars, Stop>
+) -> Result<Vars, JobStop>
     ensures { Does is_free V.tells desk.old desk.new spoken.old spoken.new result
         (carrying.hand job.now autos.now place.now env name.now var.now) }
 {
@@ -95,7 +95,7 @@ fn hand_entry<V: View>(
     place: &Place,
     env: Vars,
     i: usize,
-) -> Result<Vars, Stop>
+) -> Result<Vars, JobStop>
     ensures { Does is_free V.tells desk.old desk.new spoken.old spoken.new result
         (carrying.hand_entry job.now autos.now place.now env (slice_get job.now.vars i)) }
 {
@@ -114,7 +114,7 @@ pub(crate) fn environment<V: View>(
     job: &Job,
     autos: &[OwnVar],
     place: &Place,
-) -> Result<Vars, Stop>
+) -> Result<Vars, JobStop>
     ensures { Does is_free V.tells desk.old desk.new spoken.old spoken.new result
         (carrying.environment job.now autos.now place.now) }
 {

@@ -7,7 +7,7 @@ ghost use Rattle.em_recipe.specs.Messages as messages;
 ghost use Rattle.em_view.specs.Steps.{Does, Works};
 
 use crate::due::{is_phony, path_of, same_stamp};
-use crate::stop::{Stop, of_desk};
+use crate::stop::{JobStop, of_desk};
 use em_base::{Place, Text};
 use em_expand::Spoken;
 use em_path::Path;
@@ -17,7 +17,7 @@ use em_tree::{Kind, Outcome};
 use em_view::{Desk, DeskNo, View};
 use std::alloc::Global;
 
-fn say_deleted(spoken: &mut Spoken, target: &[u8]) -> Result<(), Stop>
+fn say_deleted(spoken: &mut Spoken, target: &[u8]) -> Result<(), JobStop>
     ensures { Works is_free spoken.old spoken.new result
         (preparing.say (messages.deleted target.now)) }
 {
@@ -25,7 +25,7 @@ fn say_deleted(spoken: &mut Spoken, target: &[u8]) -> Result<(), Stop>
     Ok(())
 }
 
-fn say_failed(spoken: &mut Spoken, job: &Job, place: &Place, status: u8) -> Result<(), Stop>
+fn say_failed(spoken: &mut Spoken, job: &Job, place: &Place, status: u8) -> Result<(), JobStop>
     ensures { Works is_free spoken.old spoken.new result
         (preparing.say (messages.failed place.now job.now.plan.target status)) }
 {
@@ -46,7 +46,7 @@ fn remove<V: View>(
     target: &[u8],
     place: &Place,
     path: &Path,
-) -> Result<(), Stop>
+) -> Result<(), JobStop>
     ensures { Does is_free V.tells desk.old desk.new spoken.old spoken.new result
         (carrying.remove_target target.now place.now path.now) }
 {
@@ -54,7 +54,7 @@ fn remove<V: View>(
         Ok(()) => say_deleted(spoken, target),
         Err(DeskNo::File(_)) => Ok(()),
         Err(DeskNo::Spent) => Err(of_desk(alloc, place, DeskNo::Spent)),
-        Err(DeskNo::NoMemory) => Err(Stop::NoMemory),
+        Err(DeskNo::NoMemory) => Err(JobStop::NoMemory),
     }
 }
 
@@ -67,7 +67,7 @@ fn remove_changed<V: View>(
     before: Option<u64>,
     place: &Place,
     path: &Path,
-) -> Result<(), Stop>
+) -> Result<(), JobStop>
     ensures { Does is_free V.tells desk.old desk.new spoken.old spoken.new result
         (carrying.remove_changed target.now before place.now path.now) }
 {
@@ -91,7 +91,7 @@ fn delete_at<V: View>(
     before: Option<u64>,
     place: &Place,
     path: &Path,
-) -> Result<(), Stop>
+) -> Result<(), JobStop>
     ensures { Does is_free V.tells desk.old desk.new spoken.old spoken.new result
         (carrying.delete_at target.now before place.now path.now) }
 {
@@ -113,7 +113,7 @@ fn delete_one<V: View>(
     place: &Place,
     target: &[u8],
     before: Option<u64>,
-) -> Result<(), Stop>
+) -> Result<(), JobStop>
     ensures { Does is_free V.tells desk.old desk.new spoken.old spoken.new result
         (carrying.delete_one job.now place.now target.now before) }
 {
@@ -135,7 +135,7 @@ fn delete_each<V: View>(
     place: &Place,
     targets: &[Text],
     befores: &[Option<u64>],
-) -> Result<(), Stop>
+) -> Result<(), JobStop>
     ensures { Does is_free V.tells desk.old desk.new spoken.old spoken.new result
         (carrying.delete_each job.now place.now targets.now befores.now) }
 {
@@ -153,7 +153,7 @@ fn delete<V: View>(
     job: &Job,
     befores: &[Option<u64>],
     place: &Place,
-) -> Result<(), Stop>
+) -> Result<(), JobStop>
     ensures { Does is_free V.tells desk.old desk.new spoken.old spoken.new result
         (carrying.delete job.now befores.now place.now) }
 {
@@ -173,7 +173,7 @@ pub(crate) fn fail<V: View>(
     befores: &[Option<u64>],
     place: &Place,
     status: u8,
-) -> Result<Outcome, Stop>
+) -> Result<Outcome, JobStop>
     ensures { Does is_free V.tells desk.old desk.new spoken.old spoken.new result
         (carrying.fail job.now befores.now place.now status) }
 {

@@ -8,10 +8,10 @@ ghost use Rattle.em_view.specs.Steps.{Does, Works};
 
 use crate::environment::environment;
 use crate::prepare::{Placed, say};
-use crate::stop::{Stop, of_line};
+use crate::stop::{JobStop, of_line};
 use em_base::{NoMemory, Place};
 use em_expand::{OwnVar, Spoken};
-use em_script::Line;
+use em_script::ShellLine;
 use em_task::Job;
 use em_vars::Vars;
 use em_view::{Desk, View};
@@ -32,7 +32,7 @@ pub fn environment_once<V: View>(
     autos: &[OwnVar],
     place: &Place,
     env: Option<Vars>,
-) -> Result<Vars, Stop>
+) -> Result<Vars, JobStop>
     ensures { Does is_free V.tells desk.old desk.new spoken.old spoken.new result
         (carrying.environment_once job.now autos.now place.now env) }
 {
@@ -59,15 +59,15 @@ pub fn shell_of(alloc: Global, job: &Job, env: &Vars) -> Result<Shell, NoMemory>
 ///
 /// Errors, both at the place: `Spent`, and `Refused` for a construct that isn't supported; and
 /// `NoMemory`, which may come freely. What the line did till then stands. The cost is that of
-/// `Line::run`.
+/// `ShellLine::run`.
 pub fn run_in<V: View>(
     alloc: Global,
     desk: &mut Desk<V>,
     spoken: &mut Spoken,
     place: &Place,
-    line: &Line,
+    line: &ShellLine,
     shell: Shell,
-) -> Result<u8, Stop>
+) -> Result<u8, JobStop>
     ensures { Does is_free V.tells desk.old desk.new spoken.old spoken.new result
         (carrying.run_in place.now (run_line line.now) shell) }
 {
@@ -86,8 +86,8 @@ fn in_shell<V: View>(
     job: &Job,
     env: &Vars,
     place: &Place,
-    line: &Line,
-) -> Result<u8, Stop>
+    line: &ShellLine,
+) -> Result<u8, JobStop>
     ensures { Does is_free V.tells desk.old desk.new spoken.old spoken.new result
         (carrying.in_shell job.now env.now place.now line.now) }
 {
@@ -113,7 +113,7 @@ pub fn does_run(job: &Job, placed: &Placed) -> bool
 /// Says the line's text, with a newline, where it is echoed: under `-n` always, else unless it is
 /// marked with `@` or the job is quiet. Want of memory alone is an error, and may come freely; a
 /// part of the text may then have been said. A step for each byte of the text.
-pub fn echo(spoken: &mut Spoken, job: &Job, placed: &Placed) -> Result<(), Stop>
+pub fn echo(spoken: &mut Spoken, job: &Job, placed: &Placed) -> Result<(), JobStop>
     ensures { Works is_free spoken.old spoken.new result
         (preparing.say (carrying.echo job.now placed.now)) }
 {
@@ -133,8 +133,8 @@ fn run<V: View>(
     autos: &[OwnVar],
     env: Option<Vars>,
     place: &Place,
-    line: &Line,
-) -> Result<(Option<Vars>, u8), Stop>
+    line: &ShellLine,
+) -> Result<(Option<Vars>, u8), JobStop>
     ensures { Does is_free V.tells desk.old desk.new spoken.old spoken.new result
         (carrying.run job.now autos.now env place.now line.now) }
 {
@@ -152,8 +152,8 @@ pub(crate) fn run_line<V: View>(
     autos: &[OwnVar],
     env: Option<Vars>,
     placed: &Placed,
-    line: &Line,
-) -> Result<(Option<Vars>, u8), Stop>
+    line: &ShellLine,
+) -> Result<(Option<Vars>, u8), JobStop>
     ensures { Does is_free V.tells desk.old desk.new spoken.old spoken.new result
         (carrying.run_line job.now autos.now env placed.now line.now) }
 {

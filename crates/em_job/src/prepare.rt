@@ -6,11 +6,11 @@ ghost use Rattle.em_recipe.specs.Messages as messages;
 ghost use Rattle.em_view.specs.Steps.{Does, Works};
 
 use crate::awaiting::{Awaited, prerequisites};
-use crate::due::{Verdict, decision, newer_among, reasons, stamps_of};
-use crate::stop::{Stop, of_expand, refused};
+use crate::due::{JobDecision, decision, newer_among, reasons, stamps_of};
+use crate::stop::{JobStop, of_expand, refused};
 use em_base::{Construct, NoMemory, Place, Seq, Text};
 use em_expand::{Layers, OwnVar, Spoken, expand};
-use em_recipe::{Command, automatic_vars, commands, put_no_rule};
+use em_recipe::{RecipeCommand, automatic_vars, commands, put_no_rule};
 use em_rules::RecipeLine;
 use em_task::Job;
 use em_tree::Outcome;
@@ -21,12 +21,12 @@ use std::alloc::Global;
 #[derive(Drop)]
 pub struct Placed {
     pub place: Place,
-    pub command: Command,
+    pub command: RecipeCommand,
 }
 
 /// A recipe that is to run.
 #[derive(Drop)]
-pub struct Opened {
+pub struct RecipeStart {
     /// The targets' stamps before it, in order.
     pub stamps: Seq<Option<u64>>,
     /// The automatic variables.
@@ -37,11 +37,11 @@ pub struct Opened {
 #[derive(Drop)]
 pub enum Prepared {
     Ended(Outcome),
-    Lines(Opened, Seq<Placed>),
+    Lines(RecipeStart, Seq<Placed>),
 }
 
 /// Says a text.
-pub(crate) fn say(spoken: &mut Spoken, text: &[u8]) -> Result<(), Stop>
+pub(crate) fn say(spoken: &mut Spoken, text: &[u8]) -> Result<(), JobStop>
     ensures { Works is_free spoken.old spoken.new result (preparing.say text.now) }
 {
     spoken.said.add(text)?;
@@ -49,7 +49,7 @@ pub(crate) fn say(spoken: &mut Spoken, text: &[u8]) -> Result<(), Stop>
 }
 
 /// Refuses texts for `eval`.
-fn no_evals(alloc: Global, spoken: &mut Spoken, place: &Place) -> Result<(), Stop>
+fn no_evals(alloc: Global, spoken: &mut Spoken, place: &Place) -> Result<(), JobStop>
     ensures { Works is_free spoken.old spoken.new result (preparing.no_evals place.now) }
 {
     if spoken.evals.is_empty() {
@@ -68,7 +68,7 @@ pub(crate) fn expand_at<V: View>(
     autos: &[OwnVar],
     place: &Place,
     text: &[u8],
-) -> Result<Text, Stop>
+) -> Result<Text, JobStop>
     ensures { Does is_free V.tells desk.old desk.new spoken.old spoken.new result
         (preparing.expand_at job.now autos.now place.now text.now) }
 {
@@ -88,7 +88,7 @@ fn put_placed(
     alloc: Global,
     lines: &mut Seq<Placed>,
     place: &Place,
-    commands: Seq<Command>,
+    commands: Seq<RecipeCommand>,
 ) -> Result<(), NoMemory>
     ensures { OnOk result
         (lines.new ≡ lines.old ++ map (preparing.placed place.now) commands) }
@@ -108,7 +108,7 @@ fn expand_lines<V: View>(
     job: &Job,
     autos: &[OwnVar],
     recipe: &[RecipeLine],
-) -> Result<Seq<Placed>, Stop>
+) -> Result<Seq<Placed>, JobStop>
     ensures { Does is_free V.tells desk.old desk.new spoken.old spoken.new result
         (preparing.expand_lines job.now autos.now recipe.now []) }
 {
@@ -147,17 +147,17 @@ fn expand_recipe<V: View>(
     job: &Job,
     stamps: Seq<Option<u64>>,
     newer: &[Text],
-) -> Result<Prepared, Stop>
+) -> Result<Prepared, JobStop>
     ensures { Does is_free V.tells desk.old desk.new spoken.old spoken.new result
         (preparing.expand_recipe job.now stamps newer.now) }
 {
     let autos = automatic_vars(alloc, job.plan.get(), newer)?;
     let lines = expand_lines(alloc, desk, spoken, job, autos.items(), recipe_of(job))?;
-    Ok(Prepared::Lines(Opened { stamps, autos }, lines))
+    Ok(Prepared::Lines(RecipeStart { stamps, autos }, lines))
 }
 
 /// Says that no rule makes the target.
-fn no_rule(spoken: &mut Spoken, job: &Job) -> Result<(), Stop>
+fn no_rule(spoken: &mut Spoken, job: &Job) -> Result<(), JobStop>
     ensures { Works is_free spoken.old spoken.new result
         (preparing.say (messages.no_rule job.now.plan.target job.now.plan.needed_by
         job.now.flags.keep_going)) }
@@ -179,19 +179,19 @@ fn decide<V: View>(
     spoken: &mut Spoken,
     job: &Job,
     normal: &[Awaited],
-) -> Result<Prepared, Stop>
+) -> Result<Prepared, JobStop>
     ensures { Does is_free V.tells desk.old desk.new spoken.old spoken.new result
         (preparing.decide job.now normal.now) }
 {
     let owns = stamps_of(alloc, desk, &job.cwd, job.plan.get().targets.items())?;
     let newer = newer_among(alloc, desk, job, owns.items(), normal)?;
     match decision(job, owns.items(), newer.items()) {
-        Verdict::Ended(outcome) => Ok(Prepared::Ended(outcome)),
-        Verdict::NoRule => {
+        JobDecision::Ended(outcome) => Ok(Prepared::Ended(outcome)),
+        JobDecision::NoRule => {
             no_rule(spoken, job)?;
             Ok(Prepared::Ended(Outcome::NoRule))
         }
-        Verdict::Remake => {
+        JobDecision::Remake => {
             let reasons = reasons(alloc, job, owns.items(), newer)?;
             expand_recipe(alloc, desk, spoken, job, owns, reasons.items())
         }
@@ -214,7 +214,7 @@ pub fn prepare_job<V: View>(
     spoken: &mut Spoken,
     known: Option<&[Outcome]>,
     job: &Job,
-) -> Result<Prepared, Stop>
+) -> Result<Prepared, JobStop>
     ensures { Does is_free V.tells desk.old desk.new spoken.old spoken.new result
         (preparing.prepare_with (option_map (λ o. o.now) known.entry) job.now) }
 {

@@ -2,36 +2,36 @@
 ghost use Rattle.std.specs.Prelude.{IfOk};
 ghost use Rattle.em_job.specs.Carrying.{AreRead, IsReadAs};
 
-use crate::prepare::{Opened, Placed, Prepared};
-use crate::stop::Stop;
+use crate::prepare::{Placed, Prepared, RecipeStart};
+use crate::stop::JobStop;
 use em_base::{NoMemory, Seq};
-use em_script::Line;
+use em_script::ShellLine;
 use em_tree::Outcome;
 use std::alloc::Global;
 
 /// A line for the shell, and what it is by the grammar.
 #[derive(Drop)]
-pub struct Ready {
+pub struct ParsedLine {
     pub placed: Placed,
-    pub line: Line,
+    pub line: ShellLine,
 }
 
 /// What is left to do of a job, with each line read.
 #[derive(Drop)]
 pub(crate) enum Course {
     Ended(Outcome),
-    Run(Opened, Seq<Ready>),
+    Run(RecipeStart, Seq<ParsedLine>),
 }
 
 /// Reads the lines by the shell's grammar; a line with a fault is kept as such. `NoMemory` alone is
 /// an error, and may come freely. The time is linear in the lines' length; no text is copied.
-pub fn read_lines(alloc: Global, lines: Seq<Placed>) -> Result<Seq<Ready>, NoMemory>
+pub fn read_lines(alloc: Global, lines: Seq<Placed>) -> Result<Seq<ParsedLine>, NoMemory>
     ensures { IfOk result (λ rs. AreRead lines rs) }
 {
     let mut ready = Seq::new(alloc);
     for placed in lines.into_vec() {
-        let line = Line::read(alloc, placed.command.text.bytes())?;
-        ready.push(Ready { placed, line })?;
+        let line = ShellLine::read(alloc, placed.command.text.bytes())?;
+        ready.push(ParsedLine { placed, line })?;
     }
     Ok(ready)
 }
@@ -39,8 +39,8 @@ pub fn read_lines(alloc: Global, lines: Seq<Placed>) -> Result<Seq<Ready>, NoMem
 /// Reads what is to run.
 pub(crate) fn read(
     alloc: Global,
-    prepared: Result<Prepared, Stop>,
-) -> Result<Result<Course, Stop>, NoMemory>
+    prepared: Result<Prepared, JobStop>,
+) -> Result<Result<Course, JobStop>, NoMemory>
     ensures { IfOk result (λ c. IsReadAs prepared c) }
 {
     match prepared {

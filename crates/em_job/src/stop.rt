@@ -1,6 +1,6 @@
 //! Why a job goes no further.
 ghost use Rattle.std.specs.Prelude.{◌≡◌, ◌++◌, false, OnOk};
-ghost use Rattle.em_job.specs.declared.stop.Stop.TheVariants.{Refused, Halted, NoMemory as OutOfMemory};
+ghost use Rattle.em_job.specs.declared.stop.JobStop.TheVariants.{Refused, Halted, NoMemory as OutOfMemory};
 ghost use Rattle.em_recipe.specs.Messages as messages;
 ghost use Rattle.em_view.specs.declared.no.DeskNo.TheVariants as desk;
 ghost use Rattle.em_job.specs.Stops as stops;
@@ -15,7 +15,7 @@ use std::alloc::{AllocError, AllocFailed, Global};
 
 /// Why a job goes no further. What it has changed and said stands.
 #[derive(Drop)]
-pub enum Stop {
+pub enum JobStop {
     /// Fuel was spent before a line was begun.
     Early,
     /// Fuel was spent in this line.
@@ -27,91 +27,91 @@ pub enum Stop {
     NoMemory,
 }
 
-impl From<NoMemory> for Stop {
+impl From<NoMemory> for JobStop {
     ghost from_gives = { λ _ e. e ≡ OutOfMemory };
 
-    fn from(_e: NoMemory) -> Stop {
-        Stop::NoMemory
+    fn from(_e: NoMemory) -> JobStop {
+        JobStop::NoMemory
     }
 }
 
-impl From<AllocError> for Stop {
+impl From<AllocError> for JobStop {
     ghost from_gives = { λ _ e. e ≡ OutOfMemory };
 
-    fn from(_e: AllocError) -> Stop {
-        Stop::NoMemory
+    fn from(_e: AllocError) -> JobStop {
+        JobStop::NoMemory
     }
 }
 
-impl<T: Drop> From<AllocFailed<T>> for Stop {
+impl<T: Drop> From<AllocFailed<T>> for JobStop {
     ghost from_gives = { λ _ e. e ≡ OutOfMemory };
 
-    fn from(_e: AllocFailed<T>) -> Stop {
-        Stop::NoMemory
+    fn from(_e: AllocFailed<T>) -> JobStop {
+        JobStop::NoMemory
     }
 }
 
 /// A desk's refusal before a line.
-pub(crate) fn early(e: DeskNo) -> Stop
+pub(crate) fn early(e: DeskNo) -> JobStop
     ensures { result ≡ stops.early e }
 {
     match e {
-        DeskNo::NoMemory => Stop::NoMemory,
-        DeskNo::Spent | DeskNo::File(_) => Stop::Early,
+        DeskNo::NoMemory => JobStop::NoMemory,
+        DeskNo::Spent | DeskNo::File(_) => JobStop::Early,
     }
 }
 
 /// Fuel was spent in a line.
-fn spent(alloc: Global, place: &Place) -> Stop
+fn spent(alloc: Global, place: &Place) -> JobStop
     ensures { is_free result ≡ false → result ≡ stops.of_desk place.now desk.Spent }
 {
     match place.copy(alloc) {
-        Ok(place) => Stop::Spent(place),
-        Err(_) => Stop::NoMemory,
+        Ok(place) => JobStop::Spent(place),
+        Err(_) => JobStop::NoMemory,
     }
 }
 
 /// A desk's refusal at the line of this place: `Spent` there, whatever it refused, or `NoMemory`.
 /// `NoMemory` may come freely; else the place is copied.
-pub fn of_desk(alloc: Global, place: &Place, e: DeskNo) -> Stop
+pub fn of_desk(alloc: Global, place: &Place, e: DeskNo) -> JobStop
     ensures { is_free result ≡ false → result ≡ stops.of_desk place.now e }
 {
     match e {
-        DeskNo::NoMemory => Stop::NoMemory,
+        DeskNo::NoMemory => JobStop::NoMemory,
         DeskNo::Spent | DeskNo::File(_) => spent(alloc, place),
     }
 }
 
 /// A construct in the line of this place isn't supported. `NoMemory` may come freely; else the
 /// place is copied.
-pub fn refused(alloc: Global, place: &Place, construct: Construct) -> Stop
+pub fn refused(alloc: Global, place: &Place, construct: Construct) -> JobStop
     ensures { is_free result ≡ false → result ≡ Refused construct place.now }
 {
     match place.copy(alloc) {
-        Ok(place) => Stop::Refused(construct, place),
-        Err(_) => Stop::NoMemory,
+        Ok(place) => JobStop::Refused(construct, place),
+        Err(_) => JobStop::NoMemory,
     }
 }
 
 /// A text in a line can't be expanded.
-fn halted(alloc: Global, place: &Place, e: &ExpandNo) -> Stop
+fn halted(alloc: Global, place: &Place, e: &ExpandNo) -> JobStop
     ensures { is_free result ≡ false → result ≡ Halted (messages.fault_text e.now) place.now }
 {
     let Ok(text) = fault_text(alloc, e) else {
-        return Stop::NoMemory;
+        return JobStop::NoMemory;
     };
     match place.copy(alloc) {
-        Ok(place) => Stop::Halted(text, place),
-        Err(_) => Stop::NoMemory,
+        Ok(place) => JobStop::Halted(text, place),
+        Err(_) => JobStop::NoMemory,
     }
 }
 
 /// Why a text in a line has no expansion.
-pub(crate) fn of_expand(alloc: Global, place: &Place, e: ExpandNo) -> Stop
+pub(crate) fn of_expand(alloc: Global, place: &Place, e: ExpandNo) -> JobStop
     ensures { is_free result ≡ false → result ≡ stops.of_expand place.now e }
 {
     match e {
-        ExpandNo::NoMemory => Stop::NoMemory,
+        ExpandNo::NoMemory => JobStop::NoMemory,
         ExpandNo::Spent => spent(alloc, place),
         ExpandNo::Refused(name) => refused(alloc, place, Construct::MakeName(name)),
         e => halted(alloc, place, &e),
@@ -120,11 +120,11 @@ pub(crate) fn of_expand(alloc: Global, place: &Place, e: ExpandNo) -> Stop
 
 /// Why the line of this place has no status: its fuel was spent, or a construct in it isn't
 /// supported. `NoMemory` may come freely; else the place is copied.
-pub fn of_line(alloc: Global, place: &Place, e: ExecNo) -> Stop
+pub fn of_line(alloc: Global, place: &Place, e: ExecNo) -> JobStop
     ensures { is_free result ≡ false → result ≡ stops.of_line place.now e }
 {
     match e {
-        ExecNo::NoMemory => Stop::NoMemory,
+        ExecNo::NoMemory => JobStop::NoMemory,
         ExecNo::Spent => spent(alloc, place),
         ExecNo::Refused(construct) => refused(alloc, place, construct),
     }
@@ -133,26 +133,26 @@ pub fn of_line(alloc: Global, place: &Place, e: ExecNo) -> Stop
 /// Appends to `out` the line that says why the job of this target stopped; nothing for `NoMemory`.
 /// Its error is want of memory, and may come freely; a part of the line may then stand in `out`. A
 /// step for each byte of the line.
-pub fn put_stop(out: &mut Text, target: &[u8], stop: &Stop) -> Result<(), NoMemory>
+pub fn put_stop(out: &mut Text, target: &[u8], stop: &JobStop) -> Result<(), NoMemory>
     ensures { OnOk result (out.new ≡ out.old ++ stops.stop_text target.now stop.now) }
 {
     match stop {
-        Stop::Early => put_spent_early(out, target),
-        Stop::Spent(place) => put_spent(out, place, target),
-        Stop::Refused(construct, place) => put_refused(out, place, target, construct),
-        Stop::Halted(text, place) => put_halted(out, place, text.bytes()),
-        Stop::NoMemory => Ok(()),
+        JobStop::Early => put_spent_early(out, target),
+        JobStop::Spent(place) => put_spent(out, place, target),
+        JobStop::Refused(construct, place) => put_refused(out, place, target, construct),
+        JobStop::Halted(text, place) => put_halted(out, place, text.bytes()),
+        JobStop::NoMemory => Ok(()),
     }
 }
 
 /// How a job ends that stopped so. It takes no memory, and one step; nothing is copied. Want of
 /// memory, which is no end of a job, is read as spent fuel.
-pub fn end_of(stop: Stop) -> Outcome
+pub fn end_of(stop: JobStop) -> Outcome
     ensures { result ≡ stops.end_of stop }
 {
     match stop {
-        Stop::Refused(construct, place) => Outcome::Refused { construct, place },
-        Stop::Halted(text, place) => Outcome::Halted { text, place },
-        Stop::Early | Stop::Spent(_) | Stop::NoMemory => Outcome::Spent,
+        JobStop::Refused(construct, place) => Outcome::Refused { construct, place },
+        JobStop::Halted(text, place) => Outcome::Halted { text, place },
+        JobStop::Early | JobStop::Spent(_) | JobStop::NoMemory => Outcome::Spent,
     }
 }

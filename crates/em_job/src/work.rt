@@ -7,7 +7,7 @@ use crate::carry::carry_out;
 use crate::prepare::prepare_job;
 use crate::ready::read;
 use crate::spec::JobSpec;
-use crate::stop::{Stop, end_of, put_stop};
+use crate::stop::{JobStop, end_of, put_stop};
 use em_base::{Fuel, NoMemory, Text};
 use em_expand::Spoken;
 use em_run::{Run, Spec, Work};
@@ -29,7 +29,7 @@ impl JobWork {
 /// What a job said, and how it ended.
 fn close(
     target: &[u8],
-    ended: Result<Outcome, Stop>,
+    ended: Result<Outcome, JobStop>,
     spoken: Spoken,
 ) -> Result<(Text, Outcome), NoMemory>
     ensures { IfOk result (λ p. closed target.now (with_state ended spoken) ≡ Ok (p.1, p.0)) }
@@ -37,7 +37,7 @@ fn close(
     let mut output = spoken.said;
     match ended {
         Ok(outcome) => Ok((output, outcome)),
-        Err(Stop::NoMemory) => Err(NoMemory),
+        Err(JobStop::NoMemory) => Err(NoMemory),
         Err(stop) => {
             put_stop(&mut output, target, &stop)?;
             Ok((output, end_of(stop)))

@@ -13,9 +13,9 @@ use Rattle.em_utility.specs.declared.reason.Reason.TheVariants as reason
 use Rattle.em_utility.specs.Reasons.{status_for}
 use Rattle.em_utility.specs.Writing.{nothing, written}
 use Rattle.em_textutil.specs.declared.job.Grep.{Grep}
-use Rattle.em_textutil.specs.declared.source.Found.{Found}
-use Rattle.em_textutil.specs.declared.source.Found.TheVariants.{Bytes, No}
-use Rattle.em_textutil.specs.declared.source.Source.{Source}
+use Rattle.em_textutil.specs.declared.source.OperandContent.{OperandContent}
+use Rattle.em_textutil.specs.declared.source.OperandContent.TheVariants.{Bytes, No}
+use Rattle.em_textutil.specs.declared.source.ReadOperand.{ReadOperand}
 use Rattle.em_textutil.specs.Jobs.{front_of, count_behind, shown_lines, grep_found, grep_each, has_line, some_line, grep_status, grep_done}
 use Rattle.em_laws.specs.Rows.{read_as, on_output}
 
@@ -39,11 +39,11 @@ module _ (g : Grep) where
   each_status [] d = refl
   each_status (f ∷ fs) d = each_status fs (grep_found g f.0 (Bytes f.1) d) ∙ written_status (shown_lines g f.0 (selected g.search g.pattern f.1)) d
 
-  found_rises : (name : List ℕ) (x : Found) (d : Done) → d.status ≤ (grep_found g name x d).status
+  found_rises : (name : List ℕ) (x : OperandContent) (d : Done) → d.status ≤ (grep_found g name x d).status
   found_rises name (Bytes text) d = let e = written_status (shown_lines g name (selected g.search g.pattern text)) d in omega arith
   found_rises name (No r) d = omega arith
 
-  each_rises : (ss : List Source) (d : Done) → d.status ≤ (grep_each g ss d).status
+  each_rises : (ss : List ReadOperand) (d : Done) → d.status ≤ (grep_each g ss d).status
   each_rises [] d = omega arith
   each_rises (s ∷ ss) d = let a = found_rises s.name s.found d in let b = each_rises ss (grep_found g s.name s.found d) in omega arith
 
@@ -70,14 +70,14 @@ module _ (g : Grep) where
   pub grep_without : (files : List FileText) → All (λ f. selected g.search g.pattern f.1 ≡ []) files → (grep_done g (map read_as files)).status ≡ 1
   grep_without files h = ap (grep_status (some_line g (map read_as files))) (each_status files nothing) ∙ ap (λ b. grep_status b 0) (no_line files (recursion_from_All _ files h))
 
-  fault_status : (before after : List Source) (name : List ℕ) (r : Reason) (d : Done) → 1 ≤ (grep_each g (before ++ (record { name = name; found = No r }) ∷ after) d).status
+  fault_status : (before after : List ReadOperand) (name : List ℕ) (r : Reason) (d : Done) → 1 ≤ (grep_each g (before ++ (record { name = name; found = No r }) ∷ after) d).status
   fault_status [] after name r d =
       let one = reason_status r in
       let more = each_rises after (grep_found g name (No r) d) in
       omega arith
   fault_status (s ∷ ss) after name r d = fault_status ss after name r (grep_found g s.name s.found d)
 
-  pub grep_fault : (before after : List Source) (name : List ℕ) (r : Reason) → (grep_done g (before ++ (record { name = name; found = No r }) ∷ after)).status ≡ 2
+  pub grep_fault : (before after : List ReadOperand) (name : List ℕ) (r : Reason) → (grep_done g (before ++ (record { name = name; found = No r }) ∷ after)).status ≡ 2
   grep_fault before after name r =
       let ss = before ++ (record { name = name; found = No r }) ∷ after in
       let some = fault_status before after name r nothing in

@@ -4,8 +4,8 @@ use Rattle.std.specs.List.{flat_map}
 use Rattle.em_lineutil.specs.declared.search.Search.{Search}
 use Rattle.em_lineutil.specs.declared.sort.Order.{Order}
 use Rattle.em_view.specs.declared.done.Piece.{Piece}
-use Rattle.em_textutil.specs.declared.source.Source.{Source}
-use Rattle.em_textutil.specs.declared.source.Found.TheVariants.{Bytes}
+use Rattle.em_textutil.specs.declared.source.ReadOperand.{ReadOperand}
+use Rattle.em_textutil.specs.declared.source.OperandContent.TheVariants.{Bytes}
 use Rattle.em_laws.specs.References.{HasNo}
 
 abbrev pub ended : List ℕ → List ℕ
@@ -47,7 +47,7 @@ IsWanted s p row = Turned s.inverted (Fits s.whole p row)
 
 -- ---- files that were read, each with its name
 
-abbrev pub read_as : List ℕ × List ℕ → Source
+abbrev pub read_as : List ℕ × List ℕ → ReadOperand
 read_as file = record { name = file.0; found = Bytes file.1 }
 
 -- what is written at once to the output

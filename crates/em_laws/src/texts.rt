@@ -37,8 +37,8 @@ ghost use Rattle.em_lineutil.specs.Sorting.{sort_text};
 ghost use Rattle.em_lineutil.specs.Runs.{uniq_text, in_seven};
 ghost use Rattle.em_lineutil.specs.Searching.{selected, comparison};
 ghost use Rattle.em_textutil.specs.declared.job.Grep.{Grep};
-ghost use Rattle.em_textutil.specs.declared.source.Source.{Source};
-ghost use Rattle.em_textutil.specs.declared.source.Found.TheVariants.{No};
+ghost use Rattle.em_textutil.specs.declared.source.ReadOperand.{ReadOperand};
+ghost use Rattle.em_textutil.specs.declared.source.OperandContent.TheVariants.{No};
 ghost use Rattle.em_textutil.specs.Jobs.{grep_done};
 ghost use Rattle.em_laws.specs.References.{HasNo, how_many};
 ghost use Rattle.em_laws.specs.Expansions.{IsSpace};
@@ -150,7 +150,7 @@ pub fn law_grep_end()
     ensures none { (g : Grep) (files : List (List ℕ × List ℕ))
         → All (λ f. selected g.search g.pattern f.1 ≡ []) files
         → (grep_done g (map read_as files)).status ≡ 1 }
-    ensures fault { (g : Grep) (before after : List Source) (name : List ℕ) (r : _)
+    ensures fault { (g : Grep) (before after : List ReadOperand) (name : List ℕ) (r : _)
         → (grep_done g (before ++ (record { name = name; found = No r }) ∷ after)).status ≡ 2 }
     ensures quiet { (g : Grep) (files : List (List ℕ × List ℕ)) → g.quiet ≡ true
         → (grep_done g (map read_as files)).pieces ≡ [] }

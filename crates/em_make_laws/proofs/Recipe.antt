@@ -17,7 +17,7 @@ use Rattle.em_vars.specs.Entries.{Entries, value_of}
 use Rattle.em_expand.specs.Layered.{automatic}
 use Rattle.em_plan.specs.declared.planned.Pre.{Pre}
 use Rattle.em_plan.specs.declared.planned.PlanJob.{PlanJob}
-use Rattle.em_recipe.specs.declared.command.Command.{Command}
+use Rattle.em_recipe.specs.declared.command.RecipeCommand.{RecipeCommand}
 use Rattle.em_recipe.specs.declared.mark.Marks.{Marks}
 use Rattle.em_recipe.specs.Marks.{is_mark, has, marks, bare, either}
 use Rattle.em_recipe.specs.Commands.{lines_from, split, command, kept, commands_of}
@@ -319,7 +319,7 @@ lines_parted line q (c ∷ cs) b h = by_cases ((c == 10) && not q)
         (λ _ is _. ap (λ (n : ℕ). n == 92) (eqb-true c 10 is))
         (λ _ _ bad. absurd cc) refl ends
 
-abbrev filled : Command → Bool
+abbrev filled : RecipeCommand → Bool
 filled c = nat_lt 0 (length c.text)
 
 kept_append : (front : Marks) (xs ys : List (List ℕ)) → kept front (xs ++ ys) ≡ kept front xs ++ kept front ys
@@ -385,4 +385,4 @@ commands_plain written text h plain some =
     let front = marked_plain text plain in
     ap (kept (marks written)) (one_line [] false text (no_newline text h)) ∙ one_kept (marks written) text text front.1
     ∙ ap (λ t. cond t ((record { text = text; marks = either (marks written) (marks text) }) ∷ []) []) (filled_text text some)
-    ∙ ap (λ (m : Marks). (let c : Command = record { text = text; marks = m } in c ∷ [])) (ap (either (marks written)) front.0 ∙ either_none (marks written))
+    ∙ ap (λ (m : Marks). (let c : RecipeCommand = record { text = text; marks = m } in c ∷ [])) (ap (either (marks written)) front.0 ∙ either_none (marks written))

@@ -6,11 +6,11 @@ use Rattle.std.specs.Prelude.{ℕ, List, [], ◌++◌, length, map, nat_lt, slic
 use Rattle.std.specs.List.{filter}
 use Rattle.std.specs.Str.{bytes_eq}
 use Rattle.em_wordlist.specs.Words.{words_of, joined}
-use Rattle.em_namefn.specs.declared.function.Function.{Function}
-use Rattle.em_namefn.specs.declared.function.Function.TheVariants.{Dir, NotDir, Suffix, BaseName, AddSuffix, AddPrefix, Join}
+use Rattle.em_namefn.specs.declared.function.NameFunction.{NameFunction}
+use Rattle.em_namefn.specs.declared.function.NameFunction.TheVariants.{Dir, NotDir, Suffix, BaseName, AddSuffix, AddPrefix, Join}
 use Rattle.em_namefn.specs.Names.{dir_of, file_of, suffix_of, base_of, pairs}
 
-abbrev pub function_of : List ℕ → Option Function
+abbrev pub function_of : List ℕ → Option NameFunction
 function_of name =
     if bytes_eq name (codes "dir") then Some Dir
     else if bytes_eq name (codes "notdir") then Some NotDir
@@ -24,7 +24,7 @@ function_of name =
 abbrev pub argument : ℕ → List (List ℕ) → List ℕ
 argument n args = unwrap_or (slice_get args n) []
 
-abbrev pub of_words : Function → List ℕ → List ℕ → List (List ℕ)
+abbrev pub of_words : NameFunction → List ℕ → List ℕ → List (List ℕ)
 of_words Dir x y = map dir_of (words_of x)
 of_words NotDir x y = map file_of (words_of x)
 -- words without a suffix give nothing
@@ -34,7 +34,7 @@ of_words AddSuffix s x = map (λ w. w ++ s) (words_of x)
 of_words AddPrefix p x = map (λ w. p ++ w) (words_of x)
 of_words Join x y = pairs (words_of x) (words_of y)
 
-abbrev pub value_of : Function → List (List ℕ) → List ℕ
+abbrev pub value_of : NameFunction → List (List ℕ) → List ℕ
 value_of f args = joined (of_words f (argument 0 args) (argument 1 args))
 
 abbrev pub name_function : List ℕ → List (List ℕ) → Option (List ℕ)

@@ -4,8 +4,8 @@
 --     pairs xs ys                the words of two lists, joined one by one; those that are left stay as they are
 use Rattle.std.specs.Prelude.{ℕ, ◌-◌, ◌==◌, Bool, List, [], ◌∷◌, ◌++◌, length, take, codes, if◌then◌else◌}
 use Rattle.std.specs.List.{after_last}
-use Rattle.em_namefn.specs.declared.name.Part.{Part}
-use Rattle.em_namefn.specs.declared.name.Part.TheVariants.{Dir, File, Suffix, Base}
+use Rattle.em_namefn.specs.declared.name.NamePart.{NamePart}
+use Rattle.em_namefn.specs.declared.name.NamePart.TheVariants.{Dir, File, Suffix, Base}
 
 abbrev pub is_slash : ℕ → Bool
 is_slash b = b == 47
@@ -30,7 +30,7 @@ suffix_of w = suffix_in (file_of w)
 abbrev pub base_of : List ℕ → List ℕ
 base_of w = take (length w - length (suffix_of w)) w
 
-abbrev pub part_of : Part → List ℕ → List ℕ
+abbrev pub part_of : NamePart → List ℕ → List ℕ
 part_of Dir w = dir_of w
 part_of File w = file_of w
 part_of Suffix w = suffix_of w

@@ -4,13 +4,13 @@ ghost use Rattle.em_namefn.specs.Functions as functions;
 ghost use Rattle.em_namefn.specs.Functions.{value_of, argument};
 
 use crate::list;
-use crate::name::Part;
+use crate::name::NamePart;
 use em_base::{NoMemory, Text};
 use std::alloc::Global;
 
 /// A function on file names.
 #[derive(Clone, Copy)]
-enum Function {
+enum NameFunction {
     Dir,
     NotDir,
     Suffix,
@@ -21,17 +21,17 @@ enum Function {
 }
 
 /// The function of this name, where it is one of these.
-fn function_of(name: &[u8]) -> Option<Function>
+fn function_of(name: &[u8]) -> Option<NameFunction>
     ensures { result ≡ functions.function_of name.now }
 {
     match name {
-        b"dir" => Some(Function::Dir),
-        b"notdir" => Some(Function::NotDir),
-        b"suffix" => Some(Function::Suffix),
-        b"basename" => Some(Function::BaseName),
-        b"addsuffix" => Some(Function::AddSuffix),
-        b"addprefix" => Some(Function::AddPrefix),
-        b"join" => Some(Function::Join),
+        b"dir" => Some(NameFunction::Dir),
+        b"notdir" => Some(NameFunction::NotDir),
+        b"suffix" => Some(NameFunction::Suffix),
+        b"basename" => Some(NameFunction::BaseName),
+        b"addsuffix" => Some(NameFunction::AddSuffix),
+        b"addprefix" => Some(NameFunction::AddPrefix),
+        b"join" => Some(NameFunction::Join),
         _ => None,
     }
 }
@@ -46,18 +46,18 @@ fn argument(n: usize, args: &[Text]) -> &[u8]
     }
 }
 
-fn value(alloc: Global, function: Function, args: &[Text]) -> Result<Text, NoMemory>
+fn value(alloc: Global, function: NameFunction, args: &[Text]) -> Result<Text, NoMemory>
     ensures { IfOk result (λ t. t ≡ value_of function args.now) }
 {
     let (first, second) = (argument(0, args), argument(1, args));
     match function {
-        Function::Dir => list::part(alloc, Part::Dir, first),
-        Function::NotDir => list::part(alloc, Part::File, first),
-        Function::Suffix => list::suffix(alloc, first),
-        Function::BaseName => list::part(alloc, Part::Base, first),
-        Function::AddSuffix => list::add_suffix(alloc, first, second),
-        Function::AddPrefix => list::add_prefix(alloc, first, second),
-        Function::Join => list::join_pairs(alloc, first, second),
+        NameFunction::Dir => list::part(alloc, NamePart::Dir, first),
+        NameFunction::NotDir => list::part(alloc, NamePart::File, first),
+        NameFunction::Suffix => list::suffix(alloc, first),
+        NameFunction::BaseName => list::part(alloc, NamePart::Base, first),
+        NameFunction::AddSuffix => list::add_suffix(alloc, first, second),
+        NameFunction::AddPrefix => list::add_prefix(alloc, first, second),
+        NameFunction::Join => list::join_pairs(alloc, first, second),
     }
 }
 

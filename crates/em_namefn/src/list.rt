@@ -5,13 +5,13 @@ ghost use Rattle.em_wordlist.specs.Words.{words_of, joined};
 ghost use Rattle.em_namefn.specs.Names as names;
 ghost use Rattle.em_namefn.specs.Names.{part_of};
 
-use crate::name::Part;
+use crate::name::NamePart;
 use em_base::{NoMemory, Text};
 use em_wordlist::{join, join_texts, texts};
 use std::alloc::Global;
 
 /// A part of each word.
-fn parts<'a>(alloc: Global, part: Part, x: &'a [u8]) -> Result<Vec<&'a [u8]>, NoMemory>
+fn parts<'a>(alloc: Global, part: NamePart, x: &'a [u8]) -> Result<Vec<&'a [u8]>, NoMemory>
     ensures { IfOk result (λ v. map (λ w. w.now) v.items ≡ map (part_of part) (words_of x.now)) }
 {
     let mut parts = Vec::new(alloc);
@@ -22,7 +22,7 @@ fn parts<'a>(alloc: Global, part: Part, x: &'a [u8]) -> Result<Vec<&'a [u8]>, No
 }
 
 /// `dir x`, `notdir x` and `basename x`: a part of each word.
-pub(crate) fn part(alloc: Global, part: Part, x: &[u8]) -> Result<Text, NoMemory>
+pub(crate) fn part(alloc: Global, part: NamePart, x: &[u8]) -> Result<Text, NoMemory>
     ensures { IfOk result (λ t. t ≡ joined (map (part_of part) (words_of x.now))) }
 {
     join(alloc, &parts(alloc, part, x)?)
@@ -34,7 +34,7 @@ pub(crate) fn suffix(alloc: Global, x: &[u8]) -> Result<Text, NoMemory>
         (λ t. t ≡ joined (filter
         (λ s. nat_lt 0 (length s)) (map names.suffix_of (words_of x.now)))) }
 {
-    let mut suffixes = parts(alloc, Part::Suffix, x)?;
+    let mut suffixes = parts(alloc, NamePart::Suffix, x)?;
     suffixes.retain(|s| !s.is_empty());
     join(alloc, &suffixes)
 }

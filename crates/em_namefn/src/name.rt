@@ -5,7 +5,7 @@ ghost use Rattle.em_namefn.specs.Names as names;
 
 /// A part of a file's name.
 #[derive(Clone, Copy)]
-pub(crate) enum Part {
+pub(crate) enum NamePart {
     /// What stands up to the last `/`, or `./`.
     Dir,
     /// What stands behind the last `/`, or the whole name.
@@ -16,7 +16,7 @@ pub(crate) enum Part {
     Base,
 }
 
-impl Part {
+impl NamePart {
     ghost use Rattle.em_namefn.specs.Names.{part_of};
 
     /// This part of a word.
@@ -24,10 +24,10 @@ impl Part {
         ensures { result.now ≡ part_of self word.now }
     {
         match self {
-            Part::Dir => dir_of(word),
-            Part::File => file_of(word),
-            Part::Suffix => suffix_of(word),
-            Part::Base => base_of(word),
+            NamePart::Dir => dir_of(word),
+            NamePart::File => file_of(word),
+            NamePart::Suffix => suffix_of(word),
+            NamePart::Base => base_of(word),
         }
     }
 }

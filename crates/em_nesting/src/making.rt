@@ -21,9 +21,9 @@ use std::alloc::Global;
 
 /// Makes the jobs of makefiles.
 #[derive(Drop)]
-pub(crate) struct Making;
+pub(crate) struct JobMaker;
 
-impl Maker<Turns> for Making {
+impl Maker<Turns> for JobMaker {
     ghost job_of = { λ m. making_of };
 
     fn job(

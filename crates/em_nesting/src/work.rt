@@ -1,6 +1,6 @@
 //! Who runs jobs with makes within them.
 
-use crate::making::Making;
+use crate::making::JobMaker;
 use crate::spec::MakeSpec;
 use crate::turns::Turns;
 use em_base::{Fuel, NoMemory, Text};
@@ -33,7 +33,7 @@ impl Work<MakeSpec> for MakeWork {
         let mut desk = Desk::new(alloc, view, job.base, job.job, Fuel::new(job.fuel));
         let mut output = Text::new(alloc);
         let steps = JobSteps::begin(alloc, spec.job(), None, 0)?;
-        let outcome = make(alloc, Turns { steps }, &Making, &mut desk, &mut output)?;
+        let outcome = make(alloc, Turns { steps }, &JobMaker, &mut desk, &mut output)?;
         let (usage, delta, used) = desk.close();
         Ok(Run::new(spec, usage, delta, output, outcome, used))
     }

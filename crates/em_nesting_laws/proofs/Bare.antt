@@ -13,7 +13,7 @@ use Rattle.em_task.specs.declared.job.Job.{Job}
 use Rattle.em_job.specs.declared.prepare.Placed.{Placed}
 use Rattle.em_job.specs.declared.prepare.Prepared.{Prepared}
 use Rattle.em_job.specs.declared.prepare.Prepared.TheVariants.{Ended}
-use Rattle.em_job.specs.declared.stop.Stop.{Stop}
+use Rattle.em_job.specs.declared.stop.JobStop.{JobStop}
 use Rattle.em_job.specs.Stops.{Acts}
 use Rattle.em_job.specs.Deciding.{is_one_absent, is_due, unruled, by_recipe}
 use Rattle.em_job.specs.Preparing.{by_decision, decide, if_fine, prepare_with, prepare}
@@ -25,7 +25,7 @@ record HasNoLines (m : Acts Prepared) : Type 0 where
   by : (s : Spoken) (o : Oracle) (w : Workspace) → lines_in (result_of (m s o w).0) ≡ []
 
 module _ {A : Type 0} where
-  no_more : (k : A → Acts Prepared) → ((a : A) → HasNoLines (k a)) → (r : Result (A × Spoken) (Stop × Spoken)) (v : Workspace) (o : Oracle) → lines_in (result_of (go_on r v (λ p. k p.0 p.1) o).0) ≡ []
+  no_more : (k : A → Acts Prepared) → ((a : A) → HasNoLines (k a)) → (r : Result (A × Spoken) (JobStop × Spoken)) (v : Workspace) (o : Oracle) → lines_in (result_of (go_on r v (λ p. k p.0 p.1) o).0) ≡ []
   no_more k h (Ok p) v o = (h p.0).by p.1 o v
   no_more k h (Err p) v o = refl
 

@@ -18,9 +18,9 @@ use Rattle.em_task.specs.declared.job.Job.{Job}
 use Rattle.em_job.specs.declared.prepare.Placed.{Placed}
 use Rattle.em_job.specs.declared.prepare.Prepared.{Prepared}
 use Rattle.em_job.specs.declared.prepare.Prepared.TheVariants as prepared
-use Rattle.em_job.specs.declared.ready.Ready.{Ready}
-use Rattle.em_job.specs.declared.stop.Stop.{Stop}
-use Rattle.em_job.specs.declared.stop.Stop.TheVariants as stop
+use Rattle.em_job.specs.declared.ready.ParsedLine.{ParsedLine}
+use Rattle.em_job.specs.declared.stop.JobStop.{JobStop}
+use Rattle.em_job.specs.declared.stop.JobStop.TheVariants as stop
 use Rattle.em_job.specs.Preparing.{prepare}
 use Rattle.em_job.specs.Carrying.{AreRead, lines_in, course_of, carry_out, lines_from}
 use Rattle.em_job.specs.Effects.{silence, steps, closed, job, begin, result_of, lines_on, no_end, Makes}
@@ -32,9 +32,9 @@ use Rattle.em_nesting_laws.specs.Plain.{BeginsNoMake, IsPlain}
 use Rattle.em_nesting_laws.proofs.Laps.{ArePlain, plain_lines}
 
 abbrev Finish : Type 0
-Finish = Result (Outcome × Spoken) (Stop × Spoken)
+Finish = Result (Outcome × Spoken) (JobStop × Spoken)
 
-plain_read : (ps : List Placed) (rs : List Ready) → AllByRecursion (λ (p : Placed). BeginsNoMake p.command.text) ps → AreRead ps rs → ArePlain rs
+plain_read : (ps : List Placed) (rs : List ParsedLine) → AllByRecursion (λ (p : Placed). BeginsNoMake p.command.text) ps → AreRead ps rs → ArePlain rs
 plain_read [] [] h all = tt
 plain_read [] (r ∷ rs) h all = absurd all
 plain_read (p ∷ ps) [] h all = absurd all
@@ -63,7 +63,7 @@ module _ (j : Job) (depth : ℕ) (deeper : SubLine → Ways Back) (o : Oracle) (
     abbrev Spun : List (Placed × Meaning) → Type 0
     Spun ms = spun deeper (k ms s o w) o z
 
-    read_in : (ps : List Placed) (rs : List Ready) (so_far : List (Placed × Meaning)) → AreRead ps rs → Spun (so_far ++ map meant rs) → spun deeper (read_plot j depth ps so_far k s o w) o z
+    read_in : (ps : List Placed) (rs : List ParsedLine) (so_far : List (Placed × Meaning)) → AreRead ps rs → Spun (so_far ++ map meant rs) → spun deeper (read_plot j depth ps so_far k s o w) o z
     read_in [] [] so_far all g = subst Spun (append-nil so_far) g
     read_in [] (r ∷ rs) so_far all g = absurd all
     read_in (p ∷ ps) [] so_far all g = absurd all
@@ -72,11 +72,11 @@ module _ (j : Job) (depth : ℕ) (deeper : SubLine → Ways Back) (o : Oracle) (
         ap (λ (y : Placed). so_far ++ (y, meaning_of r.line) ∷ map meant rs) all.0 ∙ sym (append_assoc so_far ((p, meaning_of r.line) ∷ []) (map meant rs)) in
         (meaning_of r.line, (record { line = r.line; read = all.1.0; is = refl }, read_in ps rs (so_far ++ (p, meaning_of r.line) ∷ []) all.1.1 (subst Spun same g)))
 
-    read_out : (ps : List Placed) (so_far : List (Placed × Meaning)) → spun deeper (read_plot j depth ps so_far k s o w) o z → (rs : List Ready) × (AreRead ps rs × Spun (so_far ++ map meant rs))
+    read_out : (ps : List Placed) (so_far : List (Placed × Meaning)) → spun deeper (read_plot j depth ps so_far k s o w) o z → (rs : List ParsedLine) × (AreRead ps rs × Spun (so_far ++ map meant rs))
     read_out [] so_far g = ([], (tt, subst Spun (sym (append-nil so_far)) g))
     read_out (p ∷ ps) so_far g =
         let rest = read_out ps (so_far ++ (p, g.0) ∷ []) g.1.1 in
-        let r : Ready = record { placed = p; line = g.1.0.line } in
+        let r : ParsedLine = record { placed = p; line = g.1.0.line } in
         let same : (so_far ++ (p, g.0) ∷ []) ++ map meant rest.0 ≡ so_far ++ meant r ∷ map meant rest.0 =
         append_assoc so_far ((p, g.0) ∷ []) (map meant rest.0) ∙ ap (λ (m : Meaning). so_far ++ (p, m) ∷ map meant rest.0) g.1.0.is in
         (r ∷ rest.0, ((refl, (g.1.0.read, rest.1.0)), subst Spun same rest.1.1))
@@ -84,15 +84,15 @@ module _ (j : Job) (depth : ℕ) (deeper : SubLine → Ways Back) (o : Oracle) (
   -- ---- the whole
 
   abbrev Begun : Type 0
-  Begun = Result (Prepared × Spoken) (Stop × Spoken)
+  Begun = Result (Prepared × Spoken) (JobStop × Spoken)
 
   abbrev Plain : Begun → Type 0
   Plain r = AllByRecursion (λ (p : Placed). BeginsNoMake p.command.text) (lines_in (result_of r))
 
-  abbrev Carried : List Ready → Begun → Workspace → Type 0
+  abbrev Carried : List ParsedLine → Begun → Workspace → Type 0
   Carried ready r v = Comes_to (go_on r v (λ p. carry_out j (course_of ready p.0) p.1) o).0 (go_on r v (λ p. carry_out j (course_of ready p.0) p.1) o).1
 
-  pub carried_in : (ready : List Ready) (r : Begun) (v : Workspace) → Plain r → AreRead (lines_in (result_of r)) ready → Carried ready r v → spun deeper (go (close j) (by_prepared j depth) o r v) o z
+  pub carried_in : (ready : List ParsedLine) (r : Begun) (v : Workspace) → Plain r → AreRead (lines_in (result_of r)) ready → Carried ready r v → spun deeper (go (close j) (by_prepared j depth) o r v) o z
   unfolding done
   carried_in ready (Ok (prepared.Ended a, s)) v plain read e = e
   carried_in ready (Ok (prepared.Lines x ps, s)) v plain read e =
@@ -101,7 +101,7 @@ module _ (j : Job) (depth : ℕ) (deeper : SubLine → Ways Back) (o : Oracle) (
       (told (lines_from j x None ready s o v).0 (lines_from j x None ready s o v).1 e))
   carried_in ready (Err p) v plain read e = e
 
-  pub carried_out : (r : Begun) (v : Workspace) → Plain r → spun deeper (go (close j) (by_prepared j depth) o r v) o z → (ready : List Ready) × (AreRead (lines_in (result_of r)) ready × Carried ready r v)
+  pub carried_out : (r : Begun) (v : Workspace) → Plain r → spun deeper (go (close j) (by_prepared j depth) o r v) o z → (ready : List ParsedLine) × (AreRead (lines_in (result_of r)) ready × Carried ready r v)
   unfolding done
   carried_out (Ok (prepared.Ended a, s)) v plain g = ([], (tt, g))
   carried_out (Ok (prepared.Lines x ps, s)) v plain g =
@@ -126,17 +126,17 @@ same_effect j (Err (stop.Halted x p, t)) w = refl
 same_effect j (Err (stop.NoMemory, t)) w = ap (λ (out : List ℕ). let e : Effect = record { changes = w.changes; output = out; outcome = outcome.Spent } in e) (sym (append-nil t.said))
 
 module _ (j : Job) (s : State) (e : Effect) (n : ℕ) (plain : IsPlain j s) where
-  abbrev prepared_so : Result (Prepared × Spoken) (Stop × Spoken) × Workspace
+  abbrev prepared_so : Result (Prepared × Spoken) (JobStop × Spoken) × Workspace
   prepared_so = prepare j silence (snapshot s) (begin j)
 
   all_plain : AllByRecursion (λ (p : Placed). BeginsNoMake p.command.text) (lines_in (result_of prepared_so.0))
   unfolding lines_on
   all_plain = recursion_from_All (λ (p : Placed). BeginsNoMake p.command.text) (lines_in (result_of prepared_so.0)) plain
 
-  abbrev did : List Ready → Finish × Workspace
+  abbrev did : List ParsedLine → Finish × Workspace
   did ready = steps j ready silence (snapshot s) (begin j)
 
-  abbrev end_so : List Ready → Ended Outcome
+  abbrev end_so : List ParsedLine → Ended Outcome
   end_so ready = (Ok (ending j (did ready).0), (did ready).1)
 
   pub with_makes : Makes j s e n → MakesAll j s e n

@@ -3,7 +3,7 @@ use std::alloc::Global;
 use std::test::Fail;
 
 #[derive(Clone, Copy)]
-enum Line {
+enum CondLine {
     If(bool),
     ElseIf(bool),
     Else,
@@ -11,18 +11,18 @@ enum Line {
 }
 
 /// The next line on a nest.
-fn step(nest: &mut Nest, line: Line) -> Result<(), CondNo> {
+fn step(nest: &mut Nest, line: CondLine) -> Result<(), CondNo> {
     match line {
-        Line::If(holds) => nest.enter(holds),
-        Line::ElseIf(holds) => nest.other(Some(holds)),
-        Line::Else => nest.other(None),
-        Line::EndIf => nest.leave(),
+        CondLine::If(holds) => nest.enter(holds),
+        CondLine::ElseIf(holds) => nest.other(Some(holds)),
+        CondLine::Else => nest.other(None),
+        CondLine::EndIf => nest.leave(),
     }
 }
 
 /// The lines one after another on a new nest: the place of the first that doesn't fit, and whether
 /// lines are read behind them.
-fn read(alloc: Global, lines: &[Line]) -> (Option<usize>, bool) {
+fn read(alloc: Global, lines: &[CondLine]) -> (Option<usize>, bool) {
     let mut nest = Nest::new(alloc);
     for (at, line) in lines.iter().enumerate() {
         if step(&mut nest, *line).is_err() {
@@ -33,7 +33,7 @@ fn read(alloc: Global, lines: &[Line]) -> (Option<usize>, bool) {
 }
 
 /// Whether the condition of a further branch matters behind the lines.
-fn turns(alloc: Global, lines: &[Line]) -> bool {
+fn turns(alloc: Global, lines: &[CondLine]) -> bool {
     let mut nest = Nest::new(alloc);
     for line in lines {
         let _ = step(&mut nest, *line);
@@ -45,38 +45,43 @@ fn turns(alloc: Global, lines: &[Line]) -> bool {
 fn the_first_branch_that_holds_is_read(rt: HostRuntime) {
     for (lines, wanted) in [
         ([].as_slice(), (None, true)),
-        (&[Line::If(true)], (None, true)),
-        (&[Line::If(false)], (None, false)),
-        (&[Line::If(true), Line::Else], (None, false)),
-        (&[Line::If(false), Line::Else], (None, true)),
-        (&[Line::If(false), Line::ElseIf(true)], (None, true)),
-        (&[Line::If(true), Line::ElseIf(true)], (None, false)),
+        (&[CondLine::If(true)], (None, true)),
+        (&[CondLine::If(false)], (None, false)),
+        (&[CondLine::If(true), CondLine::Else], (None, false)),
+        (&[CondLine::If(false), CondLine::Else], (None, true)),
+        (&[CondLine::If(false), CondLine::ElseIf(true)], (None, true)),
+        (&[CondLine::If(true), CondLine::ElseIf(true)], (None, false)),
         (
-            &[Line::If(false), Line::ElseIf(true), Line::Else],
+            &[CondLine::If(false), CondLine::ElseIf(true), CondLine::Else],
             (None, false),
         ),
         (
-            &[Line::If(false), Line::ElseIf(false), Line::Else],
+            &[CondLine::If(false), CondLine::ElseIf(false), CondLine::Else],
             (None, true),
         ),
         (
             &[
-                Line::If(false),
-                Line::ElseIf(false),
-                Line::ElseIf(true),
-                Line::ElseIf(true),
+                CondLine::If(false),
+                CondLine::ElseIf(false),
+                CondLine::ElseIf(true),
+                CondLine::ElseIf(true),
             ],
             (None, false),
         ),
         // a branch within one that isn't read isn't read
-        (&[Line::If(false), Line::If(true)], (None, false)),
-        (&[Line::If(true), Line::If(true)], (None, true)),
+        (&[CondLine::If(false), CondLine::If(true)], (None, false)),
+        (&[CondLine::If(true), CondLine::If(true)], (None, true)),
         (
-            &[Line::If(true), Line::If(false), Line::EndIf],
+            &[CondLine::If(true), CondLine::If(false), CondLine::EndIf],
             (None, true),
         ),
         (
-            &[Line::If(false), Line::If(true), Line::EndIf, Line::Else],
+            &[
+                CondLine::If(false),
+                CondLine::If(true),
+                CondLine::EndIf,
+                CondLine::Else,
+            ],
             (None, true),
         ),
     ] {
@@ -87,19 +92,29 @@ fn the_first_branch_that_holds_is_read(rt: HostRuntime) {
 #[test]
 fn what_is_not_balanced_is_refused_and_changes_nothing(rt: HostRuntime) {
     for (lines, wanted) in [
-        ([Line::EndIf].as_slice(), (Some(0), true)),
-        (&[Line::Else], (Some(0), true)),
-        (&[Line::ElseIf(true)], (Some(0), true)),
-        (&[Line::If(false), Line::Else, Line::Else], (Some(2), true)),
+        ([CondLine::EndIf].as_slice(), (Some(0), true)),
+        (&[CondLine::Else], (Some(0), true)),
+        (&[CondLine::ElseIf(true)], (Some(0), true)),
         (
-            &[Line::If(false), Line::Else, Line::ElseIf(true)],
+            &[CondLine::If(false), CondLine::Else, CondLine::Else],
             (Some(2), true),
         ),
         (
-            &[Line::If(false), Line::ElseIf(false), Line::ElseIf(false)],
+            &[CondLine::If(false), CondLine::Else, CondLine::ElseIf(true)],
+            (Some(2), true),
+        ),
+        (
+            &[
+                CondLine::If(false),
+                CondLine::ElseIf(false),
+                CondLine::ElseIf(false),
+            ],
             (None, false),
         ),
-        (&[Line::If(true), Line::EndIf, Line::EndIf], (Some(2), true)),
+        (
+            &[CondLine::If(true), CondLine::EndIf, CondLine::EndIf],
+            (Some(2), true),
+        ),
     ] {
         assert!(rt; read(rt.alloc(), lines) == wanted);
     }
@@ -109,13 +124,13 @@ fn what_is_not_balanced_is_refused_and_changes_nothing(rt: HostRuntime) {
 fn a_condition_matters_where_no_branch_was_read(rt: HostRuntime) {
     for (lines, wanted) in [
         ([].as_slice(), false),
-        (&[Line::If(false)], true),
-        (&[Line::If(true)], false),
-        (&[Line::If(false), Line::ElseIf(false)], true),
-        (&[Line::If(false), Line::ElseIf(true)], false),
-        (&[Line::If(false), Line::Else], false),
-        (&[Line::If(true), Line::If(false)], true),
-        (&[Line::If(false), Line::If(false)], false),
+        (&[CondLine::If(false)], true),
+        (&[CondLine::If(true)], false),
+        (&[CondLine::If(false), CondLine::ElseIf(false)], true),
+        (&[CondLine::If(false), CondLine::ElseIf(true)], false),
+        (&[CondLine::If(false), CondLine::Else], false),
+        (&[CondLine::If(true), CondLine::If(false)], true),
+        (&[CondLine::If(false), CondLine::If(false)], false),
     ] {
         assert!(rt; turns(rt.alloc(), lines) == wanted);
     }

@@ -22,7 +22,7 @@ use Rattle.em_view.specs.Actions.{Action, ◌>>=◌, done}
 use Rattle.em_view.specs.Rows.{kind_at, names}
 use Rattle.em_glob.specs.declared.glyph.Glyph.{Glyph}
 use Rattle.em_glob.specs.Patterns.{pieces, fits, is_pattern, bytes_of}
-use Rattle.em_pathname.specs.declared.found.Found.{Found}
+use Rattle.em_pathname.specs.declared.found.PathMatch.{PathMatch}
 
 abbrev pub is_slash : Glyph → Bool
 is_slash g = g.byte == 47
@@ -36,7 +36,7 @@ begins_with b [] = false
 begins_with b (g ∷ gs) = g.byte == b
 
 -- the empty pattern has no name to give
-abbrev pub start : List ℕ → List Glyph → List Found
+abbrev pub start : List ℕ → List Glyph → List PathMatch
 start cwd [] = []
 start cwd (g ∷ gs) = (if is_slash g then record { name = 47 ∷ []; path = root_text } else record { name = []; path = cwd }) ∷ []
 
@@ -46,11 +46,11 @@ name_below [] c = c
 name_below (b ∷ bs) c = if bytes_eq (b ∷ bs) (47 ∷ []) then 47 ∷ c else (b ∷ bs) ++ 47 ∷ c
 
 -- a name with its path; none where it is no path
-abbrev pub found_by : Option PathNo → List ℕ → List ℕ → Option Found
+abbrev pub found_by : Option PathNo → List ℕ → List ℕ → Option PathMatch
 found_by None cwd name = Some (record { name = name; path = resolved_text cwd name })
 found_by (Some fault) cwd name = None
 
-abbrev pub found : List ℕ → List ℕ → Option Found
+abbrev pub found : List ℕ → List ℕ → Option PathMatch
 found cwd name = found_by (read_fault cwd name) cwd name
 
 -- a name that begins with a dot matches only a component that begins with one
@@ -61,42 +61,42 @@ is_hidden (b ∷ bs) = b == 46
 abbrev pub shows : List Glyph → List ℕ → Bool
 shows c name = (not (is_hidden name) || begins_with 46 c) && fits (pieces c) name
 
-abbrev pub those_that_match : List ℕ → Found → List Glyph → List (List ℕ) → List Found
+abbrev pub those_that_match : List ℕ → PathMatch → List Glyph → List (List ℕ) → List PathMatch
 those_that_match cwd dir c ns = filter_map (λ n. found cwd (name_below dir.name n)) (filter (shows c) ns)
 
-abbrev pub listed : List ℕ → Found → List Glyph → Option (List (List ℕ)) → List Found
+abbrev pub listed : List ℕ → PathMatch → List Glyph → Option (List (List ℕ)) → List PathMatch
 listed cwd dir c None = []
 listed cwd dir c (Some ns) = those_that_match cwd dir c ns
 
-unfoldable pub search : List ℕ → List Glyph → Found → Action DeskNo (List Found)
+unfoldable pub search : List ℕ → List Glyph → PathMatch → Action DeskNo (List PathMatch)
 search cwd c dir = do
   ns ← names dir.path
   done (listed cwd dir c ns)
 
-abbrev pub present : Kind → Found → List Found
+abbrev pub present : Kind → PathMatch → List PathMatch
 present kind.Absent f = []
 present _ f = f ∷ []
 
-abbrev pub look_up_by : Option Found → Action DeskNo (List Found)
+abbrev pub look_up_by : Option PathMatch → Action DeskNo (List PathMatch)
 look_up_by None = done []
 look_up_by (Some f) = do
   k ← kind_at f.path
   done (present k f)
 
-unfoldable pub look_up : List ℕ → List Glyph → Found → Action DeskNo (List Found)
+unfoldable pub look_up : List ℕ → List Glyph → PathMatch → Action DeskNo (List PathMatch)
 look_up cwd c dir = look_up_by (found cwd (name_below dir.name (bytes_of c)))
 
-abbrev pub in_dir : List ℕ → List Glyph → Found → Action DeskNo (List Found)
+abbrev pub in_dir : List ℕ → List Glyph → PathMatch → Action DeskNo (List PathMatch)
 in_dir cwd c dir = if is_pattern c then search cwd c dir else look_up cwd c dir
 
 -- one component, in each directory so far, in order
-abbrev pub in_each : List ℕ → List Glyph → List Found → List Found → Action DeskNo (List Found)
+abbrev pub in_each : List ℕ → List Glyph → List PathMatch → List PathMatch → Action DeskNo (List PathMatch)
 in_each cwd c so_far [] = done so_far
 in_each cwd c so_far (dir ∷ dirs) = do
   more ← in_dir cwd c dir
   in_each cwd c (so_far ++ more) dirs
 
-abbrev pub walk : List ℕ → List (List Glyph) → List Found → Action DeskNo (List Found)
+abbrev pub walk : List ℕ → List (List Glyph) → List PathMatch → Action DeskNo (List PathMatch)
 walk cwd [] dirs = done dirs
 walk cwd (c ∷ cs) dirs = do
   next ← in_each cwd c [] dirs

@@ -11,7 +11,7 @@ use std::alloc::Global;
 
 /// A name so far, as the pattern writes it, with the path that it is.
 #[derive(Debug, Drop)]
-pub(crate) struct Found {
+pub(crate) struct PathMatch {
     pub(crate) name: Text,
     pub(crate) path: Path,
 }
@@ -24,18 +24,18 @@ pub(crate) fn begins_with(byte: u8, glyphs: &[Glyph]) -> bool
 }
 
 /// The root, or the working directory, whose name is empty.
-fn first(alloc: Global, cwd: &Path, slash: bool) -> Result<Found, NoMemory>
+fn first(alloc: Global, cwd: &Path, slash: bool) -> Result<PathMatch, NoMemory>
     ensures { IfOk result
         (λ f. f ≡ (if slash then record { name = 47 ∷ []; path = root_text }
         else record { name = []; path = cwd.now })) }
 {
     if slash {
-        return Ok(Found {
+        return Ok(PathMatch {
             name: Text::from_slice(alloc, b"/")?,
             path: Path::root(),
         });
     }
-    Ok(Found {
+    Ok(PathMatch {
         name: Text::new(alloc),
         path: cwd.copy()?,
     })
@@ -43,7 +43,11 @@ fn first(alloc: Global, cwd: &Path, slash: bool) -> Result<Found, NoMemory>
 
 /// Where the walk begins: at the root for a pattern that begins with a slash, else in the working
 /// directory; nowhere for the empty pattern.
-pub(crate) fn start(alloc: Global, cwd: &Path, pattern: &[Glyph]) -> Result<Seq<Found>, NoMemory>
+pub(crate) fn start(
+    alloc: Global,
+    cwd: &Path,
+    pattern: &[Glyph],
+) -> Result<Seq<PathMatch>, NoMemory>
     ensures { IfOk result (λ fs. fs ≡ start cwd.now pattern.now) }
 {
     let mut all = Seq::new(alloc);
@@ -66,11 +70,15 @@ pub(crate) fn name_below(alloc: Global, dir: &[u8], component: &[u8]) -> Result<
 }
 
 /// A name with its path; `None` exactly where it is no path.
-pub(crate) fn read_name(alloc: Global, cwd: &Path, name: Text) -> Result<Option<Found>, NoMemory>
+pub(crate) fn read_name(
+    alloc: Global,
+    cwd: &Path,
+    name: Text,
+) -> Result<Option<PathMatch>, NoMemory>
     ensures { IfOk result (λ f. f ≡ walking.found cwd.now name) }
 {
     match Path::read(alloc, cwd, name.bytes()) {
-        Ok(path) => Ok(Some(Found { name, path })),
+        Ok(path) => Ok(Some(PathMatch { name, path })),
         Err(PathNo::NoMemory) => Err(NoMemory),
         Err(_) => Ok(None),
     }

@@ -5,7 +5,7 @@ ghost use Rattle.std.specs.Option.{option_to_list};
 ghost use Rattle.em_glob.specs.Patterns.{bytes_of};
 ghost use Rattle.em_pathname.specs.Walking.{components, is_slash, is_hidden, shows, those_that_match, listed, sorted};
 
-use crate::found::{Found, begins_with, name_below, read_name};
+use crate::found::{PathMatch, begins_with, name_below, read_name};
 use em_base::{NoMemory, Seq, Text};
 use em_glob::{Glyph, matches};
 use em_path::Path;
@@ -53,10 +53,10 @@ fn shows(component: &[Glyph], name: &[u8]) -> bool
 fn shown(
     alloc: Global,
     cwd: &Path,
-    dir: &Found,
+    dir: &PathMatch,
     component: &[Glyph],
     name: &[u8],
-) -> Result<Option<Found>, NoMemory>
+) -> Result<Option<PathMatch>, NoMemory>
     ensures { IfOk result
         (λ f. those_that_match cwd.now dir.now component.now (name.now ∷ []) ≡ option_to_list f) }
 {
@@ -66,7 +66,7 @@ fn shown(
     read_name(alloc, cwd, name_below(alloc, dir.name.bytes(), name)?)
 }
 
-fn push_shown(all: &mut Seq<Found>, found: Option<Found>) -> Result<(), NoMemory>
+fn push_shown(all: &mut Seq<PathMatch>, found: Option<PathMatch>) -> Result<(), NoMemory>
     ensures { OnOk result (all.new ≡ all.old ++ option_to_list found) }
 {
     if let Some(found) = found {
@@ -79,10 +79,10 @@ fn push_shown(all: &mut Seq<Found>, found: Option<Found>) -> Result<(), NoMemory
 fn those_that_match(
     alloc: Global,
     cwd: &Path,
-    dir: &Found,
+    dir: &PathMatch,
     component: &[Glyph],
     names: &[Text],
-) -> Result<Seq<Found>, NoMemory>
+) -> Result<Seq<PathMatch>, NoMemory>
     ensures { IfOk result (λ fs. fs ≡ those_that_match cwd.now dir.now component.now names.now) }
 {
     let mut all = Seq::new(alloc);
@@ -96,10 +96,10 @@ fn those_that_match(
 pub(crate) fn listed(
     alloc: Global,
     cwd: &Path,
-    dir: &Found,
+    dir: &PathMatch,
     component: &[Glyph],
     names: &Option<NameList>,
-) -> Result<Seq<Found>, NoMemory>
+) -> Result<Seq<PathMatch>, NoMemory>
     ensures { IfOk result (λ fs. fs ≡ listed cwd.now dir.now component.now names.now) }
 {
     match names {
@@ -109,7 +109,10 @@ pub(crate) fn listed(
 }
 
 /// The names with others behind them.
-pub(crate) fn appended(so_far: Seq<Found>, more: Seq<Found>) -> Result<Seq<Found>, NoMemory>
+pub(crate) fn appended(
+    so_far: Seq<PathMatch>,
+    more: Seq<PathMatch>,
+) -> Result<Seq<PathMatch>, NoMemory>
     ensures { IfOk result (λ all. all ≡ so_far ++ more) }
 {
     let mut all = so_far.into_vec();
@@ -117,14 +120,14 @@ pub(crate) fn appended(so_far: Seq<Found>, more: Seq<Found>) -> Result<Seq<Found
     Ok(Seq::from_vec(all))
 }
 
-fn names_of(alloc: Global, found: Seq<Found>) -> Result<Vec<Text>, NoMemory>
+fn names_of(alloc: Global, found: Seq<PathMatch>) -> Result<Vec<Text>, NoMemory>
     ensures { IfOk result (λ v. v.items ≡ map (λ f. f.name) found) }
 {
     Ok(found.into_vec().into_iter().map(|f| f.name).collect(alloc)?)
 }
 
 /// The names, in byte order.
-pub(crate) fn sorted(alloc: Global, found: Seq<Found>) -> Result<Seq<Text>, NoMemory>
+pub(crate) fn sorted(alloc: Global, found: Seq<PathMatch>) -> Result<Seq<Text>, NoMemory>
     ensures { IfOk result (λ ns. ns ≡ sorted (map (λ f. f.name) found)) }
 {
     let mut names = names_of(alloc, found)?;

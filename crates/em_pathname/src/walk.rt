@@ -4,7 +4,7 @@ ghost use Rattle.em_view.specs.Rows.{Acts, is_refusal};
 ghost use Rattle.em_pathname.specs.Walking as walking;
 ghost use Rattle.em_pathname.specs.Walking.{search, present, look_up_by, look_up, in_dir, in_each, walk};
 
-use crate::found::{Found, name_below, read_name, start};
+use crate::found::{PathMatch, name_below, read_name, start};
 use crate::names::{appended, bytes_of, components, listed, sorted};
 use em_base::{NoMemory, Seq, Text};
 use em_glob::{Glyph, is_pattern};
@@ -18,9 +18,9 @@ fn search<V: View>(
     alloc: Global,
     cwd: &Path,
     component: &[Glyph],
-    dir: &Found,
+    dir: &PathMatch,
     desk: &mut Desk<V>,
-) -> Result<Seq<Found>, DeskNo>
+) -> Result<Seq<PathMatch>, DeskNo>
     ensures performs { Acts V.tells desk.old desk.new result
         (search cwd.now component.now dir.now) }
     ensures unrefused { IfErr result (λ e. is_refusal e ≡ false) }
@@ -30,7 +30,7 @@ fn search<V: View>(
 }
 
 /// The name, if something is there.
-fn present(alloc: Global, kind: Kind, found: Found) -> Result<Seq<Found>, NoMemory>
+fn present(alloc: Global, kind: Kind, found: PathMatch) -> Result<Seq<PathMatch>, NoMemory>
     ensures { IfOk result (λ fs. fs ≡ present kind found) }
 {
     let mut all = Seq::new(alloc);
@@ -43,9 +43,9 @@ fn present(alloc: Global, kind: Kind, found: Found) -> Result<Seq<Found>, NoMemo
 /// A name, if it is a path at which something is.
 fn look_up_found<V: View>(
     alloc: Global,
-    found: Option<Found>,
+    found: Option<PathMatch>,
     desk: &mut Desk<V>,
-) -> Result<Seq<Found>, DeskNo>
+) -> Result<Seq<PathMatch>, DeskNo>
     ensures performs { Acts V.tells desk.old desk.new result (look_up_by found) }
     ensures unrefused { IfErr result (λ e. is_refusal e ≡ false) }
 {
@@ -61,9 +61,9 @@ fn look_up<V: View>(
     alloc: Global,
     cwd: &Path,
     component: &[Glyph],
-    dir: &Found,
+    dir: &PathMatch,
     desk: &mut Desk<V>,
-) -> Result<Seq<Found>, DeskNo>
+) -> Result<Seq<PathMatch>, DeskNo>
     ensures performs { Acts V.tells desk.old desk.new result
         (look_up cwd.now component.now dir.now) }
     ensures unrefused { IfErr result (λ e. is_refusal e ≡ false) }
@@ -77,9 +77,9 @@ fn in_dir<V: View>(
     alloc: Global,
     cwd: &Path,
     component: &[Glyph],
-    dir: &Found,
+    dir: &PathMatch,
     desk: &mut Desk<V>,
-) -> Result<Seq<Found>, DeskNo>
+) -> Result<Seq<PathMatch>, DeskNo>
     ensures performs { Acts V.tells desk.old desk.new result
         (in_dir cwd.now component.now dir.now) }
     ensures unrefused { IfErr result (λ e. is_refusal e ≡ false) }
@@ -96,9 +96,9 @@ fn in_each<V: View>(
     alloc: Global,
     cwd: &Path,
     component: &[Glyph],
-    dirs: &[Found],
+    dirs: &[PathMatch],
     desk: &mut Desk<V>,
-) -> Result<Seq<Found>, DeskNo>
+) -> Result<Seq<PathMatch>, DeskNo>
     ensures performs { Acts V.tells desk.old desk.new result
         (in_each cwd.now component.now [] dirs.now) }
     ensures unrefused { IfErr result (λ e. is_refusal e ≡ false) }
@@ -115,9 +115,9 @@ fn walk<V: View>(
     alloc: Global,
     cwd: &Path,
     components: &[&[Glyph]],
-    start: Seq<Found>,
+    start: Seq<PathMatch>,
     desk: &mut Desk<V>,
-) -> Result<Seq<Found>, DeskNo>
+) -> Result<Seq<PathMatch>, DeskNo>
     ensures performs { Acts V.tells desk.old desk.new result
         (walk cwd.now (map (λ c. c.now) components.now) start) }
     ensures unrefused { IfErr result (λ e. is_refusal e ≡ false) }

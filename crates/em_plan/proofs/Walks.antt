@@ -24,10 +24,10 @@ use Rattle.em_implicit.specs.Asking.{Asking, Had, and_then, Asks, Follows, Here,
 use Rattle.em_implicit.proofs.Following.{on, first, stopped, leave_asked}
 use Rattle.em_plan.specs.declared.making.Need.{Need}
 use Rattle.em_plan.specs.declared.making.Making.{Making}
-use Rattle.em_plan.specs.declared.making.Makefile.{Makefile}
+use Rattle.em_plan.specs.declared.making.RuleView.{RuleView}
 use Rattle.em_plan.specs.declared.planned.PlanJob.{PlanJob}
-use Rattle.em_plan.specs.declared.walk.Frame.{Frame}
-use Rattle.em_plan.specs.declared.marks.Mark.{Mark}
+use Rattle.em_plan.specs.declared.walk.WalkFrame.{WalkFrame}
+use Rattle.em_plan.specs.declared.marks.VisitMark.{VisitMark}
 use Rattle.em_plan.specs.declared.walk.Walk.{Walk}
 use Rattle.em_plan.specs.declared.walk.Walked.{Walked}
 use Rattle.em_plan.specs.declared.no.PlanNo.{PlanNo}
@@ -97,7 +97,7 @@ marked_open marks new stack jobs u m is apart free = record {
 }
   where
     by_own : (b o : Bool) (ks : List ℕ) → opening b (mark_by o ks) ≡ mark_by (b || o) ks
-    by_own true o ks = ap (λ (l : List ℕ). let x : Mark = record { begun = true; jobs = l } in Some x) (jobs_told o ks)
+    by_own true o ks = ap (λ (l : List ℕ). let x : VisitMark = record { begun = true; jobs = l } in Some x) (jobs_told o ks)
     by_own false o ks = refl
 
 -- an open unit gets its number
@@ -252,34 +252,34 @@ module _ (units : Units) (stack : List Open) (n : List ℕ) where
 -- ---- frames
 
 -- a prerequisite that is open
-pub resume_circular : (units : Units) (f : Frame) (fs : List Frame) (w : Walked) (x : Need) → drop f.next f.making.needs ≡ x ∷ drop (f.next + 1) f.making.needs → is_open (opens (f ∷ fs)) x.name ≡ true
+pub resume_circular : (units : Units) (f : WalkFrame) (fs : List WalkFrame) (w : Walked) (x : Need) → drop f.next f.making.needs ≡ x ∷ drop (f.next + 1) f.making.needs → is_open (opens (f ∷ fs)) x.name ≡ true
     → resume units (record f { next = f.next + 1 } ∷ fs) (noted f.target x.name w) ≡ resume units (f ∷ fs) w
 unfolding resume
 resume_circular units f fs w x more circular = rw (more, circular) refl
 
 -- a prerequisite that isn't
-pub resume_into : (units : Units) (f : Frame) (fs : List Frame) (w : Walked) (x : Need) → drop f.next f.making.needs ≡ x ∷ drop (f.next + 1) f.making.needs → is_open (opens (f ∷ fs)) x.name ≡ false
+pub resume_into : (units : Units) (f : WalkFrame) (fs : List WalkFrame) (w : Walked) (x : Need) → drop f.next f.making.needs ≡ x ∷ drop (f.next + 1) f.making.needs → is_open (opens (f ∷ fs)) x.name ≡ false
     → walked_then (reach units (opens (f ∷ fs)) w x.name) (resume units (record f { next = f.next + 1 } ∷ fs)) ≡ resume units (f ∷ fs) w
 unfolding resume
 resume_into units f fs w x more apart = rw (more, apart) (sym (assoc_walked (reach units (opens (f ∷ fs)) w x.name) (finishing (reach units (opens (f ∷ fs))) (open_by f) (opens fs) f.making (drop (f.next + 1) f.making.needs)) (resume units fs)))
 
 -- nothing is left
-pub resume_close : (units : Units) (f : Frame) (fs : List Frame) (w : Walked) → drop f.next f.making.needs ≡ [] → resume units fs (with_job (open_by f) (opens fs) f.making w) ≡ resume units (f ∷ fs) w
+pub resume_close : (units : Units) (f : WalkFrame) (fs : List WalkFrame) (w : Walked) → drop f.next f.making.needs ≡ [] → resume units fs (with_job (open_by f) (opens fs) f.making w) ≡ resume units (f ∷ fs) w
 unfolding resume
 resume_close units f fs w none = rw none refl
 
 -- a unit that was opened, and what is around it
-pub resume_unit : (units : Units) (fs : List Frame) (w : Walked) (n : List ℕ) (m : Making)
+pub resume_unit : (units : Units) (fs : List WalkFrame) (w : Walked) (n : List ℕ) (m : Making)
     → resume units (record { target = n; making = m; next = 0 } ∷ fs) w ≡ walked_then (finishing (reach units (opened n m ∷ opens fs)) (opened n m) (opens fs) m m.needs w) (resume units fs)
 unfolding resume
 resume_unit units fs w n m = refl
 
-pub resume_nothing : (units : Units) (fs : List Frame) (w : Walked) → fs ≡ [] → resume units fs w ≡ Had (Ok w)
+pub resume_nothing : (units : Units) (fs : List WalkFrame) (w : Walked) → fs ≡ [] → resume units fs w ≡ Had (Ok w)
 unfolding resume
 resume_nothing units fs w e = rw e refl
 
 -- a unit of a prerequisite is opened: the walk then comes to the prerequisite again
-pub resume_open : (units : Units) → AreUnits units → {T : Type 0} {asks : Asks T} {a b : T} (f : Frame) (fs : List Frame) (w : Walked) (x : Need) (m : Making) (ms : List Making) → drop f.next f.making.needs ≡ x ∷ drop (f.next + 1) f.making.needs
+pub resume_open : (units : Units) → AreUnits units → {T : Type 0} {asks : Asks T} {a b : T} (f : WalkFrame) (fs : List WalkFrame) (w : Walked) (x : Need) (m : Making) (ms : List Making) → drop f.next f.making.needs ≡ x ∷ drop (f.next + 1) f.making.needs
     → is_open (opens (f ∷ fs)) x.name ≡ false → Fits (opens (f ∷ fs)) x.name m → Follows asks a b (units_asked units (opens (f ∷ fs)) w x.name) (Had (m ∷ ms)) → has_room (opens (f ∷ fs)) w ≡ true
     → Follows asks a b (resume units (f ∷ fs) w) (resume units (record { target = x.name; making = m; next = 0 } ∷ f ∷ fs) w)
 resume_open units facts {T} {asks} {a} {b} f fs w x m ms more apart fit h free =
@@ -310,28 +310,28 @@ resume_open units facts {T} {asks} {a} {b} f fs w x m ms more apart fit h free =
 
 -- ---- weights
 
-pub weight_later : (f : Frame) (fs : List Frame) (x : Need) (jobs : List PlanJob) → drop f.next f.making.needs ≡ x ∷ drop (f.next + 1) f.making.needs → weight (record f { next = f.next + 1 } ∷ fs) jobs < weight (f ∷ fs) jobs
+pub weight_later : (f : WalkFrame) (fs : List WalkFrame) (x : Need) (jobs : List PlanJob) → drop f.next f.making.needs ≡ x ∷ drop (f.next + 1) f.making.needs → weight (record f { next = f.next + 1 } ∷ fs) jobs < weight (f ∷ fs) jobs
 unfolding weight
 weight_later f fs x jobs more = rw more (omega arith)
 
-pub weight_open : (fs : List Frame) (f : Frame) (jobs : List PlanJob) → f.next ≡ 0 → length f.making.needs < 2 ^ 64 → length jobs + length fs < limit → weight (f ∷ fs) jobs < weight fs jobs
+pub weight_open : (fs : List WalkFrame) (f : WalkFrame) (jobs : List PlanJob) → f.next ≡ 0 → length f.making.needs < 2 ^ 64 → length jobs + length fs < limit → weight (f ∷ fs) jobs < weight fs jobs
 unfolding weight
 weight_open fs f jobs none few free = rw none (omega arith)
 
-pub weight_close : (f : Frame) (fs : List Frame) (jobs : List PlanJob) (p : PlanJob) → weight fs (jobs ++ p ∷ []) < weight (f ∷ fs) jobs
+pub weight_close : (f : WalkFrame) (fs : List WalkFrame) (jobs : List PlanJob) (p : PlanJob) → weight fs (jobs ++ p ∷ []) < weight (f ∷ fs) jobs
 unfolding weight
 weight_close f fs jobs p = rw (length-append jobs (p ∷ [])) (let e : length jobs + 1 + length fs ≡ length jobs + suc (length fs) = omega arith in rw e (omega arith))
 
 -- ---- what the code's tests tell
 
-pub length_opens : (fs : List Frame) → length (opens fs) ≡ length fs
+pub length_opens : (fs : List WalkFrame) → length (opens fs) ≡ length fs
 length_opens [] = refl
 length_opens (f ∷ fs) = ap suc (length_opens fs)
 
-pub room_is : (w : Walked) (fs : List Frame) (o l : ℕ) (b : Bool) → b ≡ nat_lt (o + l) limit → o ≡ length w.jobs → l ≡ length fs → has_room (opens fs) w ≡ b
+pub room_is : (w : Walked) (fs : List WalkFrame) (o l : ℕ) (b : Bool) → b ≡ nat_lt (o + l) limit → o ≡ length w.jobs → l ≡ length fs → has_room (opens fs) w ≡ b
 room_is w fs o l b e f g = rw (length_opens fs, ← f, ← g) (sym e)
 
-pub first_name : (fs : List Frame) → from_in (opens fs) ≡ option_map (λ (f : Frame). f.target) (slice_get fs 0)
+pub first_name : (fs : List WalkFrame) → from_in (opens fs) ≡ option_map (λ (f : WalkFrame). f.target) (slice_get fs 0)
 first_name [] = refl
 first_name (f ∷ fs) = refl
 
@@ -344,7 +344,7 @@ need_below [] (suc i) x e = absurd (let b : None ≡ Some x = e in cc)
 need_below (m ∷ ns) zero x e = omega arith
 need_below (m ∷ ns) (suc i) x e = let l = need_below ns i x e in omega (arith, l)
 
-module _ {T : Type 0} (asks : Asks T) (units : Units) (f : Frame) (walk : Walk) (new : Walk) (m : AreMarked walk.marks (open_by f ∷ opens walk.begun) walk.walked.jobs) where
+module _ {T : Type 0} (asks : Asks T) (units : Units) (f : WalkFrame) (walk : Walk) (new : Walk) (m : AreMarked walk.marks (open_by f ∷ opens walk.begun) walk.walked.jobs) where
   pub steps_circular : (a : T) (x : Need) → slice_get f.making.needs f.next ≡ Some x → open_in walk.marks x.name ≡ true
       → new ≡ record { begun = record f { next = f.next + 1 } ∷ walk.begun; marks = walk.marks; walked = noted f.target x.name walk.walked } → Steps asks a a units (f ∷ walk.begun) walk.walked new
   steps_circular a x e circular is =
@@ -494,7 +494,7 @@ module _ {T : Type 0} (asks : Asks T) (a b c : T) where
       → Follows asks a c (visiting units limit [] walk.walked n) (visiting units limit [] v n)
   goal_turn units facts walk n marked v m ms h unit = (goal_again units walk.walked n facts v m ms (goal_passed asks a b units walk n marked (m ∷ ms) h) unit).0
 
-  pub goal_less : (m : Makefile) (walk : Walk) (n : List ℕ) → AreMarked walk.marks [] walk.walked.jobs → (v : Walked) (u : Making) (us : List Making)
+  pub goal_less : (m : RuleView) (walk : Walk) (n : List ℕ) → AreMarked walk.marks [] walk.walked.jobs → (v : Walked) (u : Making) (us : List Making)
       → Follows asks a b (asks_for m (known_in walk.marks) n (length (numbers_in walk.marks n))) (Had (u ∷ us)) → Follows asks b c (after (asks_for m) [] n (u ∷ []) walk.walked) (Had (Ok v))
       → most m.book.now.rules n - length (numbers_of v.jobs n) < most m.book.now.rules n - length (numbers_of walk.walked.jobs n)
   goal_less m walk n marked v u us h unit =
@@ -508,13 +508,13 @@ pub goal_start : (units : Units) (walk new : Walk) (n : List ℕ) (m : Making) �
     → has_room (opens walk.begun) walk.walked ≡ true → new.begun ≡ record { target = n; making = m; next = 0 } ∷ walk.begun → ((q : List ℕ) → get new.marks q ≡ opening (is_among m.targets q) (get walk.marks q)) → new.walked ≡ walk.walked
     → AreMarked new.marks (opens new.begun) new.walked.jobs × (after units [] n (m ∷ []) walk.walked ≡ resume units new.begun new.walked)
 goal_start units walk new n m marked nothing free begun marks walked =
-    let free_now : has_room [] walk.walked ≡ true = ap (λ (fs : List Frame). has_room (opens fs) walk.walked) (sym nothing) ∙ free in
-    let one : new.begun ≡ record { target = n; making = m; next = 0 } ∷ [] = begun ∙ ap (λ (fs : List Frame). record { target = n; making = m; next = 0 } ∷ fs) nothing in
+    let free_now : has_room [] walk.walked ≡ true = ap (λ (fs : List WalkFrame). has_room (opens fs) walk.walked) (sym nothing) ∙ free in
+    let one : new.begun ≡ record { target = n; making = m; next = 0 } ∷ [] = begun ∙ ap (λ (fs : List WalkFrame). record { target = n; making = m; next = 0 } ∷ fs) nothing in
     (rw (one, walked) (marked_open walk.marks new.marks [] walk.walked.jobs (opened n m) marked marks (λ q _. refl) (room_lt [] walk.walked free_now)), rw (one, walked) (goal_unit units walk.walked n m free_now))
 
 pub goal_full : (units : Units) (walk : Walk) (n : List ℕ) (m : Making) → walk.begun ≡ [] → {T : Type 0} (asks : Asks T) (a : T) (e : PlanNo)
     → (e ≡ no.NoMemory) ⊎ ((e ≡ no.TooManyJobs) × (has_room (opens walk.begun) walk.walked ≡ false)) → Fails asks a a (after units [] n (m ∷ []) walk.walked) e
 goal_full units walk n m nothing asks a e (inl is) = fails_want asks a _ e is
 goal_full units walk n m nothing asks a e (inr (is, full)) =
-    let none : has_room [] walk.walked ≡ false = ap (λ (fs : List Frame). has_room (opens fs) walk.walked) (sym nothing) ∙ full in
+    let none : has_room [] walk.walked ≡ false = ap (λ (fs : List WalkFrame). has_room (opens fs) walk.walked) (sym nothing) ∙ full in
     rw (is, after_full units [] n walk.walked m [] none) (Here a _)

@@ -10,8 +10,8 @@ use Rattle.std.specs.FinMap.{FinMap, get}
 use Rattle.std.specs.Ordering.{nat_cmp}
 use Rattle.std.specs.Cmp.Lexicographic.{slice_cmp}
 use Rattle.em_plan.specs.declared.planned.PlanJob.{PlanJob}
-use Rattle.em_plan.specs.declared.walk.Frame.{Frame}
-use Rattle.em_plan.specs.declared.marks.Mark.{Mark}
+use Rattle.em_plan.specs.declared.walk.WalkFrame.{WalkFrame}
+use Rattle.em_plan.specs.declared.marks.VisitMark.{VisitMark}
 use Rattle.em_plan.specs.declared.walk.Walk.{Walk}
 use Rattle.em_plan.specs.declared.walk.Walked.{Walked}
 use Rattle.em_plan.specs.declared.making.Making.{Making}
@@ -20,10 +20,10 @@ use Rattle.em_implicit.specs.Asking.{Asking, Had, Asks, Follows}
 use Rattle.em_plan.specs.Order.{limit, Walking, Open, AreApart, opened, is_open}
 use Rattle.em_plan.specs.Walking.{Units, walked_then, finishing, entering, visiting}
 
-abbrev pub open_by : Frame → Open
+abbrev pub open_by : WalkFrame → Open
 open_by f = opened f.target f.making
 
-abbrev pub opens : List Frame → List Open
+abbrev pub opens : List WalkFrame → List Open
 opens = map open_by
 
 unfoldable pub reach : Units → List Open → Walked → List ℕ → Asking Walking
@@ -34,7 +34,7 @@ unfoldable pub after : Units → List Open → List ℕ → List Making → Walk
 after units stack n ms w = entering (visiting units (limit - suc (length stack))) stack n ms w
 
 -- the prerequisites that are left of the innermost unit, then the unit, then the units around it
-unfoldable pub resume : Units → List Frame → Walked → Asking Walking
+unfoldable pub resume : Units → List WalkFrame → Walked → Asking Walking
 resume units [] w = Had (Ok w)
 resume units (f ∷ fs) w = walked_then
     (finishing (reach units (opens (f ∷ fs))) (open_by f) (opens fs) f.making (drop f.next f.making.needs) w)
@@ -43,21 +43,21 @@ resume units (f ∷ fs) w = walked_then
 -- ---- marks
 
 abbrev pub Marks : Type 0
-Marks = FinMap (slice_cmp nat_cmp) Mark
+Marks = FinMap (slice_cmp nat_cmp) VisitMark
 
-abbrev pub mark_by : Bool → List ℕ → Option Mark
+abbrev pub mark_by : Bool → List ℕ → Option VisitMark
 mark_by true ks = Some (record { begun = true; jobs = ks })
 mark_by false [] = None
 mark_by false (k ∷ ks) = Some (record { begun = false; jobs = k ∷ ks })
 
-abbrev pub mark_of : List Open → List PlanJob → List ℕ → Option Mark
+abbrev pub mark_of : List Open → List PlanJob → List ℕ → Option VisitMark
 mark_of stack jobs n = mark_by (is_open stack n) (numbers_of jobs n)
 
-abbrev pub open_mark : Option Mark → Bool
+abbrev pub open_mark : Option VisitMark → Bool
 open_mark None = false
 open_mark (Some m) = m.begun
 
-abbrev pub jobs_mark : Option Mark → List ℕ
+abbrev pub jobs_mark : Option VisitMark → List ℕ
 jobs_mark None = []
 jobs_mark (Some m) = m.jobs
 
@@ -72,10 +72,10 @@ abbrev pub known_in : Marks → List ℕ → Bool
 known_in marks n = is_some (get marks n)
 
 -- the mark of a target of a unit that is opened, and that gets this number
-abbrev pub opening : Bool → Option Mark → Option Mark
+abbrev pub opening : Bool → Option VisitMark → Option VisitMark
 opening own m = if own then Some (record { begun = true; jobs = jobs_mark m }) else m
 
-abbrev pub closing : ℕ → Bool → Option Mark → Option Mark
+abbrev pub closing : ℕ → Bool → Option VisitMark → Option VisitMark
 closing k own m = if own && open_mark m then Some (record { begun = false; jobs = jobs_mark m ++ k ∷ [] }) else m
 
 pub record AreMarked (marks : Marks) (stack : List Open) (jobs : List PlanJob) : Type 0 where
@@ -90,15 +90,15 @@ IsMarked stack w = AreMarked w.marks stack w.walked.jobs
 -- ---- steps
 
 -- the prerequisites that are left, and one step more for each unit that is open
-abbrev pub room : List Frame → ℕ
+abbrev pub room : List WalkFrame → ℕ
 room [] = 0
 room (f ∷ fs) = length (drop f.next f.making.needs) + 1 + room fs
 
-unfoldable pub weight : List Frame → List PlanJob → ℕ
+unfoldable pub weight : List WalkFrame → List PlanJob → ℕ
 weight fs jobs = (limit - (length jobs + length fs)) * 2 ^ 65 + room fs
 
 -- a step asks some of the questions that are left; those that are left then are the others, and there is less to do
-pub record Steps {T : Type 0} (asks : Asks T) (a b : T) (units : Units) (frames : List Frame) (before : Walked) (after : Walk) : Type 0 where
+pub record Steps {T : Type 0} (asks : Asks T) (a b : T) (units : Units) (frames : List WalkFrame) (before : Walked) (after : Walk) : Type 0 where
   pub marked : IsMarked (opens after.begun) after
   pub end : Follows asks a b (resume units frames before) (resume units after.begun after.walked)
   pub less : weight after.begun after.walked.jobs < weight frames before.jobs

@@ -5,7 +5,7 @@ ghost use Rattle.em_plan.specs.Once.{each_once, is_among, once_more};
 ghost use Rattle.em_plan.specs.Plans.{asked};
 ghost use Rattle.em_plan.specs.Resuming.{numbers_in};
 
-use crate::marks::{Mark, numbers_of};
+use crate::marks::{VisitMark, numbers_of};
 use crate::numbers::Numbers;
 use em_base::{NoMemory, Seq, Table, Text};
 use em_rules::undotted;
@@ -69,7 +69,7 @@ pub fn goal_names(
 /// The numbers of each name's jobs.
 pub(crate) fn numbers(
     alloc: Global,
-    marks: &Table<Mark>,
+    marks: &Table<VisitMark>,
     names: &[Text],
 ) -> Result<Seq<Numbers>, NoMemory>
     ensures { IfOk result (λ ns. ns ≡ map (numbers_in marks.now) names.now) }

@@ -4,7 +4,7 @@ ghost use Rattle.em_plan.specs.Jobs.{earlier_ones, job_of, jobs_in, normal_ones,
 ghost use Rattle.em_plan.specs.Resuming.{numbers_in, open_in};
 
 use crate::making::{Making, Need};
-use crate::marks::{Mark, closed_numbers, numbers};
+use crate::marks::{VisitMark, closed_numbers, numbers};
 use crate::planned::{PlanJob, Pre};
 use em_base::{NoMemory, Seq, Table, Text};
 use std::alloc::Global;
@@ -19,7 +19,7 @@ struct Needed {
 
 impl Needed {
     /// Appends the prerequisite, unless it is open.
-    fn add(&mut self, alloc: Global, marks: &Table<Mark>, need: Need) -> Result<(), NoMemory>
+    fn add(&mut self, alloc: Global, marks: &Table<VisitMark>, need: Need) -> Result<(), NoMemory>
         ensures normal { OnOk result (self.new.normal ≡ self.old.normal
             ++ pres (open_in marks.now) (numbers_in marks.now) (normal_ones (need ∷ []))) }
         ensures order { OnOk result (self.new.order ≡ self.old.order
@@ -42,7 +42,7 @@ impl Needed {
 }
 
 /// The prerequisites that aren't open.
-fn remaining(alloc: Global, marks: &Table<Mark>, needs: Seq<Need>) -> Result<Needed, NoMemory>
+fn remaining(alloc: Global, marks: &Table<VisitMark>, needs: Seq<Need>) -> Result<Needed, NoMemory>
     ensures normal { IfOk result (λ r. r.normal
         ≡ pres (open_in marks.now) (numbers_in marks.now) (normal_ones needs)) }
     ensures order { IfOk result (λ r. r.order
@@ -71,7 +71,7 @@ fn rising(mut jobs: Vec<u32>) -> Seq<u32>
 }
 
 /// Of a double-colon rule the numbers of the earlier ones for its name.
-fn earlier<'a>(marks: &'a Table<Mark>, double: bool, name: &[u8]) -> &'a [u32]
+fn earlier<'a>(marks: &'a Table<VisitMark>, double: bool, name: &[u8]) -> &'a [u32]
     ensures { result.now ≡ earlier_ones double (numbers_in marks.now name.now) }
 {
     if double { numbers(marks, name) } else { &[] }
@@ -81,7 +81,7 @@ fn earlier<'a>(marks: &'a Table<Mark>, double: bool, name: &[u8]) -> &'a [u32]
 /// from which the walk came to it.
 pub(crate) fn job(
     alloc: Global,
-    marks: &Table<Mark>,
+    marks: &Table<VisitMark>,
     trigger: Text,
     needed_by: Option<Text>,
     making: Making,

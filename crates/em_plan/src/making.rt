@@ -8,7 +8,7 @@ ghost use Rattle.em_plan.specs.Makings.{bare_unit, double_unit, group_of, own_un
 ghost use Rattle.em_plan.specs.Resuming.{known_in, numbers_in};
 ghost use Rattle.em_plan.specs.Walking.{asks_for, found_asking, Offers, unit_asking, unruled_by};
 
-use crate::marks::{Mark, numbers};
+use crate::marks::{VisitMark, numbers};
 use crate::members::{Choice, alone};
 use crate::needs::{add_group_needs, add_needs, add_needs_for, add_others, add_pattern_needs};
 use crate::planned::copied;
@@ -209,12 +209,12 @@ fn pattern_unit(
 
 /// What makefiles say, and the working directory against which names are read.
 #[derive(Clone, Copy)]
-pub(crate) struct Makefile<'a> {
+pub(crate) struct RuleView<'a> {
     pub book: &'a Book,
     pub cwd: &'a Path,
 }
 
-impl Makefile<'_> {
+impl RuleView<'_> {
     /// The pattern rule that is chosen for a name without a recipe, unless it is phony.
     fn found_for<T: There>(
         &self,
@@ -275,7 +275,7 @@ impl Makefile<'_> {
     fn unit<T: There>(
         &self,
         alloc: Global,
-        marks: &Table<Mark>,
+        marks: &Table<VisitMark>,
         name: &[u8],
         there: &mut T,
     ) -> Result<Making, DeskNo>
@@ -315,7 +315,7 @@ impl Makefile<'_> {
     fn next_unit<T: There>(
         &self,
         alloc: Global,
-        marks: &Table<Mark>,
+        marks: &Table<VisitMark>,
         name: &[u8],
         place: usize,
         there: &mut T,
@@ -338,7 +338,7 @@ impl Makefile<'_> {
     pub(crate) fn making_at<T: There>(
         &self,
         alloc: Global,
-        marks: &Table<Mark>,
+        marks: &Table<VisitMark>,
         name: &[u8],
         place: usize,
         there: &mut T,
@@ -360,7 +360,7 @@ impl Makefile<'_> {
     pub(crate) fn making<T: There>(
         &self,
         alloc: Global,
-        marks: &Table<Mark>,
+        marks: &Table<VisitMark>,
         name: &[u8],
         there: &mut T,
     ) -> Result<Option<Making>, DeskNo>

@@ -10,7 +10,7 @@ use std::alloc::Global;
 
 /// How far the walk is with a name. A name that it hasn't met has no mark.
 #[derive(Drop)]
-pub struct Mark {
+pub struct VisitMark {
     /// Whether it is a target of a unit whose prerequisites are being visited.
     pub begun: bool,
     /// The numbers of its jobs so far.
@@ -18,7 +18,7 @@ pub struct Mark {
 }
 
 /// Whether the name is a target of a unit that is open.
-pub(crate) fn is_open(marks: &Table<Mark>, name: &[u8]) -> bool
+pub(crate) fn is_open(marks: &Table<VisitMark>, name: &[u8]) -> bool
     ensures { result ≡ open_in marks.now name.now }
 {
     match marks.get(name) {
@@ -28,7 +28,7 @@ pub(crate) fn is_open(marks: &Table<Mark>, name: &[u8]) -> bool
 }
 
 /// How many jobs the name has, unless it is open: the place of its next unit.
-pub(crate) fn next_place(marks: &Table<Mark>, name: &[u8]) -> Option<usize>
+pub(crate) fn next_place(marks: &Table<VisitMark>, name: &[u8]) -> Option<usize>
     ensures { MatchOption result
         (open_in marks.now name.now ≡ true)
         (λ place. (open_in marks.now name.now ≡ false)
@@ -42,14 +42,14 @@ pub(crate) fn next_place(marks: &Table<Mark>, name: &[u8]) -> Option<usize>
 }
 
 /// Whether the name is open or has jobs.
-pub(crate) fn is_known(marks: &Table<Mark>, name: &[u8]) -> bool
+pub(crate) fn is_known(marks: &Table<VisitMark>, name: &[u8]) -> bool
     ensures { result ≡ known_in marks.now name.now }
 {
     marks.get(name).is_some()
 }
 
 /// The numbers of the name's jobs.
-pub(crate) fn numbers<'a>(marks: &'a Table<Mark>, name: &[u8]) -> &'a [u32]
+pub(crate) fn numbers<'a>(marks: &'a Table<VisitMark>, name: &[u8]) -> &'a [u32]
     ensures { result.now ≡ numbers_in marks.now name.now }
 {
     match marks.get(name) {
@@ -61,7 +61,7 @@ pub(crate) fn numbers<'a>(marks: &'a Table<Mark>, name: &[u8]) -> &'a [u32]
 /// The numbers of the name's jobs, copied, unless it is open. One search.
 pub(crate) fn closed_numbers(
     alloc: Global,
-    marks: &Table<Mark>,
+    marks: &Table<VisitMark>,
     name: &[u8],
 ) -> Result<Option<Numbers>, NoMemory>
     ensures { IfOk result (λ o. MatchOption o
@@ -78,7 +78,7 @@ pub(crate) fn closed_numbers(
 /// The numbers of the name's jobs, copied.
 pub(crate) fn numbers_of(
     alloc: Global,
-    marks: &Table<Mark>,
+    marks: &Table<VisitMark>,
     name: &[u8],
 ) -> Result<Numbers, NoMemory>
     ensures { IfOk result (λ ns. ns ≡ numbers_in marks.now name.now) }
@@ -90,7 +90,7 @@ pub(crate) fn numbers_of(
 }
 
 /// Takes the name's mark out, and gives the numbers of its jobs.
-fn take_jobs(alloc: Global, marks: &mut Table<Mark>, name: &[u8]) -> Numbers
+fn take_jobs(alloc: Global, marks: &mut Table<VisitMark>, name: &[u8]) -> Numbers
     ensures jobs { result ≡ numbers_in marks.old name.now }
     ensures rest { marks.new ≡ finmap.remove marks.old name.now }
 {
@@ -101,19 +101,19 @@ fn take_jobs(alloc: Global, marks: &mut Table<Mark>, name: &[u8]) -> Numbers
 }
 
 /// Marks a target of a unit that is opened.
-fn open_one(alloc: Global, marks: &mut Table<Mark>, name: &Text) -> Result<(), NoMemory>
+fn open_one(alloc: Global, marks: &mut Table<VisitMark>, name: &Text) -> Result<(), NoMemory>
     ensures { OnOk result ((q : List ℕ)
         → finmap.get marks.new q ≡ opening (same q name.now) (finmap.get marks.old q)) }
 {
     let jobs = take_jobs(alloc, marks, name.bytes());
-    marks.insert(name.copy(alloc)?, Mark { begun: true, jobs })?;
+    marks.insert(name.copy(alloc)?, VisitMark { begun: true, jobs })?;
     Ok(())
 }
 
 /// Marks the targets of a unit that is opened. A search for each.
 pub(crate) fn open_all(
     alloc: Global,
-    marks: &mut Table<Mark>,
+    marks: &mut Table<VisitMark>,
     names: &[Text],
 ) -> Result<(), NoMemory>
     ensures { OnOk result ((q : List ℕ)
@@ -128,7 +128,7 @@ pub(crate) fn open_all(
 /// Marks a target of an open unit that gets this number.
 fn close_one(
     alloc: Global,
-    marks: &mut Table<Mark>,
+    marks: &mut Table<VisitMark>,
     number: u32,
     name: &Text,
 ) -> Result<(), NoMemory>
@@ -140,14 +140,14 @@ fn close_one(
     }
     let held = take_jobs(alloc, marks, name.bytes());
     let jobs = held.with(alloc, number)?;
-    marks.insert(name.copy(alloc)?, Mark { begun: false, jobs })?;
+    marks.insert(name.copy(alloc)?, VisitMark { begun: false, jobs })?;
     Ok(())
 }
 
 /// Marks the targets of an open unit that gets this number. A search for each.
 pub(crate) fn close_all(
     alloc: Global,
-    marks: &mut Table<Mark>,
+    marks: &mut Table<VisitMark>,
     number: u32,
     names: &[Text],
 ) -> Result<(), NoMemory>

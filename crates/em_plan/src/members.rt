@@ -7,7 +7,7 @@ ghost use Rattle.em_plan.specs.Makings.{group_names, joins, pattern_names, patte
 ghost use Rattle.em_plan.specs.Resuming.{known_in};
 
 use crate::goals::each_once;
-use crate::marks::{Mark, is_known};
+use crate::marks::{VisitMark, is_known};
 use em_base::{NoMemory, Seq, Table, Text};
 use em_implicit::{match_at, members_of};
 use em_rules::{Rule, Rules};
@@ -45,7 +45,7 @@ fn with_own(alloc: Global, name: &[u8], names: Seq<Text>) -> Result<Seq<Text>, N
 #[derive(Clone, Copy)]
 pub(crate) struct Choice<'a> {
     pub rules: &'a Rules,
-    pub marks: &'a Table<Mark>,
+    pub marks: &'a Table<VisitMark>,
     pub name: &'a [u8],
 }
 

@@ -10,7 +10,7 @@ use std::slice;
 
 /// One number in its place, others in a list.
 #[derive(Debug, Drop)]
-enum Held {
+enum NumberSet {
     One(u32),
     Many(Vec<u32>),
 }
@@ -19,7 +19,7 @@ enum Held {
 /// double-colon rules are several; one number alone takes no memory of its own.
 #[derive(Debug, Drop)]
 pub struct Numbers {
-    held: Held,
+    held: NumberSet,
 }
 
 impl Model for Numbers {
@@ -46,7 +46,7 @@ impl Numbers {
         ensures { result ≡ [] }
     {
         Numbers {
-            held: Held::Many(Vec::new(alloc)),
+            held: NumberSet::Many(Vec::new(alloc)),
         }
     }
 
@@ -55,7 +55,7 @@ impl Numbers {
         ensures { result ≡ number ∷ [] }
     {
         Numbers {
-            held: Held::One(number),
+            held: NumberSet::One(number),
         }
     }
 
@@ -64,8 +64,8 @@ impl Numbers {
         ensures { result.now ≡ self.now }
     {
         match &self.held {
-            Held::One(number) => slice::from_ref(number),
-            Held::Many(numbers) => numbers.as_slice(),
+            NumberSet::One(number) => slice::from_ref(number),
+            NumberSet::Many(numbers) => numbers.as_slice(),
         }
     }
 
@@ -91,12 +91,12 @@ impl Numbers {
             return Ok(Numbers::one(number));
         }
         let mut numbers = match self.held {
-            Held::One(first) => alone(alloc, first)?,
-            Held::Many(numbers) => numbers,
+            NumberSet::One(first) => alone(alloc, first)?,
+            NumberSet::Many(numbers) => numbers,
         };
         numbers.push(number)?;
         Ok(Numbers {
-            held: Held::Many(numbers),
+            held: NumberSet::Many(numbers),
         })
     }
 
@@ -105,8 +105,11 @@ impl Numbers {
         ensures { IfOk result (λ n. n ≡ self.now) }
     {
         let held = match &self.held {
-            Held::One(number) => Held::One(*number),
-            Held::Many(numbers) => Held::Many(Vec::from_slice(alloc, numbers.as_slice())?),
+            NumberSet::One(number) => NumberSet::One(*number),
+            NumberSet::Many(numbers) => NumberSet::Many(Vec::from_slice(
+                alloc,
+                numbers.as_slice(),
+            )?),
         };
         Ok(Numbers { held })
     }

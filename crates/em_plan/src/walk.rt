@@ -9,8 +9,8 @@ ghost use Rattle.em_plan.specs.Resuming.{after, closing, numbers_in, open_by, op
 ghost use Rattle.em_plan.specs.Walking.{asks_for, visiting, visiting_all, Fails};
 
 use crate::job::job;
-use crate::making::{Makefile, Making};
-use crate::marks::{Mark, close_all, next_place, open_all};
+use crate::making::{Making, RuleView};
+use crate::marks::{VisitMark, close_all, next_place, open_all};
 use crate::no::PlanNo;
 use crate::shared::SharedJob;
 use em_base::{NoMemory, Seq, Stack, Table, Text};
@@ -22,7 +22,7 @@ const LIMIT: usize = 65_536;
 
 /// A unit whose prerequisites are being visited.
 #[derive(Drop)]
-pub struct Frame {
+pub struct WalkFrame {
     /// The name from which the walk came to it.
     pub target: Text,
     pub making: Making,
@@ -40,8 +40,8 @@ pub struct Walked {
 /// A walk on its way.
 #[derive(Drop)]
 pub struct Walk {
-    pub begun: Stack<Frame>,
-    pub marks: Table<Mark>,
+    pub begun: Stack<WalkFrame>,
+    pub marks: Table<VisitMark>,
     pub walked: Walked,
 }
 
@@ -65,16 +65,16 @@ fn has_room(jobs: usize, begun: usize) -> bool
 }
 
 /// The frame behind its next prerequisite.
-fn later(frame: Frame) -> Frame
+fn later(frame: WalkFrame) -> WalkFrame
     requires { frame.next < length frame.making.needs }
     ensures { result ≡ record frame { next = frame.next + 1 } }
 {
-    let Frame {
+    let WalkFrame {
         target,
         making,
         next,
     } = frame;
-    Frame {
+    WalkFrame {
         target,
         making,
         next: next + 1,
@@ -96,7 +96,7 @@ fn enter(alloc: Global, walk: &mut Walk, name: Text, making: Making) -> Result<(
         return Err(PlanNo::TooManyJobs);
     }
     open_all(alloc, &mut walk.marks, making.targets.items())?;
-    walk.begun.push(Frame {
+    walk.begun.push(WalkFrame {
         target: name,
         making,
         next: 0,
@@ -105,7 +105,12 @@ fn enter(alloc: Global, walk: &mut Walk, name: Text, making: Making) -> Result<(
 }
 
 /// The innermost unit's next prerequisite is open: it is dropped, with a note.
-fn drop_circular(alloc: Global, walk: &mut Walk, frame: Frame, name: &[u8]) -> Result<(), PlanNo>
+fn drop_circular(
+    alloc: Global,
+    walk: &mut Walk,
+    frame: WalkFrame,
+    name: &[u8],
+) -> Result<(), PlanNo>
     requires { frame.next < length frame.making.needs }
     ensures ok { OnOk result (walk.new ≡ record {
       begun = record frame { next = frame.next + 1 } ∷ walk.old.begun;
@@ -125,7 +130,7 @@ fn drop_circular(alloc: Global, walk: &mut Walk, frame: Frame, name: &[u8]) -> R
 fn go_into(
     alloc: Global,
     walk: &mut Walk,
-    frame: Frame,
+    frame: WalkFrame,
     name: Text,
     making: Making,
 ) -> Result<(), PlanNo>
@@ -145,7 +150,7 @@ fn go_into(
 }
 
 /// Each unit of the innermost unit's next prerequisite has a number.
-fn pass(walk: &mut Walk, frame: Frame) -> Result<(), PlanNo>
+fn pass(walk: &mut Walk, frame: WalkFrame) -> Result<(), PlanNo>
     requires { frame.next < length frame.making.needs }
     ensures ok { OnOk result (walk.new
         ≡ record walk.old { begun = record frame { next = frame.next + 1 } ∷ walk.old.begun }) }
@@ -156,7 +161,7 @@ fn pass(walk: &mut Walk, frame: Frame) -> Result<(), PlanNo>
 }
 
 /// The name from which the walk came.
-fn above(alloc: Global, begun: &Stack<Frame>) -> Result<Option<Text>, NoMemory>
+fn above(alloc: Global, begun: &Stack<WalkFrame>) -> Result<Option<Text>, NoMemory>
     ensures { IfOk result (λ n. n ≡ from_in (opens begun.now)) }
 {
     match begun.top() {
@@ -166,7 +171,7 @@ fn above(alloc: Global, begun: &Stack<Frame>) -> Result<Option<Text>, NoMemory>
 }
 
 /// The innermost unit, whose prerequisites have been visited, gets the next number.
-fn close(alloc: Global, walk: &mut Walk, frame: Frame) -> Result<(), PlanNo>
+fn close(alloc: Global, walk: &mut Walk, frame: WalkFrame) -> Result<(), PlanNo>
     requires marked { IsMarked (open_by frame ∷ opens walk.old.begun) walk.old }
     ensures begun { OnOk result (walk.new.begun ≡ walk.old.begun) }
     ensures marks { OnOk result ((q : List ℕ) → finmap.get walk.new.marks q
@@ -180,7 +185,7 @@ fn close(alloc: Global, walk: &mut Walk, frame: Frame) -> Result<(), PlanNo>
         }) }
     ensures only { IfErr result (λ e. e ≡ PlanNo.NoMemory) }
 {
-    let Frame {
+    let WalkFrame {
         target,
         making,
         next: _,
@@ -197,9 +202,9 @@ fn close(alloc: Global, walk: &mut Walk, frame: Frame) -> Result<(), PlanNo>
 /// One step at the innermost unit.
 fn step<T: There>(
     alloc: Global,
-    makefile: Makefile,
+    makefile: RuleView,
     walk: &mut Walk,
-    frame: Frame,
+    frame: WalkFrame,
     there: &mut T,
 ) -> Result<(), PlanNo>
     requires marked { IsMarked (open_by frame ∷ opens walk.old.begun) walk.old }
@@ -226,7 +231,7 @@ fn step<T: There>(
 /// The walk from a goal's next unit, which is this.
 fn walk_unit<T: There>(
     alloc: Global,
-    makefile: Makefile,
+    makefile: RuleView,
     walk: &mut Walk,
     goal: &Text,
     making: Making,
@@ -253,7 +258,7 @@ fn walk_unit<T: There>(
 /// The walk from a goal: from each of its units in turn.
 fn walk_from<T: There>(
     alloc: Global,
-    makefile: Makefile,
+    makefile: RuleView,
     walk: &mut Walk,
     goal: &Text,
     there: &mut T,
@@ -277,7 +282,7 @@ fn walk_from<T: There>(
 /// The walk from each of these names in turn: it ends with nothing open.
 pub(crate) fn walk_all<T: There>(
     alloc: Global,
-    makefile: Makefile,
+    makefile: RuleView,
     goals: &[Text],
     there: &mut T,
 ) -> Result<Walk, PlanNo>

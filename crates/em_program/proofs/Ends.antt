@@ -26,7 +26,7 @@ use Rattle.em_image.specs.declared.no.Which.TheVariants as which
 use Rattle.em_cmdline.specs.declared.order.Order.{Order}
 use Rattle.em_reader.specs.declared.makefiles.Round.{Round}
 use Rattle.em_reading.specs.declared.no.ReadNo.{ReadNo}
-use Rattle.em_program.specs.declared.verdict.Verdict.TheVariants.{Faulty}
+use Rattle.em_program.specs.declared.verdict.BuildStatus.TheVariants.{Faulty}
 use Rattle.em_program.specs.Course.{◌>>=◌, done, say, stop}
 use Rattle.em_closing.specs.Refusals.{read_line}
 use Rattle.em_program.specs.Messages.{image_line}

@@ -23,10 +23,10 @@ use Rattle.em_plan.specs.declared.no.PlanNo.{PlanNo}
 use Rattle.em_plan.specs.declared.planned.Plan.{Plan}
 use Rattle.em_remake.specs.Remaking.{goals_of, changed}
 use Rattle.em_program.specs.declared.rounds.Remaking.{Remaking}
-use Rattle.em_program.specs.declared.rounds.Step.{Step}
+use Rattle.em_program.specs.declared.rounds.NextBuild.{NextBuild}
 use Rattle.em_program.specs.declared.site.Site.{Site}
-use Rattle.em_program.specs.declared.verdict.Verdict.{Verdict}
-use Rattle.em_program.specs.declared.verdict.Verdict.TheVariants.{Faulty}
+use Rattle.em_program.specs.declared.verdict.BuildStatus.{BuildStatus}
+use Rattle.em_program.specs.declared.verdict.BuildStatus.TheVariants.{Faulty}
 use Rattle.em_program.specs.Course.{Course, go_on, ◌>>=◌, done, quit, say, stop}
 use Rattle.em_program.specs.Projects.{as_dir, as_path, entered, as_round, round_of, as_plan, planned, project_at}
 use Rattle.em_program.specs.Rounds.{based, is_lacking, refused_by, all_there, final, remade, by_goals, round, first, following}
@@ -44,7 +44,7 @@ abbrev pub IsSteady : {A : Type 0} → Course A → Type 0
 IsSteady m = (f g : Files) → (m f).end ≡ (m g).end
 
 module _ {A B : Type 0} (m : Course A) (k : A → Course B) where
-  steady_on : (c d : List Call) (x y : Result A Verdict) (f g : Files) → x ≡ y → ((a : A) → IsSteady (k a)) → (go_on c x k f).end ≡ (go_on d y k g).end
+  steady_on : (c d : List Call) (x y : Result A BuildStatus) (f g : Files) → x ≡ y → ((a : A) → IsSteady (k a)) → (go_on c x k f).end ≡ (go_on d y k g).end
   steady_on c d (Ok a) (Ok b) f g e later = subst (λ (z : A). (k a (files_after c f)).end ≡ (k z (files_after d g)).end) (ok_same e) (later a (files_after c f) (files_after d g))
   steady_on c d (Ok a) (Err v) f g e later = absurd (ok_err e)
   steady_on c d (Err v) (Ok b) f g e later = absurd (ok_err (sym e))
@@ -62,7 +62,7 @@ steady_say : (text : List ℕ) → IsSteady (say text)
 unfolding say
 steady_say text f g = refl
 
-steady_stop : (A : Type 0) (text : List ℕ) (verdict : Verdict) → IsSteady (stop {A = A} text verdict)
+steady_stop : (A : Type 0) (text : List ℕ) (verdict : BuildStatus) → IsSteady (stop {A = A} text verdict)
 unfolding quit
 steady_stop A text verdict = steady (say text) (λ u. quit {A = A} verdict) (steady_say text) (λ u f g. refl)
 

@@ -17,9 +17,9 @@ use Rattle.em_reader.specs.declared.makefiles.Round.{Round}
 use Rattle.em_remake.specs.Remaking.{goals_of, changed}
 use Rattle.em_program.specs.declared.project.Project.{Project}
 use Rattle.em_program.specs.declared.rounds.Remaking.{Remaking}
-use Rattle.em_program.specs.declared.rounds.Step.{Step}
+use Rattle.em_program.specs.declared.rounds.NextBuild.{NextBuild}
 use Rattle.em_program.specs.declared.site.Site.{Site}
-use Rattle.em_program.specs.declared.verdict.Verdict.{Verdict}
+use Rattle.em_program.specs.declared.verdict.BuildStatus.{BuildStatus}
 use Rattle.em_program.specs.Alike.{AreSites, AreProjects, AreSteps, EndAlike, IsSame}
 use Rattle.em_program.specs.Course.{Trace, Course, go_on, ◌>>=◌, done}
 use Rattle.em_program.specs.Projects.{entered, round_of, planned, assembled, project_at}
@@ -27,7 +27,7 @@ use Rattle.em_program.specs.Rounds.{based, all_there, round_order, final, remade
 
 -- ---- courses that make the same calls and lead to values that are alike
 
-abbrev EndBy : {A : Type 0} → (A → A → Type 0) → Result A Verdict → Result A Verdict → Type 0
+abbrev EndBy : {A : Type 0} → (A → A → Type 0) → Result A BuildStatus → Result A BuildStatus → Type 0
 EndBy R (Ok a) (Ok b) = R a b
 EndBy R (Err v) (Err w) = v ≡ w
 EndBy R _ _ = ⊥
@@ -37,20 +37,20 @@ record SameBy {A : Type 0} (R : A → A → Type 0) (c d : Trace A) : Type 0 whe
   pub end : EndBy R c.end d.end
 
 module _ {A B : Type 0} (R : A → A → Type 0) (S : B → B → Type 0) (k l : A → Course B) (both : (a b : A) → R a b → (f : Files) → SameBy S (k a f) (l b f)) where
-  on_calls : (calls : List Call) (x y : Result A Verdict) (f : Files) → EndBy R x y → SameBy S (go_on calls x k f) (go_on calls y l f)
+  on_calls : (calls : List Call) (x y : Result A BuildStatus) (f : Files) → EndBy R x y → SameBy S (go_on calls x k f) (go_on calls y l f)
   on_calls calls (Ok a) (Ok b) f e = let it = both a b e (files_after calls f) in record { calls = ap (λ (c : List Call). calls ++ c) it.calls; end = it.end }
   on_calls calls (Ok a) (Err w) f e = absurd e
   on_calls calls (Err v) (Ok b) f e = absurd e
   on_calls calls (Err v) (Err w) f e = record { calls = refl; end = e }
 
-  on_end : (c d : List Call) (x y : Result A Verdict) (f : Files) → c ≡ d → EndBy R x y → SameBy S (go_on c x k f) (go_on d y l f)
+  on_end : (c d : List Call) (x y : Result A BuildStatus) (f : Files) → c ≡ d → EndBy R x y → SameBy S (go_on c x k f) (go_on d y l f)
   on_end c d x y f same e = subst (λ (z : List Call). SameBy S (go_on c x k f) (go_on z y l f)) same (on_calls c x y f e)
 
   same_then : (m n : Course A) (f : Files) → SameBy R (m f) (n f) → SameBy S ((m >>= k) f) ((n >>= l) f)
   unfolding ◌>>=◌
   same_then m n f p = on_end (m f).calls (n f).calls (m f).end (n f).end f p.calls p.end
 
-same_end : {A : Type 0} (R : A → A → Type 0) → ((a : A) → R a a) → (end : Result A Verdict) → EndBy R end end
+same_end : {A : Type 0} (R : A → A → Type 0) → ((a : A) → R a a) → (end : Result A BuildStatus) → EndBy R end end
 same_end R one (Ok a) = one a
 same_end R one (Err v) = refl
 
@@ -96,7 +96,7 @@ module _ (old : List Pair) (past : Earlier) where
   goals left s cwd r [] f = finals s cwd r f
   goals left s cwd r (g ∷ gs) f = remades left s cwd r (g ∷ gs) f
 
-  same_step : (c : Trace Step) → SameBy AreSteps c c
+  same_step : (c : Trace NextBuild) → SameBy AreSteps c c
   same_step c = record { calls = refl; end = same_end AreSteps (λ u. record { project = record { order = refl; outcomes = refl; plan = refl; goals = refl; start = refl; specs = refl }; remaking = refl }) c.end }
 
   rounds : (left : ℕ) (s : Site) (cwd : List ℕ) (f : Files) → SameBy AreSteps (round left s cwd f) (round left (other s) cwd f)
@@ -116,13 +116,13 @@ module _ (old : List Pair) (past : Earlier) where
 is_other : (s t : Site) → AreSites s t → other t.old t.earlier s ≡ t
 is_other s t same = λ i. record { order = same.order i; start = same.start i; old = t.old; earlier = record { notes = t.earlier.notes; outcomes = same.outcomes i; shown = t.earlier.shown } }
 
-alike : (x y : Result Step Verdict) → EndBy AreSteps x y → EndAlike x y
+alike : (x y : Result NextBuild BuildStatus) → EndBy AreSteps x y → EndAlike x y
 alike (Ok u) (Ok v) e = e
 alike (Ok u) (Err w) e = absurd e
 alike (Err v) (Ok w) e = absurd e
 alike (Err v) (Err w) e = e
 
-to_same : (c d : Course Step) (f : Files) → SameBy AreSteps (c f) (d f) → IsSame c d f
+to_same : (c d : Course NextBuild) (f : Files) → SameBy AreSteps (c f) (d f) → IsSame c d f
 to_same c d f p = record { calls = p.calls; end = alike (c f).end (d f).end p.end }
 
 pub firsts : (s t : Site) (f : Files) → AreSites s t → IsSame (first s) (first t) f

@@ -7,9 +7,9 @@
 use Rattle.std.specs.Prelude.{◌≡◌, Result, Ok, Err}
 use Rattle.em_host.specs.Outside.{Files}
 use Rattle.em_program.specs.declared.project.Project.{Project}
-use Rattle.em_program.specs.declared.rounds.Step.{Step}
+use Rattle.em_program.specs.declared.rounds.NextBuild.{NextBuild}
 use Rattle.em_program.specs.declared.site.Site.{Site}
-use Rattle.em_program.specs.declared.verdict.Verdict.{Verdict}
+use Rattle.em_program.specs.declared.verdict.BuildStatus.{BuildStatus}
 use Rattle.em_program.specs.Course.{Course}
 
 pub record AreSites (s t : Site) : Type 0 where
@@ -25,15 +25,15 @@ pub record AreProjects (p q : Project) : Type 0 where
   pub start : p.start ≡ q.start
   pub specs : p.specs ≡ q.specs
 
-pub record AreSteps (u v : Step) : Type 0 where
+pub record AreSteps (u v : NextBuild) : Type 0 where
   pub project : AreProjects u.project v.project
   pub remaking : u.remaking ≡ v.remaking
 
-abbrev pub EndAlike : Result Step Verdict → Result Step Verdict → Type 0
+abbrev pub EndAlike : Result NextBuild BuildStatus → Result NextBuild BuildStatus → Type 0
 EndAlike (Ok u) (Ok v) = AreSteps u v
 EndAlike (Err d) (Err e) = d ≡ e
 EndAlike _ _ = ⊥
 
-pub record IsSame (c d : Course Step) (files : Files) : Type 0 where
+pub record IsSame (c d : Course NextBuild) (files : Files) : Type 0 where
   pub calls : (c files).calls ≡ (d files).calls
   pub end : EndAlike (c files).end (d files).end

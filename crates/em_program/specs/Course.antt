@@ -18,14 +18,14 @@ use Rattle.em_host.specs.Calls.{files_after, Makes, FailsIn}
 use Rattle.em_workers.specs.declared.no.BuildNo.{BuildNo}
 use Rattle.em_workers.specs.declared.no.BuildNo.TheVariants as build_no
 use Rattle.em_workers.specs.Printing.{print, prints, RunsOut}
-use Rattle.em_program.specs.declared.verdict.Verdict.{Verdict}
-use Rattle.em_program.specs.declared.stop.Stop.{Stop}
-use Rattle.em_program.specs.declared.stop.Stop.TheVariants.{End, Failed, NoMemory}
+use Rattle.em_program.specs.declared.verdict.BuildStatus.{BuildStatus}
+use Rattle.em_program.specs.declared.stop.RunEnd.{RunEnd}
+use Rattle.em_program.specs.declared.stop.RunEnd.TheVariants.{End, Failed, NoMemory}
 
 -- calls that end with a value, or end the run with a status
 pub record Trace (A : Type 0) : Type 0 where
   pub calls : List Call
-  pub end : Result A Verdict
+  pub end : Result A BuildStatus
 
 abbrev pub Course : Type 0 → Type 0
 Course A = Files → Trace A
@@ -34,7 +34,7 @@ Course A = Files → Trace A
 abbrev pub behind : {A : Type 0} → List Call → Trace A → Trace A
 behind calls steps = record { calls = calls ++ steps.calls; end = steps.end }
 
-abbrev pub go_on : {A B : Type 0} → List Call → Result A Verdict → (A → Course B) → Course B
+abbrev pub go_on : {A B : Type 0} → List Call → Result A BuildStatus → (A → Course B) → Course B
 go_on calls (Ok a) k = λ files. behind calls (k a (files_after calls files))
 go_on calls (Err verdict) k = λ files. record { calls = calls; end = Err verdict }
 
@@ -45,7 +45,7 @@ m >>= k = λ files. go_on (m files).calls (m files).end k files
 unfoldable pub done : {A : Type 0} → A → Course A
 done a = λ files. record { calls = []; end = Ok a }
 
-unfoldable pub quit : {A : Type 0} → Verdict → Course A
+unfoldable pub quit : {A : Type 0} → BuildStatus → Course A
 quit verdict = λ files. record { calls = []; end = Err verdict }
 
 unfoldable pub say : List ℕ → Course (Unit {0})
@@ -57,7 +57,7 @@ take name = λ files. record { calls = Take name ∷ []; end = Ok (get files nam
 unfoldable pub keep : List ℕ → List ℕ → Course (Unit {0})
 keep name bytes = λ files. record { calls = Replace name bytes ∷ []; end = Ok tt }
 
-abbrev pub stop : {A : Type 0} → List ℕ → Verdict → Course A
+abbrev pub stop : {A : Type 0} → List ℕ → BuildStatus → Course A
 stop text verdict = do
   u ← say text
   quit verdict
@@ -69,31 +69,31 @@ say_all texts = λ files. record { calls = prints texts; end = Ok tt }
 -- ---- what a function promises that follows a course
 
 -- the steps were made, whole, with this end
-pub record Ends {A : Type 0} (steps : Trace A) (end : Result A Verdict) (before after : Outside) : Type 0 where
+pub record Ends {A : Type 0} (steps : Trace A) (end : Result A BuildStatus) (before after : Outside) : Type 0 where
   pub same : steps.end ≡ end
   pub made : Makes steps.calls before after
 
-abbrev pub Meets : {A : Type 0} → Trace A → Result A Stop → Outside → Outside → Type 0
+abbrev pub Meets : {A : Type 0} → Trace A → Result A RunEnd → Outside → Outside → Type 0
 Meets steps (Ok a) before after = Ends steps (Ok a) before after
 Meets steps (Err (End verdict)) before after = Ends steps (Err verdict) before after
 Meets steps (Err Failed) before after = FailsIn true steps.calls before after
 Meets steps (Err NoMemory) before after = RunsOut steps.calls before after
 
 -- told: what the host told before and after
-pub record Follows {A : Type 0} (course : Course A) (result : Result A Stop) (before after : Option Outside) : Type 0 where
+pub record Follows {A : Type 0} (course : Course A) (result : Result A RunEnd) (before after : Option Outside) : Type 0 where
   pub told : Tells (λ x y. Meets (course x.files) result x y) before after
 
 -- the count of the host's faults after a function that answered so
-abbrev pub faults_after : {A : Type 0} → Result A Stop → ℕ → ℕ
+abbrev pub faults_after : {A : Type 0} → Result A RunEnd → ℕ → ℕ
 faults_after (Ok a) n = n
 faults_after (Err Failed) n = next_count n
 faults_after (Err (End verdict)) n = n
 faults_after (Err NoMemory) n = n
 
-abbrev pub stop_of : HostNo → Stop
+abbrev pub stop_of : HostNo → RunEnd
 stop_of no.Failed = Failed
 stop_of no.NoMemory = NoMemory
 
-abbrev pub stop_of_build : BuildNo → Stop
+abbrev pub stop_of_build : BuildNo → RunEnd
 stop_of_build build_no.Host = Failed
 stop_of_build build_no.NoMemory = NoMemory

@@ -31,12 +31,12 @@ use Rattle.em_program.specs.declared.build.JobsDone.{JobsDone}
 use Rattle.em_program.specs.declared.project.Project.{Project}
 use Rattle.em_program.specs.declared.project.Terms.{Terms}
 use Rattle.em_program.specs.declared.rounds.Remaking.{Remaking}
-use Rattle.em_program.specs.declared.rounds.Step.{Step}
+use Rattle.em_program.specs.declared.rounds.NextBuild.{NextBuild}
 use Rattle.em_program.specs.declared.site.Site.{Site}
-use Rattle.em_program.specs.declared.stop.Stop.{Stop}
-use Rattle.em_program.specs.declared.stop.Stop.TheVariants.{End, Failed, NoMemory}
-use Rattle.em_program.specs.declared.verdict.Verdict.{Verdict}
-use Rattle.em_program.specs.declared.verdict.Verdict.TheVariants.{Faulty}
+use Rattle.em_program.specs.declared.stop.RunEnd.{RunEnd}
+use Rattle.em_program.specs.declared.stop.RunEnd.TheVariants.{End, Failed, NoMemory}
+use Rattle.em_program.specs.declared.verdict.BuildStatus.{BuildStatus}
+use Rattle.em_program.specs.declared.verdict.BuildStatus.TheVariants.{Faulty}
 use Rattle.em_closing.specs.Closing.{closing}
 use Rattle.em_program.specs.Statuses.{code_of, status_of}
 use Rattle.em_program.specs.Course.{Trace, Course, ◌>>=◌, done, say, say_all, keep, stop, Follows, Meets}
@@ -47,7 +47,7 @@ use Rattle.em_program.specs.Serial.{ends}
 
 -- the closing text, the new image and the status; an image that breaks a limit isn't written, and
 -- its refusal is the last line
-abbrev pub closed : List ℕ → List ℕ → List Outcome → State → Result (List ℕ) ImageNo → Course Verdict
+abbrev pub closed : List ℕ → List ℕ → List Outcome → State → Result (List ℕ) ImageNo → Course BuildStatus
 closed image text earlier s (Ok bytes) = do
   u ← say text
   v ← keep image bytes
@@ -74,11 +74,11 @@ module _ (t : Terms) (notes : List Note) where
   history_kept mode.Merge = kept t.order.history history_text
   history_kept mode.Read = done tt
 
-  abbrev pub report_kept : List ℕ → Verdict → Course (Unit {0})
+  abbrev pub report_kept : List ℕ → BuildStatus → Course (Unit {0})
   report_kept fuel verdict = kept t.order.report (report_text (report_of t.plan.jobs t.waits notes fuel (code_of verdict)))
 
   -- without an image, as of a generated project, nothing is replaced
-  abbrev pub replaced : Option (List ℕ) → List ℕ → List ℕ → State → Course Verdict
+  abbrev pub replaced : Option (List ℕ) → List ℕ → List ℕ → State → Course BuildStatus
   replaced None fuel text s = do
     u ← say text
     done (status_of false false t.earlier.outcomes s.outcomes)
@@ -89,7 +89,7 @@ module _ (t : Terms) (notes : List Note) where
     done verdict
 
   -- asked: under `-q` nothing is said or replaced
-  abbrev pub finish : Bool → List ℕ → Bool → State → Course Verdict
+  abbrev pub finish : Bool → List ℕ → Bool → State → Course BuildStatus
   finish asked fuel early s =
       if asked then done (status_of true false t.earlier.outcomes s.outcomes)
       else replaced t.order.image fuel (closing t.order.silent t.plan s.outcomes t.goals early) s
@@ -106,7 +106,7 @@ is_whole p b = is_early p b || length b.made == length p.specs
 -- what the builds come to, as it is counted: how many jobs the last plan has, and how many nodes the
 -- last tree; and whether it is the whole of it
 pub record Tally : Type 0 where
-  pub verdict : Verdict
+  pub verdict : BuildStatus
   pub jobs : ℕ
   pub nodes : ℕ
   pub whole : Bool
@@ -121,11 +121,11 @@ abbrev pub asked_by : Order → Option Remaking → Bool
 asked_by order None = order.question
 asked_by order (Some m) = m.order.question
 
-abbrev pub is_asked : Step → Bool
+abbrev pub is_asked : NextBuild → Bool
 is_asked st = asked_by st.project.terms.order st.remaking
 
 -- the end, behind the last build
-abbrev pub tally_of : Terms → State → Verdict → Tally
+abbrev pub tally_of : Terms → State → BuildStatus → Tally
 tally_of t s verdict = record { verdict = verdict; jobs = length t.plan.jobs; nodes = len s.tree; whole = true }
 
 abbrev pub last_by : Terms → List Note → Bool → List ℕ → Bool → State → Course Tally
@@ -133,18 +133,18 @@ last_by t notes asked fuel early s = do
   verdict ← finish t notes asked fuel early s
   done (tally_of t s verdict)
 
-abbrev pub last_of : Step → Build → Course Tally
+abbrev pub last_of : NextBuild → Build → Course Tally
 last_of st b = last_by st.project.terms b.notes (is_asked st) (fuel_of b.made) (is_early st.project b) (left_by st.project b)
 
-abbrev pub next_or_last : (Step → Course Tally) → Step → Build → Option (Course Step) → Course Tally
+abbrev pub next_or_last : (NextBuild → Course Tally) → NextBuild → Build → Option (Course NextBuild) → Course Tally
 next_or_last later st b None = last_of st b
 next_or_last later st b (Some next) = next >>= later
 
-abbrev pub after_jobs : (Step → Course Tally) → Step → Build → Course Tally
+abbrev pub after_jobs : (NextBuild → Course Tally) → NextBuild → Build → Course Tally
 after_jobs later st b = if is_whole st.project b then next_or_last later st b (goes_on st b) else broken_off
 
 -- what the jobs of each build say, in order, and what follows them
-unfoldable pub run_from : List Build → Step → Course Tally
+unfoldable pub run_from : List Build → NextBuild → Course Tally
 run_from [] st = broken_off
 run_from (b ∷ bs) st = do
   u ← say_all (outputs_of b.made)
@@ -161,28 +161,28 @@ pub record HasRun (p : Project) (b : Build) : Type 0 where
 
 -- a fact of a step, where nothing is refused on the way to it. What is refused doesn't hang on the
 -- host's files
-abbrev pub Given : Course Step → (Step → Type 0) → Type 0
-Given next P = (st : Step) → (next empty).end ≡ Ok st → P st
+abbrev pub Given : Course NextBuild → (NextBuild → Type 0) → Type 0
+Given next P = (st : NextBuild) → (next empty).end ≡ Ok st → P st
 
 -- a fact of what follows a build
-abbrev pub Behind : Option (Course Step) → (Step → Type 0) → Type 0
+abbrev pub Behind : Option (Course NextBuild) → (NextBuild → Type 0) → Type 0
 Behind None P = Unit {0}
 Behind (Some next) P = Given next P
 
-abbrev pub AreRun : List Build → Step → Type 0
+abbrev pub AreRun : List Build → NextBuild → Type 0
 AreRun [] st = Unit {0}
 AreRun (b ∷ bs) st = HasRun st.project b × Behind (goes_on st b) (AreRun bs)
 
 -- each of them is all of its serial run, and none is missing
-abbrev pub AllAt : List Build → Result Step Verdict → (Step → Type 0) → Type 0
+abbrev pub AllAt : List Build → Result NextBuild BuildStatus → (NextBuild → Type 0) → Type 0
 AllAt bs (Ok st) P = P st
 AllAt bs (Err verdict) P = bs ≡ []
 
-abbrev pub AllBehind : List Build → Option (Course Step) → (Step → Type 0) → Type 0
+abbrev pub AllBehind : List Build → Option (Course NextBuild) → (NextBuild → Type 0) → Type 0
 AllBehind bs None P = bs ≡ []
 AllBehind bs (Some next) P = AllAt bs (next empty).end P
 
-abbrev pub AreAll : List Build → Step → Type 0
+abbrev pub AreAll : List Build → NextBuild → Type 0
 AreAll [] st = ⊥
 AreAll (b ∷ bs) st = IsSerial MakesAll ends st.project.start st.project.specs b.made × AllBehind bs (goes_on st b) (AreAll bs)
 
@@ -191,27 +191,27 @@ notes_of builds = flat_map (λ b. b.notes) builds
 
 -- ---- what the parts of a run answer
 
-abbrev pub verdict_in : Result Finished Stop → Result Verdict Stop
+abbrev pub verdict_in : Result Finished RunEnd → Result BuildStatus RunEnd
 verdict_in (Ok f) = Ok f.verdict
 verdict_in (Err e) = Err e
 
 -- none of a run that broke off, or that was refused
-abbrev pub notes_in : Result Finished Stop → List Note
+abbrev pub notes_in : Result Finished RunEnd → List Note
 notes_in (Ok f) = f.notes
 notes_in (Err e) = []
 
-abbrev pub tally_in : Result Finished Stop → Result Tally Stop
+abbrev pub tally_in : Result Finished RunEnd → Result Tally RunEnd
 tally_in (Ok f) = Ok (record { verdict = f.verdict; jobs = f.jobs; nodes = f.nodes; whole = true })
 tally_in (Err e) = Err e
 
 -- the run came to its end, or to a refusal
-abbrev pub IsOver : Result Finished Stop → Type 0
+abbrev pub IsOver : Result Finished RunEnd → Type 0
 IsOver (Ok f) = Unit {0}
 IsOver (Err (End verdict)) = Unit {0}
 IsOver (Err Failed) = ⊥
 IsOver (Err NoMemory) = ⊥
 
-abbrev pub unit_in : Result JobsDone Stop → Result (Unit {0}) Stop
+abbrev pub unit_in : Result JobsDone RunEnd → Result (Unit {0}) RunEnd
 unit_in (Ok d) = Ok tt
 unit_in (Err e) = Err e
 
@@ -225,14 +225,14 @@ pub record IsDone (p : Project) (b : Build) (d : JobsDone) : Type 0 where
 
 -- the jobs that were run have run so in the serial run; unless the run broke off, they are all of
 -- it. They are never refused
-pub record IsRan (p : Project) (result : Result JobsDone Stop) (before after : Option Outside) : Type 0 where
+pub record IsRan (p : Project) (result : Result JobsDone RunEnd) (before after : Option Outside) : Type 0 where
   pub build : Build
   pub has : HasRun p build
   pub whole : IfOk result (IsDone p build)
-  pub short : (verdict : Verdict) → result ≡ Err (End verdict) → ⊥
+  pub short : (verdict : BuildStatus) → result ≡ Err (End verdict) → ⊥
   pub follows : Follows (say_all (outputs_of build.made)) (unit_in result) before after
 
-pub record IsRun (st : Step) (result : Result Finished Stop) (before after : Outside) : Type 0 where
+pub record IsRun (st : NextBuild) (result : Result Finished RunEnd) (before after : Outside) : Type 0 where
   pub builds : List Build
   pub run : AreRun builds st
   pub all : IsOver result → AreAll builds st
@@ -244,46 +244,46 @@ pub record IsRun (st : Step) (result : Result Finished Stop) (before after : Out
 abbrev pub working : List Build → Site → Course Tally
 working builds s = first s >>= run_from builds
 
-pub record AreSo (s : Site) (builds : List Build) (result : Result Finished Stop) : Type 0 where
+pub record AreSo (s : Site) (builds : List Build) (result : Result Finished RunEnd) : Type 0 where
   pub run : Given (first s) (AreRun builds)
   pub all : IsOver result → AllAt builds (first s empty).end (AreAll builds)
   pub notes : IfOk result (λ f. f.notes ≡ s.earlier.notes ++ notes_of builds)
 
-pub record IsWork (s : Site) (result : Result Finished Stop) (before after : Outside) : Type 0 where
+pub record IsWork (s : Site) (result : Result Finished RunEnd) (before after : Outside) : Type 0 where
   pub builds : List Build
   pub so : AreSo s builds result
   pub meets : Meets (working builds s before.files) (tally_in result) before after
 
 -- ---- all of it
 
-abbrev pub summed : List Call → Tally → Course Verdict
+abbrev pub summed : List Call → Tally → Course BuildStatus
 summed calls t = do
   u ← say (summary t.jobs (length (printed_by calls)) t.nodes (code_of t.verdict))
   done t.verdict
 
 -- only the summary is said, with the number of bytes that would be said in a build; or all of them,
 -- where they end in a refusal; nothing of a run that broke off
-abbrev pub counted_as : List Call → Result Tally Verdict → Course Verdict
+abbrev pub counted_as : List Call → Result Tally BuildStatus → Course BuildStatus
 counted_as calls (Ok t) = if t.whole then summed calls t else done t.verdict
 counted_as calls (Err verdict) = stop (printed_by calls) verdict
 
-abbrev pub counted : Trace Tally → Course Verdict
+abbrev pub counted : Trace Tally → Course BuildStatus
 counted steps = counted_as steps.calls steps.end
 
 -- a generated project is built beside the host, without a file of it
-pub record IsCount (s : Site) (result : Result Finished Stop) (before after : Outside) : Type 0 where
+pub record IsCount (s : Site) (result : Result Finished RunEnd) (before after : Outside) : Type 0 where
   pub builds : List Build
   pub so : AreSo s builds result
   pub meets : Meets (counted (working builds s empty) before.files) (verdict_in result) before after
 
-abbrev pub answered : Option ℕ → Course Tally → Course Verdict
+abbrev pub answered : Option ℕ → Course Tally → Course BuildStatus
 answered None work = do
   t ← work
   done t.verdict
 answered (Some n) work = counted (work empty)
 
-unfoldable pub ended_at : List Build → Site → Course Verdict
+unfoldable pub ended_at : List Build → Site → Course BuildStatus
 ended_at builds s = answered s.order.generate (working builds s)
 
-abbrev pub ended : List (List ℕ) → List Build → Course Verdict
+abbrev pub ended : List (List ℕ) → List Build → Course BuildStatus
 ended words builds = site words >>= ended_at builds

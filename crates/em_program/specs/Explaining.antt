@@ -8,7 +8,7 @@ use Rattle.em_insight.specs.Telling.{explanation}
 use Rattle.em_report.specs.declared.report.Report.{Report}
 use Rattle.em_report.specs.declared.report.ReportLine.{ReportLine}
 use Rattle.em_report.specs.Reading.{reading}
-use Rattle.em_program.specs.declared.verdict.Verdict.TheVariants.{Done, Faulty}
+use Rattle.em_program.specs.declared.verdict.BuildStatus.TheVariants.{Done, Faulty}
 use Rattle.em_program.specs.Course.{Course, ◌>>=◌, done, take, stop}
 use Rattle.em_program.specs.Messages.{no_report, report_line, insight_line}
 

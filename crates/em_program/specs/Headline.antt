@@ -10,22 +10,22 @@ use Rattle.em_host.specs.Calls.{printed_by, files_after, Makes, FailsIn}
 use Rattle.em_engine.specs.declared.note.Note.{Note}
 use Rattle.em_workers.specs.Printing.{RunsOut}
 use Rattle.em_program.specs.declared.build.Finished.{Finished}
-use Rattle.em_program.specs.declared.rounds.Step.{Step}
-use Rattle.em_program.specs.declared.verdict.Verdict.{Verdict}
-use Rattle.em_program.specs.declared.stop.Stop.{Stop}
-use Rattle.em_program.specs.declared.stop.Stop.TheVariants.{End, Failed, NoMemory}
+use Rattle.em_program.specs.declared.rounds.NextBuild.{NextBuild}
+use Rattle.em_program.specs.declared.verdict.BuildStatus.{BuildStatus}
+use Rattle.em_program.specs.declared.stop.RunEnd.{RunEnd}
+use Rattle.em_program.specs.declared.stop.RunEnd.TheVariants.{End, Failed, NoMemory}
 use Rattle.em_program.specs.Statuses.{code_of}
 use Rattle.em_program.specs.Course.{Trace, ◌>>=◌, Meets}
 use Rattle.em_program.specs.Endings.{ended, verdict_in, notes_of, AllAt, AreAll, AreRun, IsOver}
 use Rattle.em_program.specs.Projects.{site}
 use Rattle.em_program.specs.Rounds.{Build, first}
 
-abbrev pub verdict_of : Result Verdict Verdict → Verdict
+abbrev pub verdict_of : Result BuildStatus BuildStatus → BuildStatus
 verdict_of (Ok verdict) = verdict
 verdict_of (Err verdict) = verdict
 
 -- the status of a run that answered so
-abbrev pub exit_status : Result Verdict Stop → ℕ
+abbrev pub exit_status : Result BuildStatus RunEnd → ℕ
 exit_status (Ok verdict) = code_of verdict
 exit_status (Err (End verdict)) = code_of verdict
 exit_status (Err Failed) = 3
@@ -37,7 +37,7 @@ pub record IsCut (calls : List Call) (before after : Outside) : Type 0 where
   pub files : (n : ℕ) × (after.files ≡ files_after (take n calls) before.files)
 
 -- the ending's calls are made, in order, and no other
-pub record Comes (ending : Trace Verdict) (code : ℕ) (before after : Outside) : Type 0 where
+pub record Comes (ending : Trace BuildStatus) (code : ℕ) (before after : Outside) : Type 0 where
   -- at a status other than 3 and 7 all of them, and each answered Ok
   pub status : code ≢ 3 → code ≢ 7 → code ≡ code_of (verdict_of ending.end)
   pub done : code ≢ 3 → code ≢ 7 → Makes ending.calls before after
@@ -48,20 +48,20 @@ pub record Comes (ending : Trace Verdict) (code : ℕ) (before after : Outside) 
   pub cut : (code ≡ 3) ⊎ (code ≡ 7) → IsCut ending.calls before after
 
 -- the first build of the words, or why there is none
-abbrev pub first_in : List (List ℕ) → Files → Result Step Verdict
+abbrev pub first_in : List (List ℕ) → Files → Result NextBuild BuildStatus
 first_in words files = ((site words >>= first) files).end
 
 -- a fact of it, where nothing is refused before it
-abbrev pub Built : List (List ℕ) → Files → (Step → Type 0) → Type 0
-Built words files P = (st : Step) → first_in words files ≡ Ok st → P st
+abbrev pub Built : List (List ℕ) → Files → (NextBuild → Type 0) → Type 0
+Built words files P = (st : NextBuild) → first_in words files ≡ Ok st → P st
 
 -- the notes of all builds, unless the run was refused
-abbrev pub told_of : List Build → Result Verdict Verdict → List Note
+abbrev pub told_of : List Build → Result BuildStatus BuildStatus → List Note
 told_of builds (Ok verdict) = notes_of builds
 told_of builds (Err verdict) = []
 
 -- the same of what a run answered
-pub record Reaches (words : List (List ℕ)) (result : Result Finished Stop) (before after : Outside) : Type 0 where
+pub record Reaches (words : List (List ℕ)) (result : Result Finished RunEnd) (before after : Outside) : Type 0 where
   pub builds : List Build
   pub run : Built words before.files (AreRun builds)
   pub all : IsOver result → AllAt builds (first_in words before.files) (AreAll builds)

@@ -43,8 +43,8 @@ use Rattle.em_program.specs.declared.project.Project.{Project}
 use Rattle.em_program.specs.declared.project.Terms.{Terms}
 use Rattle.em_program.specs.declared.site.Earlier.{Earlier}
 use Rattle.em_program.specs.declared.site.Site.{Site}
-use Rattle.em_program.specs.declared.verdict.Verdict.{Verdict}
-use Rattle.em_program.specs.declared.verdict.Verdict.TheVariants.{Faulty}
+use Rattle.em_program.specs.declared.verdict.BuildStatus.{BuildStatus}
+use Rattle.em_program.specs.declared.verdict.BuildStatus.TheVariants.{Faulty}
 use Rattle.em_program.specs.Course.{Course, ◌>>=◌, done, say, take, stop}
 use Rattle.em_closing.specs.Refusals.{dir_line, read_line, plan_line}
 use Rattle.em_program.specs.Messages.{bad_words, no_image, image_line}

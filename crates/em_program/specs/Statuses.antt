@@ -9,8 +9,8 @@ use Rattle.em_cmdline.specs.declared.order.Order.{Order}
 use Rattle.em_closing.specs.Closing.{is_made}
 pub use Rattle.em_closing.specs.Closing.{is_faulty}
 use Rattle.em_job.specs.Making.{ends_after, flags_of}
-use Rattle.em_program.specs.declared.verdict.Verdict.{Verdict}
-use Rattle.em_program.specs.declared.verdict.Verdict.TheVariants.{Done, Outdated, Faulty, Refused, Spent}
+use Rattle.em_program.specs.declared.verdict.BuildStatus.{BuildStatus}
+use Rattle.em_program.specs.declared.verdict.BuildStatus.TheVariants.{Done, Outdated, Faulty, Refused, Spent}
 
 abbrev pub is_spent : Outcome → Bool
 is_spent outcome.Spent = true
@@ -26,7 +26,7 @@ has_ended order outcomes = list_any (ends_after (flags_of order)) outcomes
 -- asked: it was only asked whether something is to be made. broken: the new image breaks a limit.
 -- earlier: of the jobs of the builds before the last one, which are makefiles'. Those were made
 -- whatever was asked
-abbrev pub status_of : Bool → Bool → List Outcome → List Outcome → Verdict
+abbrev pub status_of : Bool → Bool → List Outcome → List Outcome → BuildStatus
 status_of asked broken earlier outcomes =
     if list_any is_spent earlier || list_any is_spent outcomes then Spent
     else if list_any is_refused earlier || list_any is_refused outcomes then Refused
@@ -35,7 +35,7 @@ status_of asked broken earlier outcomes =
     else Done
 
 -- the process's exit status
-abbrev pub code_of : Verdict → ℕ
+abbrev pub code_of : BuildStatus → ℕ
 code_of Done = 0
 code_of Outdated = 1
 code_of Faulty = 2

@@ -12,7 +12,7 @@ use Rattle.em_cmdline.specs.declared.order.WordNo.{WordNo}
 use Rattle.em_cmdline.specs.Words.{refusal, order_of}
 use Rattle.em_cmdline.specs.Pages.{page_in, text_of}
 use Rattle.em_cmdline.specs.declared.page.Page.{Page}
-use Rattle.em_program.specs.declared.verdict.Verdict.TheVariants.{Done, Faulty}
+use Rattle.em_program.specs.declared.verdict.BuildStatus.TheVariants.{Done, Faulty}
 use Rattle.em_program.specs.Course.{Course, done, stop}
 use Rattle.em_closing.specs.Refusals.{word_line}
 

@@ -9,11 +9,11 @@ ghost use Rattle.em_program.specs.Rounds.{IsStep};
 
 use crate::ending::finish;
 use crate::project::{Project, Terms};
-use crate::rounds::{Step, behind, joined};
+use crate::rounds::{NextBuild, behind, joined};
 use crate::site::Earlier;
 use crate::status::has_ended;
-use crate::stop::Stop;
-use crate::verdict::Verdict;
+use crate::stop::RunEnd;
+use crate::verdict::BuildStatus;
 use em_base::{NoMemory, Seq};
 use em_engine::Note;
 use em_host::Host;
@@ -27,7 +27,7 @@ use std::thread::Threads;
 /// What a run comes to, unless it is refused or breaks off.
 #[derive(Drop)]
 pub struct Finished {
-    pub verdict: Verdict,
+    pub verdict: BuildStatus,
     /// One for each job of the serial runs, in order.
     pub notes: Seq<Note>,
     /// How many jobs the last plan has.
@@ -62,7 +62,7 @@ fn ran<R: Threads + Wait + Sync, W: Work<MakeSpec> + Sync, G: Gate + Sync, H: Ho
     w: &W,
     gate: &G,
     host: &mut H,
-) -> Result<JobsDone, Stop>
+) -> Result<JobsDone, RunEnd>
     requires { IsReady project }
     ensures ran { IsRan project result (H.told host.old) (H.told host.new) }
     ensures faults { H.faults host.new ≡ faults_after result (H.faults host.old) }
@@ -85,7 +85,7 @@ fn ended<H: Host>(
     early: bool,
     done: JobsDone,
     host: &mut H,
-) -> Result<Finished, Stop>
+) -> Result<Finished, RunEnd>
     ensures told { Follows
         (endings.last_by done.terms done.built.notes asked done.built.fuel early done.built.state)
         (tally_in result) (H.told host.old) (H.told host.new) }
@@ -137,14 +137,14 @@ fn ended<H: Host>(
 pub fn run_from<R: Threads + Wait + Sync, H: Host>(
     rt: &R,
     alloc: Global,
-    step: Step,
+    step: NextBuild,
     host: &mut H,
-) -> Result<Finished, Stop>
+) -> Result<Finished, RunEnd>
     requires { IsStep step }
     ensures told { Tells (IsRun step result) (H.told host.old) (H.told host.new) }
     ensures faults { H.faults host.new ≡ faults_after result (H.faults host.old) }
 {
-    let Step { project, remaking } = step;
+    let NextBuild { project, remaking } = step;
     let work = MakeWork::new();
     let done = ran(rt, alloc, project, &work, &OpenGate, host)?;
     let early = has_ended(&done.terms.order, done.built.state.outcomes.items());

@@ -6,8 +6,8 @@ ghost use Rattle.em_program.specs.Explaining as explaining;
 
 use crate::messages::{NO_REPORT, insight_line, report_line};
 use crate::say::{stop, take};
-use crate::stop::Stop;
-use crate::verdict::Verdict;
+use crate::stop::RunEnd;
+use crate::verdict::BuildStatus;
 use em_base::Text;
 use em_cmdline::Order;
 use em_host::Host;
@@ -16,35 +16,35 @@ use em_report::{Report, ReportNo, read};
 use std::alloc::Global;
 
 /// The report's bytes.
-fn report_in<H: Host>(alloc: Global, name: &[u8], host: &mut H) -> Result<Text, Stop>
+fn report_in<H: Host>(alloc: Global, name: &[u8], host: &mut H) -> Result<Text, RunEnd>
     ensures told { Follows (explaining.report_in name.now) result (H.told host.old)
         (H.told host.new) }
     ensures faults { H.faults host.new ≡ faults_after result (H.faults host.old) }
 {
     match take(alloc, host, name)? {
         Some(bytes) => Ok(bytes),
-        None => stop(host, NO_REPORT, Verdict::Faulty),
+        None => stop(host, NO_REPORT, BuildStatus::Faulty),
     }
 }
 
 /// The report that they tell.
-fn report_of<H: Host>(alloc: Global, bytes: &[u8], host: &mut H) -> Result<Report, Stop>
+fn report_of<H: Host>(alloc: Global, bytes: &[u8], host: &mut H) -> Result<Report, RunEnd>
     ensures told { Follows (explaining.report_of bytes.now) result (H.told host.old)
         (H.told host.new) }
     ensures faults { H.faults host.new ≡ faults_after result (H.faults host.old) }
 {
     match read(alloc, bytes) {
         Ok(report) => Ok(report),
-        Err(ReportNo::NoMemory) => Err(Stop::NoMemory),
+        Err(ReportNo::NoMemory) => Err(RunEnd::NoMemory),
         Err(ReportNo::Form(at)) => {
             let line = report_line(alloc, at)?;
-            stop(host, line.bytes(), Verdict::Faulty)
+            stop(host, line.bytes(), BuildStatus::Faulty)
         }
     }
 }
 
 /// Says what the report tells, which ends the run.
-fn told_of<H: Host>(alloc: Global, report: &Report, agents: u32, host: &mut H) -> Result<(), Stop>
+fn told_of<H: Host>(alloc: Global, report: &Report, agents: u32, host: &mut H) -> Result<(), RunEnd>
     requires some { 1 ≤ agents }
     requires few { agents ≤ 64 }
     ensures told { Follows (explaining.told_of agents report.now.lines) result (H.told host.old)
@@ -52,18 +52,18 @@ fn told_of<H: Host>(alloc: Global, report: &Report, agents: u32, host: &mut H) -
     ensures faults { H.faults host.new ≡ faults_after result (H.faults host.old) }
 {
     match explanation(alloc, report, agents) {
-        Ok(text) => stop(host, text.bytes(), Verdict::Done),
-        Err(InsightNo::NoMemory) => Err(Stop::NoMemory),
+        Ok(text) => stop(host, text.bytes(), BuildStatus::Done),
+        Err(InsightNo::NoMemory) => Err(RunEnd::NoMemory),
         Err(no) => {
             let line = insight_line(alloc, no)?;
-            stop(host, line.bytes(), Verdict::Faulty)
+            stop(host, line.bytes(), BuildStatus::Faulty)
         }
     }
 }
 
 /// Where a report is to be explained, says what it tells and ends the run; else does nothing. Takes
 /// what `explanation` does, and steps for the report's bytes.
-pub fn explained<H: Host>(alloc: Global, order: &Order, host: &mut H) -> Result<(), Stop>
+pub fn explained<H: Host>(alloc: Global, order: &Order, host: &mut H) -> Result<(), RunEnd>
     requires { HasRanges order.now }
     ensures told { Follows (explaining.explained order.now) result (H.told host.old)
         (H.told host.new) }

@@ -9,8 +9,8 @@ ghost use Rattle.em_program.specs.Projects.{HasRoom, IsReady, IsSite};
 
 use crate::say::{say, stop};
 use crate::site::{Earlier, Site};
-use crate::stop::Stop;
-use crate::verdict::Verdict;
+use crate::stop::RunEnd;
+use crate::verdict::BuildStatus;
 use em_base::{NoMemory, Seq, Text};
 use em_closing::{Goal, dir_line, fault_line, goals_of, plan_line};
 use em_cmdline::Order;
@@ -51,18 +51,23 @@ pub struct Project {
 }
 
 /// The refusal of `-C`.
-fn no_dir<H: Host>(alloc: Global, name: &[u8], host: &mut H) -> Result<Path, Stop>
+fn no_dir<H: Host>(alloc: Global, name: &[u8], host: &mut H) -> Result<Path, RunEnd>
     ensures told { Follows (projects.no_dir name.now) result (H.told host.old) (H.told host.new) }
     ensures faults { H.faults host.new ≡ faults_after result (H.faults host.old) }
     ensures ends { IsErr result }
 {
     let line = dir_line(alloc, name)?;
-    stop(host, line.bytes(), Verdict::Faulty)
+    stop(host, line.bytes(), BuildStatus::Faulty)
 }
 
 /// The working directory: `-C` names a directory of the tree, or a link to one, and keeps the name
 /// that was given.
-pub fn entered<H: Host>(alloc: Global, tree: &Tree, name: &[u8], host: &mut H) -> Result<Path, Stop>
+pub fn entered<H: Host>(
+    alloc: Global,
+    tree: &Tree,
+    name: &[u8],
+    host: &mut H,
+) -> Result<Path, RunEnd>
     ensures told { Follows (projects.entered tree.now name.now) result
         (H.told host.old) (H.told host.new) }
     ensures faults { H.faults host.new ≡ faults_after result (H.faults host.old) }
@@ -77,7 +82,7 @@ pub fn entered<H: Host>(alloc: Global, tree: &Tree, name: &[u8], host: &mut H) -
             }
         }
         Err(no) => match no {
-            PathNo::NoMemory => Err(Stop::NoMemory),
+            PathNo::NoMemory => Err(RunEnd::NoMemory),
             _ => no_dir(alloc, name, host),
         },
     }
@@ -90,7 +95,7 @@ pub fn round_of<H: Host>(
     order: &Order,
     start: &State,
     host: &mut H,
-) -> Result<Round, Stop>
+) -> Result<Round, RunEnd>
     requires { read_fault root_text order.now.dir ≡ None }
     ensures told { Follows (projects.round_of order.now start.now) result
         (H.told host.old) (H.told host.new) }
@@ -103,11 +108,11 @@ pub fn round_of<H: Host>(
             Ok(round)
         }
         Err(no) => match no {
-            ReadNo::NoMemory => Err(Stop::NoMemory),
+            ReadNo::NoMemory => Err(RunEnd::NoMemory),
             ReadNo::At(place, fault) => {
                 let line = fault_line(alloc, &place, &fault)?;
                 say(host, said.bytes())?;
-                stop(host, line.bytes(), Verdict::Faulty)
+                stop(host, line.bytes(), BuildStatus::Faulty)
             }
         },
     }
@@ -121,7 +126,7 @@ fn planned<H: Host>(
     tree: &Tree,
     cwd: &Path,
     host: &mut H,
-) -> Result<Plan, Stop>
+) -> Result<Plan, RunEnd>
     ensures told { Follows (projects.planned book.now order.now tree.now cwd.now) result
         (H.told host.old) (H.told host.new) }
     ensures faults { H.faults host.new ≡ faults_after result (H.faults host.old) }
@@ -136,10 +141,10 @@ fn planned<H: Host>(
             Ok(plan)
         }
         Err(no) => match no {
-            PlanNo::NoMemory => Err(Stop::NoMemory),
+            PlanNo::NoMemory => Err(RunEnd::NoMemory),
             _ => {
                 let line = plan_line(alloc, book.found, no)?;
-                stop(host, line.bytes(), Verdict::Faulty)
+                stop(host, line.bytes(), BuildStatus::Faulty)
             }
         },
     }
@@ -186,7 +191,7 @@ pub fn project_at<H: Host>(
     book: &Book,
     cwd: &Path,
     host: &mut H,
-) -> Result<Project, Stop>
+) -> Result<Project, RunEnd>
     requires site { IsSite site }
     requires room { HasRoom site.start.tree }
     requires dir { read_fault root_text site.order.dir ≡ None }

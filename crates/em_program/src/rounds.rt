@@ -11,8 +11,8 @@ use crate::messages::{STILL_CHANGING, image_line};
 use crate::project::{Project, Terms, entered, project_at, round_of};
 use crate::say::stop;
 use crate::site::{Earlier, Site, fresh};
-use crate::stop::Stop;
-use crate::verdict::Verdict;
+use crate::stop::RunEnd;
+use crate::verdict::BuildStatus;
 use em_base::{NoMemory, Seq, Text};
 use em_closing::fault_line;
 use em_cmdline::Order;
@@ -22,7 +22,7 @@ use em_host::Host;
 use em_image::{ImageNo, Which};
 use em_learning::learnt;
 use em_path::{Path, PathNo};
-use em_reader::{Fault, Missing, Round};
+use em_reader::{MakefileFault, Missing, Round};
 use em_remake::{changed, goals_of};
 use em_tree::{Kind, State, Tree};
 use em_workers::Built;
@@ -52,7 +52,7 @@ pub struct Remaking {
 
 /// What is built next.
 #[derive(Drop)]
-pub struct Step {
+pub struct NextBuild {
     pub project: Project,
     /// The round for which it is built; the goals of the words, where it is none.
     pub remaking: Option<Remaking>,
@@ -61,7 +61,7 @@ pub struct Step {
 // ---- what a round begins with, and what follows the last one
 
 /// Whether numbers are left for the changes of a build on the tree. Linear in the nodes.
-fn based<H: Host>(alloc: Global, tree: &Tree, host: &mut H) -> Result<(), Stop>
+fn based<H: Host>(alloc: Global, tree: &Tree, host: &mut H) -> Result<(), RunEnd>
     ensures told { Follows (rounds.based tree.now) result (H.told host.old) (H.told host.new) }
     ensures faults { H.faults host.new ≡ faults_after result (H.faults host.old) }
     ensures room { IfOk result (λ u. HasRoom tree.now) }
@@ -74,7 +74,7 @@ fn based<H: Host>(alloc: Global, tree: &Tree, host: &mut H) -> Result<(), Stop>
                 at: 0,
             },
         )?;
-        return stop(host, line.bytes(), Verdict::Faulty);
+        return stop(host, line.bytes(), BuildStatus::Faulty);
     }
     Ok(())
 }
@@ -122,7 +122,7 @@ fn all_there<H: Host>(
     cwd: &Path,
     missing: &[Missing],
     host: &mut H,
-) -> Result<(), Stop>
+) -> Result<(), RunEnd>
     ensures told { Follows (rounds.all_there tree.now cwd.now missing.now) result
         (H.told host.old) (H.told host.new) }
     ensures faults { H.faults host.new ≡ faults_after result (H.faults host.old) }
@@ -130,9 +130,9 @@ fn all_there<H: Host>(
     match first_lacking(alloc, tree, cwd, missing)? {
         None => Ok(()),
         Some(lacking) => {
-            let fault = Fault::Include(lacking.name.copy(alloc)?);
+            let fault = MakefileFault::Include(lacking.name.copy(alloc)?);
             let line = fault_line(alloc, &lacking.place, &fault)?;
-            stop(host, line.bytes(), Verdict::Faulty)
+            stop(host, line.bytes(), BuildStatus::Faulty)
         }
     }
 }
@@ -195,7 +195,7 @@ fn last_step<H: Host>(
     cwd: &Path,
     round: &Round,
     host: &mut H,
-) -> Result<Step, Stop>
+) -> Result<NextBuild, RunEnd>
     requires site { IsSite site }
     requires order { IsOrder site.order }
     ensures told { Follows (rounds.final site cwd.now round.now) result
@@ -206,7 +206,7 @@ fn last_step<H: Host>(
     all_there(alloc, &site.start.tree, cwd, round.missing.items(), host)?;
     based(alloc, &site.start.tree, host)?;
     let project = project_at(alloc, site, &round.book, cwd, host)?;
-    Ok(Step {
+    Ok(NextBuild {
         project,
         remaking: None,
     })
@@ -221,7 +221,7 @@ fn remade_step<H: Host>(
     round: Round,
     goals: Seq<Text>,
     host: &mut H,
-) -> Result<Step, Stop>
+) -> Result<NextBuild, RunEnd>
     requires site { IsSite site }
     requires order { IsOrder site.order }
     requires room { HasRoom site.start.tree }
@@ -252,7 +252,7 @@ fn remade_step<H: Host>(
         before,
         left,
     };
-    Ok(Step {
+    Ok(NextBuild {
         project,
         remaking: Some(remaking),
     })
@@ -265,7 +265,7 @@ fn round<H: Host>(
     site: Site,
     cwd: Path,
     host: &mut H,
-) -> Result<Step, Stop>
+) -> Result<NextBuild, RunEnd>
     requires site { IsSite site }
     requires order { IsOrder site.order }
     ensures told { Follows (rounds.round left site cwd) result (H.told host.old) (H.told host.new) }
@@ -273,7 +273,7 @@ fn round<H: Host>(
     ensures is { IfOk result (IsNext site.earlier left) }
 {
     if left == 0 {
-        return stop(host, STILL_CHANGING, Verdict::Faulty);
+        return stop(host, STILL_CHANGING, BuildStatus::Faulty);
     }
     based(alloc, &site.start.tree, host)?;
     let found = round_of(alloc, &site.order, &site.start, host)?;
@@ -286,7 +286,7 @@ fn round<H: Host>(
 
 /// The first build at the site. It takes what reading and planning take, and a copy of the tree
 /// where makefiles are to be made.
-pub fn first<H: Host>(alloc: Global, site: Site, host: &mut H) -> Result<Step, Stop>
+pub fn first<H: Host>(alloc: Global, site: Site, host: &mut H) -> Result<NextBuild, RunEnd>
     requires { IsSite site }
     ensures told { Follows (rounds.first site) result (H.told host.old) (H.told host.new) }
     ensures faults { H.faults host.new ≡ faults_after result (H.faults host.old) }
@@ -368,7 +368,7 @@ pub fn behind<H: Host>(
     remaking: Remaking,
     done: JobsDone,
     host: &mut H,
-) -> Result<Step, Stop>
+) -> Result<NextBuild, RunEnd>
     requires { IsOrder remaking.order }
     ensures told { Follows (rounds.following remaking
         (rounds.moved remaking.order done.terms done.built.state done.built.notes)) result

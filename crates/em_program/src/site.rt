@@ -7,8 +7,8 @@ ghost use Rattle.em_program.specs.Projects as projects;
 use crate::explain::explained;
 use crate::messages::{BAD_WORDS, NO_IMAGE, image_line};
 use crate::say::{stop, take};
-use crate::stop::Stop;
-use crate::verdict::Verdict;
+use crate::stop::RunEnd;
+use crate::verdict::BuildStatus;
 use crate::words::ordered;
 use em_base::{NoMemory, Seq, Text};
 use em_cmdline::{HistoryMode, Order};
@@ -43,35 +43,35 @@ pub struct Site {
 }
 
 /// The image's bytes.
-fn image_in<H: Host>(alloc: Global, name: &[u8], host: &mut H) -> Result<Text, Stop>
+fn image_in<H: Host>(alloc: Global, name: &[u8], host: &mut H) -> Result<Text, RunEnd>
     ensures told { Follows (projects.image_in name.now) result (H.told host.old) (H.told host.new) }
     ensures faults { H.faults host.new ≡ faults_after result (H.faults host.old) }
 {
     match take(alloc, host, name)? {
         Some(bytes) => Ok(bytes),
-        None => stop(host, NO_IMAGE, Verdict::Faulty),
+        None => stop(host, NO_IMAGE, BuildStatus::Faulty),
     }
 }
 
 /// The tree that the image holds. No byte is copied.
-fn tree_of<H: Host>(alloc: Global, bytes: Text, host: &mut H) -> Result<Tree, Stop>
+fn tree_of<H: Host>(alloc: Global, bytes: Text, host: &mut H) -> Result<Tree, RunEnd>
     ensures told { Follows (projects.tree_of bytes) result (H.told host.old) (H.told host.new) }
     ensures faults { H.faults host.new ≡ faults_after result (H.faults host.old) }
 {
     match read_text(alloc, bytes) {
         Ok(tree) => Ok(tree),
         Err(no) => match no {
-            ImageNo::NoMemory => Err(Stop::NoMemory),
+            ImageNo::NoMemory => Err(RunEnd::NoMemory),
             _ => {
                 let line = image_line(alloc, no)?;
-                stop(host, line.bytes(), Verdict::Faulty)
+                stop(host, line.bytes(), BuildStatus::Faulty)
             }
         },
     }
 }
 
 /// The tree from which the build starts: a generated project's, or the image's.
-fn tree_in<H: Host>(alloc: Global, order: &Order, host: &mut H) -> Result<Tree, Stop>
+fn tree_in<H: Host>(alloc: Global, order: &Order, host: &mut H) -> Result<Tree, RunEnd>
     requires { HasRanges order.now }
     ensures told { Follows (projects.tree_in order.now.generate order.now.image) result
         (H.told host.old) (H.told host.new) }
@@ -84,7 +84,7 @@ fn tree_in<H: Host>(alloc: Global, order: &Order, host: &mut H) -> Result<Tree, 
                 let bytes = image_in(alloc, name.bytes(), host)?;
                 tree_of(alloc, bytes, host)
             }
-            None => stop(host, BAD_WORDS, Verdict::Faulty),
+            None => stop(host, BAD_WORDS, BuildStatus::Faulty),
         },
     }
 }
@@ -99,7 +99,11 @@ fn pairs_of(alloc: Global, found: &Option<Text>) -> Result<History, NoMemory>
     }
 }
 
-fn recalled_from<H: Host>(alloc: Global, name: &Option<Text>, host: &mut H) -> Result<History, Stop>
+fn recalled_from<H: Host>(
+    alloc: Global,
+    name: &Option<Text>,
+    host: &mut H,
+) -> Result<History, RunEnd>
     ensures told { Follows (projects.recalled_from name.now) result (H.told host.old)
         (H.told host.new) }
     ensures faults { H.faults host.new ≡ faults_after result (H.faults host.old) }
@@ -114,7 +118,7 @@ fn recalled_from<H: Host>(alloc: Global, name: &Option<Text>, host: &mut H) -> R
 }
 
 /// What is known of earlier builds. Where it begins anew the file isn't looked at.
-fn recalled<H: Host>(alloc: Global, order: &Order, host: &mut H) -> Result<History, Stop>
+fn recalled<H: Host>(alloc: Global, order: &Order, host: &mut H) -> Result<History, RunEnd>
     ensures told { Follows (projects.recalled order.now.mode order.now.history) result
         (H.told host.old) (H.told host.new) }
     ensures faults { H.faults host.new ≡ faults_after result (H.faults host.old) }
@@ -138,7 +142,7 @@ pub fn fresh(alloc: Global, tree: Tree) -> State
 
 /// Where the words order to build; a page and an explanation end the run before. Linear in the
 /// image and in the history.
-pub fn site_of<H: Host>(alloc: Global, words: &[Text], host: &mut H) -> Result<Site, Stop>
+pub fn site_of<H: Host>(alloc: Global, words: &[Text], host: &mut H) -> Result<Site, RunEnd>
     ensures told { Follows (projects.site words.now) result (H.told host.old) (H.told host.new) }
     ensures faults { H.faults host.new ≡ faults_after result (H.faults host.old) }
     ensures is { IfOk result projects.IsSite }

@@ -4,7 +4,7 @@ ghost use Rattle.std.specs.List.{list_any};
 ghost use Rattle.em_job.specs.Making.{ends_after, flags_of};
 ghost use Rattle.em_program.specs.Statuses as statuses;
 
-use crate::verdict::Verdict;
+use crate::verdict::BuildStatus;
 use em_closing::{has_faulty, has_made};
 use em_cmdline::Order;
 use em_task::Flags;
@@ -41,18 +41,23 @@ pub fn has_ended(order: &Order, outcomes: &[Outcome]) -> bool
 /// The run's status, by the outcomes of its last build, and of the builds before; `asked` tells
 /// that it was only asked whether something is to be made, and `broken` that the new image breaks a
 /// limit. Linear in all of them.
-pub fn status_of(asked: bool, broken: bool, earlier: &[Outcome], outcomes: &[Outcome]) -> Verdict
+pub fn status_of(
+    asked: bool,
+    broken: bool,
+    earlier: &[Outcome],
+    outcomes: &[Outcome],
+) -> BuildStatus
     ensures { result ≡ statuses.status_of asked broken earlier.now outcomes.now }
 {
     if has_spent(earlier) || has_spent(outcomes) {
-        Verdict::Spent
+        BuildStatus::Spent
     } else if has_refused(earlier) || has_refused(outcomes) {
-        Verdict::Refused
+        BuildStatus::Refused
     } else if broken || has_faulty(earlier) || has_faulty(outcomes) {
-        Verdict::Faulty
+        BuildStatus::Faulty
     } else if asked && has_made(outcomes) {
-        Verdict::Outdated
+        BuildStatus::Outdated
     } else {
-        Verdict::Done
+        BuildStatus::Done
     }
 }

@@ -4,7 +4,7 @@ ghost use Rattle.em_program.specs.Statuses.{code_of};
 
 /// How a build ended that neither the host nor want of memory broke off.
 #[derive(Clone, Copy, Debug, PartialEq, Eq)]
-pub enum Verdict {
+pub enum BuildStatus {
     /// The goals are made, or what the words asked for was printed.
     Done,
     /// It was only asked (`-q`), and something is to be made.
@@ -18,17 +18,17 @@ pub enum Verdict {
     Spent,
 }
 
-impl Verdict {
+impl BuildStatus {
     /// The exit status: 0, 1, 2, 4 or 5.
     pub fn code(self) -> u8
         ensures { result ≡ code_of self }
     {
         match self {
-            Verdict::Done => 0,
-            Verdict::Outdated => 1,
-            Verdict::Faulty => 2,
-            Verdict::Refused => 4,
-            Verdict::Spent => 5,
+            BuildStatus::Done => 0,
+            BuildStatus::Outdated => 1,
+            BuildStatus::Faulty => 2,
+            BuildStatus::Refused => 4,
+            BuildStatus::Spent => 5,
         }
     }
 }

@@ -8,8 +8,8 @@ ghost use Rattle.em_program.specs.Words as words;
 ghost use Rattle.em_program.specs.Words.{words_of, unread, ordered, read};
 
 use crate::say::stop;
-use crate::stop::Stop;
-use crate::verdict::Verdict;
+use crate::stop::RunEnd;
+use crate::verdict::BuildStatus;
 use em_base::{NoMemory, Seq, Text};
 use em_closing::word_line;
 use em_cmdline::{Order, WordNo, page_in, read_words};
@@ -79,29 +79,29 @@ fn aimed(alloc: Global, order: Order) -> Result<Order, NoMemory>
 }
 
 /// What the words order, where they ask for no page.
-fn read<H: Host>(alloc: Global, words: &[Text], host: &mut H) -> Result<Order, Stop>
+fn read<H: Host>(alloc: Global, words: &[Text], host: &mut H) -> Result<Order, RunEnd>
     ensures told { Follows (read words.now) result (H.told host.old) (H.told host.new) }
     ensures faults { H.faults host.new ≡ faults_after result (H.faults host.old) }
     ensures ranges { IfOk result HasRanges }
 {
     match read_words(alloc, words) {
         Ok(order) => Ok(aimed(alloc, order)?),
-        Err(WordNo::NoMemory) => Err(Stop::NoMemory),
+        Err(WordNo::NoMemory) => Err(RunEnd::NoMemory),
         Err(no) => {
             let line = word_line(alloc, &no)?;
-            stop(host, line.bytes(), Verdict::Faulty)
+            stop(host, line.bytes(), BuildStatus::Faulty)
         }
     }
 }
 
 /// What the words order; `--help` and `--version`, each alone, print a page, which ends the run.
-pub fn ordered<H: Host>(alloc: Global, words: &[Text], host: &mut H) -> Result<Order, Stop>
+pub fn ordered<H: Host>(alloc: Global, words: &[Text], host: &mut H) -> Result<Order, RunEnd>
     ensures told { Follows (ordered words.now) result (H.told host.old) (H.told host.new) }
     ensures faults { H.faults host.new ≡ faults_after result (H.faults host.old) }
     ensures ranges { IfOk result HasRanges }
 {
     match page_in(words) {
-        Some(page) => stop(host, page.text(), Verdict::Done),
+        Some(page) => stop(host, page.text(), BuildStatus::Done),
         None => read(alloc, words, host),
     }
 }

@@ -16,7 +16,7 @@ use Rattle.em_host.specs.Outside.{Files}
 use Rattle.em_host.specs.Calls.{files_after, printed_by}
 use Rattle.em_host.proofs.Telling.{files_after-append, printed_by-append}
 use Rattle.em_workers.specs.Printing.{print, prints}
-use Rattle.em_program.specs.declared.verdict.Verdict.{Verdict}
+use Rattle.em_program.specs.declared.verdict.BuildStatus.{BuildStatus}
 use Rattle.em_program.specs.Statuses.{code_of}
 use Rattle.em_program.specs.Course.{Trace, Course, behind, go_on, ◌>>=◌, done, quit, say, say_all, take, keep, stop}
 
@@ -42,13 +42,13 @@ left m f = files_after (m f).calls f
 module _ {A B : Type 0} (m : Course A) (k : A → Course B) (f : Files) where
   pub trace_then : (a : A) → (m f).end ≡ Ok a → (m >>= k) f ≡ behind (m f).calls (k a (left m f))
   unfolding ◌>>=◌
-  trace_then a e = ap (λ (end : Result A Verdict). go_on (m f).calls end k f) e
+  trace_then a e = ap (λ (end : Result A BuildStatus). go_on (m f).calls end k f) e
 
-  pub trace_stop : (v : Verdict) → (m f).end ≡ Err v → (m >>= k) f ≡ record { calls = (m f).calls; end = Err v }
+  pub trace_stop : (v : BuildStatus) → (m f).end ≡ Err v → (m >>= k) f ≡ record { calls = (m f).calls; end = Err v }
   unfolding ◌>>=◌
-  trace_stop v e = ap (λ (end : Result A Verdict). go_on (m f).calls end k f) e
+  trace_stop v e = ap (λ (end : Result A BuildStatus). go_on (m f).calls end k f) e
 
-  pub end_then : (R : Result B Verdict → Type 0) → ((v : Verdict) → (m f).end ≡ Err v → R (Err v)) → ((a : A) → (m f).end ≡ Ok a → R (k a (left m f)).end) → R ((m >>= k) f).end
+  pub end_then : (R : Result B BuildStatus → Type 0) → ((v : BuildStatus) → (m f).end ≡ Err v → R (Err v)) → ((a : A) → (m f).end ≡ Ok a → R (k a (left m f)).end) → R ((m >>= k) f).end
   end_then R not_so went = in_case (m f).end (R ((m >>= k) f).end)
       (λ a e. subst (λ (t : Trace B). R t.end) (sym (trace_then a e)) (went a e))
       (λ v e. subst (λ (t : Trace B). R t.end) (sym (trace_stop v e)) (not_so v e))
@@ -60,13 +60,13 @@ module _ {A B : Type 0} (m : Course A) (k : A → Course B) (f : Files) where
   pub left_then : (a : A) → (m f).end ≡ Ok a → left (m >>= k) f ≡ left (k a) (left m f)
   left_then a e = ap (λ (t : Trace B). files_after t.calls f) (trace_then a e) ∙ files_after-append (m f).calls (k a (left m f)).calls f
 
-  pub left_stop : (v : Verdict) → (m f).end ≡ Err v → left (m >>= k) f ≡ left m f
+  pub left_stop : (v : BuildStatus) → (m f).end ≡ Err v → left (m >>= k) f ≡ left m f
   left_stop v e = ap (λ (t : Trace B). files_after t.calls f) (trace_stop v e)
 
   pub printed_then : (a : A) → (m f).end ≡ Ok a → printed_by ((m >>= k) f).calls ≡ printed_by (m f).calls ++ printed_by (k a (left m f)).calls
   printed_then a e = ap (λ (t : Trace B). printed_by t.calls) (trace_then a e) ∙ printed_by-append (m f).calls (k a (left m f)).calls
 
-  pub printed_stop : (v : Verdict) → (m f).end ≡ Err v → printed_by ((m >>= k) f).calls ≡ printed_by (m f).calls
+  pub printed_stop : (v : BuildStatus) → (m f).end ≡ Err v → printed_by ((m >>= k) f).calls ≡ printed_by (m f).calls
   printed_stop v e = ap (λ (t : Trace B). printed_by t.calls) (trace_stop v e)
 
 -- what only works out a value calls nothing
@@ -107,11 +107,11 @@ printed_text : (text : List ℕ) → printed_by (print text) ≡ text
 printed_text [] = refl
 printed_text (b ∷ bs) = ap (λ c. printed_by (cond c [] (Print (b ∷ bs) ∷ []))) (filled (length bs)) ∙ append-nil (b ∷ bs)
 
-pub stop_left : (A : Type 0) (text : List ℕ) (v : Verdict) (f : Files) → left (stop {A = A} text v) f ≡ f
+pub stop_left : (A : Type 0) (text : List ℕ) (v : BuildStatus) (f : Files) → left (stop {A = A} text v) f ≡ f
 unfolding say quit
 stop_left A text v f = left_then (say text) (λ u. quit {A = A} v) f tt refl ∙ say_still text f
 
-pub stop_end : (A : Type 0) (text : List ℕ) (v : Verdict) (f : Files) → (stop {A = A} text v f).end ≡ Err v
+pub stop_end : (A : Type 0) (text : List ℕ) (v : BuildStatus) (f : Files) → (stop {A = A} text v f).end ≡ Err v
 unfolding say quit
 stop_end A text v f = ap (λ (t : Trace A). t.end) (trace_then (say text) (λ u. quit {A = A} v) f tt refl)
 
@@ -120,7 +120,7 @@ stop_end A text v f = ap (λ (t : Trace A). t.end) (trace_then (say text) (λ u.
 module _ (Agree : Files → Files → Type 0) where
   pub record IsQuiet (A : Type 0) (m : Course A) : Type 0 where
     pub still : (f : Files) → left m f ≡ f
-    pub calm : (f : Files) (v : Verdict) → (m f).end ≡ Err v → code_of v ≢ 1
+    pub calm : (f : Files) (v : BuildStatus) → (m f).end ≡ Err v → code_of v ≢ 1
     pub printed : (f g : Files) → Agree f g → printed_by (m f).calls ≡ printed_by (m g).calls
     pub same : (f g : Files) → Agree f g → (m f).end ≡ (m g).end
 
@@ -128,9 +128,9 @@ module _ (Agree : Files → Files → Type 0) where
   unfolding done
   quiet_done a = record { still = λ f. refl; calm = λ f v e. absurd (ok_err e); printed = λ f g h. refl; same = λ f g h. refl }
 
-  pub quiet_quit : (A : Type 0) (v : Verdict) → code_of v ≢ 1 → IsQuiet A (quit v)
+  pub quiet_quit : (A : Type 0) (v : BuildStatus) → code_of v ≢ 1 → IsQuiet A (quit v)
   unfolding quit
-  quiet_quit A v not_so = record { still = λ f. refl; calm = λ f w e. subst (λ (u : Verdict). code_of u ≢ 1) (err_same e) not_so; printed = λ f g h. refl; same = λ f g h. refl }
+  quiet_quit A v not_so = record { still = λ f. refl; calm = λ f w e. subst (λ (u : BuildStatus). code_of u ≢ 1) (err_same e) not_so; printed = λ f g h. refl; same = λ f g h. refl }
 
   pub quiet_say : (text : List ℕ) → IsQuiet (Unit {0}) (say text)
   unfolding say
@@ -167,12 +167,12 @@ module _ (Agree : Files → Files → Type 0) where
     pub quiet_then : IsQuiet B (m >>= k)
     quiet_then = record {
       still = still_then;
-      calm = λ f. end_then m k f (λ r. (v : Verdict) → r ≡ Err v → code_of v ≢ 1) (λ v e w i. subst (λ (u : Verdict). code_of u ≢ 1) (err_same i) (p.calm f v e)) (λ a e. (q a).calm (left m f));
+      calm = λ f. end_then m k f (λ r. (v : BuildStatus) → r ≡ Err v → code_of v ≢ 1) (λ v e w i. subst (λ (u : BuildStatus). code_of u ≢ 1) (err_same i) (p.calm f v e)) (λ a e. (q a).calm (left m f));
       printed = printed_same;
       same = end_same;
     }
 
-  pub quiet_stop : (A : Type 0) (text : List ℕ) (v : Verdict) → code_of v ≢ 1 → IsQuiet A (stop text v)
+  pub quiet_stop : (A : Type 0) (text : List ℕ) (v : BuildStatus) → code_of v ≢ 1 → IsQuiet A (stop text v)
   quiet_stop A text v not_so = quiet_then (say text) (λ u. quit v) (quiet_say text) (λ u. quiet_quit A v not_so)
 
   pub quiet_if : {A : Type 0} (b : Bool) (m n : Course A) → IsQuiet A m → IsQuiet A n → IsQuiet A (cond b m n)
@@ -194,7 +194,7 @@ pub every_done : {A : Type 0} (P : A → Type 0) (a : A) → P a → Every P (do
 unfolding done
 every_done P a is f b e = subst P (ok_same e) is
 
-pub every_stop : {A : Type 0} (P : A → Type 0) (text : List ℕ) (v : Verdict) → Every P (stop {A = A} text v)
+pub every_stop : {A : Type 0} (P : A → Type 0) (text : List ℕ) (v : BuildStatus) → Every P (stop {A = A} text v)
 every_stop {A} P text v f a e = absurd (ok_err (sym e ∙ stop_end A text v f))
 
 pub every_if : {A : Type 0} (P : A → Type 0) (b : Bool) (m n : Course A) → Every P m → Every P n → Every P (cond b m n)

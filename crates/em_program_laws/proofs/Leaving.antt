@@ -21,10 +21,10 @@ use Rattle.em_cmdline.specs.Words.{order_of, refusal}
 use Rattle.em_run.specs.Serial.{outputs_of}
 use Rattle.em_engine.specs.declared.note.Note.{Note}
 use Rattle.em_program.specs.declared.project.Terms.{Terms}
-use Rattle.em_program.specs.declared.rounds.Step.{Step}
+use Rattle.em_program.specs.declared.rounds.NextBuild.{NextBuild}
 use Rattle.em_program.specs.declared.site.Site.{Site}
-use Rattle.em_program.specs.declared.verdict.Verdict.{Verdict}
-use Rattle.em_program.specs.declared.verdict.Verdict.TheVariants.{Done, Faulty, Refused, Spent}
+use Rattle.em_program.specs.declared.verdict.BuildStatus.{BuildStatus}
+use Rattle.em_program.specs.declared.verdict.BuildStatus.TheVariants.{Done, Faulty, Refused, Spent}
 use Rattle.em_closing.specs.Closing.{closing}
 use Rattle.em_program.specs.Statuses.{is_spent, is_refused, is_faulty, code_of, status_of}
 use Rattle.em_program.specs.Course.{Trace, Course, ◌>>=◌, done, say, say_all, keep}
@@ -39,12 +39,12 @@ use Rattle.em_program_laws.proofs.Parts.{site_quiet, quiet_first, Any, IsSet, si
 
 -- ---- of a generated project only the summary is said
 
-pub counted_left : (calls : List Call) (end : Result Tally Verdict) (f : Files) → left (counted_as calls end) f ≡ f
+pub counted_left : (calls : List Call) (end : Result Tally BuildStatus) (f : Files) → left (counted_as calls end) f ≡ f
 unfolding done
 counted_left calls (Ok t) f = by_cases t.whole (λ b. left (cond b (summed calls t) (done t.verdict)) f ≡ f)
     (λ _. left_done (say (summary t.jobs (length (printed_by calls)) t.nodes (code_of t.verdict))) (λ u. t.verdict) f ∙ say_still _ f)
     (λ _. refl)
-counted_left calls (Err v) f = stop_left Verdict (printed_by calls) v f
+counted_left calls (Err v) f = stop_left BuildStatus (printed_by calls) v f
 
 -- ---- what is printed behind the last build, and the verdict
 
@@ -60,7 +60,7 @@ abbrev pub text_replaced : Option (List ℕ) → List ℕ → State → List ℕ
 text_replaced None text s = text ++ []
 text_replaced (Some image) text s = text_closed text (written s) ++ ([] ++ ([] ++ []))
 
-abbrev pub verdict_replaced : Option (List ℕ) → List Outcome → State → Verdict
+abbrev pub verdict_replaced : Option (List ℕ) → List Outcome → State → BuildStatus
 verdict_replaced None earlier s = status_of false false earlier s.outcomes
 verdict_replaced (Some image) earlier s = status_of false (is_broken (written s)) earlier s.outcomes
 
@@ -86,26 +86,26 @@ module _ (t : Terms) (notes : List Note) where
       (gives_then (history_kept t notes t.order.mode) _ [] _ tt v (gives_history t.order.mode)
       (gives_then (report_kept t notes fuel v) _ [] [] tt v (gives_kept t.order.report _) (gives_done v)))
 
-module _ (st : Step) (b : Build) where
+module _ (st : NextBuild) (b : Build) where
   abbrev pub text_at : List ℕ
   text_at = closing st.project.terms.order.silent st.project.terms.plan (state_by st.project b).outcomes st.project.terms.goals (is_early st.project b)
 
-  abbrev pub replacing : Course Verdict
+  abbrev pub replacing : Course BuildStatus
   replacing = replaced st.project.terms b.notes st.project.terms.order.image (fuel_of b.made) text_at (state_by st.project b)
 
   abbrev pub text_for : List ℕ
   text_for = cond (is_asked st) [] (text_replaced st.project.terms.order.image text_at (state_by st.project b)) ++ []
 
-  abbrev pub asked_verdict : Verdict
+  abbrev pub asked_verdict : BuildStatus
   asked_verdict = status_of true false st.project.terms.earlier.outcomes (state_by st.project b).outcomes
 
-  abbrev pub verdict_by : Bool → Verdict
+  abbrev pub verdict_by : Bool → BuildStatus
   verdict_by asked = cond asked asked_verdict (verdict_replaced st.project.terms.order.image st.project.terms.earlier.outcomes (state_by st.project b))
 
   abbrev pub tally_for : Tally
   tally_for = tally_of st.project.terms (state_by st.project b) (verdict_by (is_asked st))
 
-  abbrev finishing : Course Verdict
+  abbrev finishing : Course BuildStatus
   finishing = finish st.project.terms b.notes (is_asked st) (fuel_of b.made) (is_early st.project b) (state_by st.project b)
 
   finishing_gives : Gives finishing (cond (is_asked st) [] (text_replaced st.project.terms.order.image text_at (state_by st.project b))) (verdict_by (is_asked st))
@@ -138,7 +138,7 @@ said texts f = refl
 -- ---- the builds of a run
 
 module _ (words : List (List ℕ)) where
-  abbrev Asks : Result Tally Verdict → Type 0
+  abbrev Asks : Result Tally BuildStatus → Type 0
   Asks (Ok t) = code_of t.verdict ≡ 1 → (order_of words).question ≡ true
   Asks (Err v) = code_of v ≢ 1
 
@@ -149,7 +149,7 @@ module _ (words : List (List ℕ)) where
 
   -- the last build was reached, and the run closed behind it
   pub record IsClosed (m : Course Tally) (f : Files) : Type 0 where
-    pub st : Step
+    pub st : NextBuild
     pub build : Build
     pub on : IsOn words st
     pub unasked : is_asked st ≡ false
@@ -179,7 +179,7 @@ module _ (words : List (List ℕ)) where
           calm = c.calm;
         }) in r)
 
-    comes_stopped : (v : Verdict) → (m f).end ≡ Err v → left m f ≡ f → code_of v ≢ 1 → Comes (m >>= k) f
+    comes_stopped : (v : BuildStatus) → (m f).end ≡ Err v → left m f ≡ f → code_of v ≢ 1 → Comes (m >>= k) f
     comes_stopped v e still calm = inl (record {
       still = left_stop m k f v e ∙ still;
       end = subst Asks (sym (ap (λ (t : Trace Tally). t.end) (trace_stop m k f v e))) calm;
@@ -189,7 +189,7 @@ module _ (words : List (List ℕ)) where
   unfolding done
   broken_comes f = inl (record { still = refl; end = λ one. absurd (omega (arith, one)) })
 
-  module _ (st : Step) (b : Build) (f : Files) (on : IsOn words st) where
+  module _ (st : NextBuild) (b : Build) (f : Files) (on : IsOn words st) where
     last_comes : Comes (last_of st b) f
     unfolding done
     last_comes = by_cases (is_asked st) (λ q. Comes (last_of st b) f)
@@ -208,8 +208,8 @@ module _ (words : List (List ℕ)) where
           calm = λ one. unasked_replaced st.project.terms.order.image st.project.terms.earlier.outcomes (state_by st.project b) (sym (ap (λ q. code_of (verdict_by st b q)) q) ∙ one);
         }))
 
-    module _ (later : Step → Course Tally) (comes : (n : Step) → IsOn words n → Comes (later n) f) where
-      next_comes : (o : Option (Course Step)) → goes_on st b ≡ o → Comes (next_or_last later st b o) f
+    module _ (later : NextBuild → Course Tally) (comes : (n : NextBuild) → IsOn words n → Comes (later n) f) where
+      next_comes : (o : Option (Course NextBuild)) → goes_on st b ≡ o → Comes (next_or_last later st b o) f
       next_comes None e = last_comes
       next_comes (Some next) e =
           let good = goes_on_good words st b next on e in
@@ -222,7 +222,7 @@ module _ (words : List (List ℕ)) where
           (λ _. next_comes (goes_on st b) refl)
           (λ _. broken_comes f)
 
-  run_comes : (builds : List Build) (st : Step) (f : Files) → IsOn words st → Comes (run_from builds st) f
+  run_comes : (builds : List Build) (st : NextBuild) (f : Files) → IsOn words st → Comes (run_from builds st) f
   unfolding run_from
   run_comes [] st f on = broken_comes f
   run_comes (b ∷ bs) st f on =
@@ -247,7 +247,7 @@ module _ (builds : List Build) where
   ended_none s f e = ap (λ (o : Option ℕ). answered o (working builds s) f) e
 
   pub none_left : (s : Site) (f : Files) → s.order.generate ≡ None → left (ended_at builds s) f ≡ left (working builds s) f
-  none_left s f e = ap (λ (t : Trace Verdict). files_after t.calls f) (ended_none s f e) ∙ left_done (working builds s) (λ (t : Tally). t.verdict) f
+  none_left s f e = ap (λ (t : Trace BuildStatus). files_after t.calls f) (ended_none s f e) ∙ left_done (working builds s) (λ (t : Tally). t.verdict) f
 
   pub some_left : (s : Site) (f : Files) (n : ℕ) → s.order.generate ≡ Some n → left (ended_at builds s) f ≡ f
   unfolding ended_at
@@ -257,12 +257,12 @@ module _ (builds : List Build) where
     pub at_site : (s : Site) → (site words f).end ≡ Ok s → files_left words builds f ≡ left (ended_at builds s) f
     at_site s e = left_behind (site words) (ended_at builds) f s e ((site_quiet words).still f)
 
-    pub no_site : (v : Verdict) → (site words f).end ≡ Err v → files_left words builds f ≡ f
+    pub no_site : (v : BuildStatus) → (site words f).end ≡ Err v → files_left words builds f ≡ f
     no_site v e = left_stop (site words) (ended_at builds) f v e ∙ (site_quiet words).still f
 
     -- where nothing is replaced, and where a run is closed
     pub left_by : (R : Files → Type 0) → R f
-        → ((st : Step) (b : Build) → IsOn words st → is_asked st ≡ false → (order_of words).generate ≡ None → R (left (replacing st b) f))
+        → ((st : NextBuild) (b : Build) → IsOn words st → is_asked st ≡ false → (order_of words).generate ≡ None → R (left (replacing st b) f))
         → R (files_left words builds f)
     left_by R same more = in_case (site words f).end (R (files_left words builds f))
         (λ s e. subst R (sym (at_site s e)) (by_size s (site_is words f s e) s.order.generate refl))
@@ -276,18 +276,18 @@ module _ (builds : List Build) where
         by_size s set (Some n) g = subst R (sym (some_left s f n g)) same
 
     -- behind a closing there is no refusal
-    closed_ends : (s : Site) (v : Verdict) → s.order.generate ≡ None → (ended_at builds s f).end ≡ Err v → IsClosed words (working builds s) f → ⊥
+    closed_ends : (s : Site) (v : BuildStatus) → s.order.generate ≡ None → (ended_at builds s f).end ≡ Err v → IsClosed words (working builds s) f → ⊥
     unfolding done
-    closed_ends s v g e c = ok_err (sym (ap (λ (t : Trace Verdict). t.end) (trace_then (working builds s) (λ t. done t.verdict) f c.tally c.end)) ∙ sym (ap (λ (t : Trace Verdict). t.end) (ended_none s f g)) ∙ e)
+    closed_ends s v g e c = ok_err (sym (ap (λ (t : Trace BuildStatus). t.end) (trace_then (working builds s) (λ t. done t.verdict) f c.tally c.end)) ∙ sym (ap (λ (t : Trace BuildStatus). t.end) (ended_none s f g)) ∙ e)
 
-    refused_at : (s : Site) (v : Verdict) → IsSet words s.order → (ended_at builds s f).end ≡ Err v → (n : Option ℕ) → s.order.generate ≡ n → left (ended_at builds s) f ≡ f
+    refused_at : (s : Site) (v : BuildStatus) → IsSet words s.order → (ended_at builds s f).end ≡ Err v → (n : Option ℕ) → s.order.generate ≡ n → left (ended_at builds s) f ≡ f
     refused_at s v set e None g = none_left s f g ∙ ⊎_elim
         (λ (c : IsIdle words (working builds s) f). c.still)
         (λ (c : IsClosed words (working builds s) f). absurd (closed_ends s v g e c))
         (work_comes words builds s f set)
     refused_at s v set e (Some n) g = some_left s f n g
 
-    pub left_refused : (v : Verdict) → (ended words builds f).end ≡ Err v → files_left words builds f ≡ f
+    pub left_refused : (v : BuildStatus) → (ended words builds f).end ≡ Err v → files_left words builds f ≡ f
     left_refused v e = in_case (site words f).end (files_left words builds f ≡ f)
         (λ s i. at_site s i ∙ refused_at s v (site_is words f s i) (sym (end_behind (site words) (ended_at builds) f s i ((site_quiet words).still f)) ∙ e) s.order.generate refl)
         (λ w i. no_site w i)
@@ -309,7 +309,7 @@ module _ (name : List ℕ) where
     keeps_history mode.Merge not_so = keeps_kept t.order.history _ (not_so (λ e. absurd cc))
     keeps_history mode.Read not_so = keeps_done name tt
 
-    pub keeps_rest : (fuel : List ℕ) → (t.order.mode ≢ mode.Read → t.order.history ≢ Some name) → t.order.report ≢ Some name → (verdict : Verdict)
+    pub keeps_rest : (fuel : List ℕ) → (t.order.mode ≢ mode.Read → t.order.history ≢ Some name) → t.order.report ≢ Some name → (verdict : BuildStatus)
         → Keeps name (history_kept t notes t.order.mode >>= (λ u. report_kept t notes fuel verdict >>= (λ v. done verdict)))
     keeps_rest fuel history report verdict =
         keeps_then name (history_kept t notes t.order.mode) _ (keeps_history t.order.mode history) (λ u.
@@ -325,15 +325,15 @@ module _ (name : List ℕ) where
 -- ---- the status
 
 module _ (words : List (List ℕ)) (builds : List Build) where
-  abbrev Asked : Result Verdict Verdict → Type 0
+  abbrev Asked : Result BuildStatus BuildStatus → Type 0
   Asked r = code_of (verdict_of r) ≡ 1 → (order_of words).question ≡ true
 
-  counted_asked : (calls : List Call) (end : Result Tally Verdict) (f : Files) → Asks words end → Asked (counted_as calls end f).end
+  counted_asked : (calls : List Call) (end : Result Tally BuildStatus) (f : Files) → Asks words end → Asked (counted_as calls end f).end
   unfolding done
   counted_asked calls (Ok t) f h = by_cases t.whole (λ b. Asked (cond b (summed calls t) (done t.verdict) f).end)
       (λ _. end_then (say (summary t.jobs (length (printed_by calls)) t.nodes (code_of t.verdict))) _ f Asked (λ v e. absurd (ok_err (sym ((gives_say _).end f) ∙ e))) (λ u e. h))
       (λ _. h)
-  counted_asked calls (Err v) f h = λ one. absurd (h (ap (λ r. code_of (verdict_of r)) (sym (stop_end Verdict (printed_by calls) v f)) ∙ one))
+  counted_asked calls (Err v) f h = λ one. absurd (h (ap (λ r. code_of (verdict_of r)) (sym (stop_end BuildStatus (printed_by calls) v f)) ∙ one))
 
   answered_asked : (s : Site) → IsSet words s.order → (n : Option ℕ) (f : Files) → Asked (answered n (working builds s) f).end
   unfolding done

@@ -23,9 +23,9 @@ use Rattle.em_run.specs.Serial.{outputs_of}
 use Rattle.em_engine.specs.declared.note.Note.{Note}
 use Rattle.em_program.specs.declared.site.Earlier.{Earlier}
 use Rattle.em_program.specs.declared.rounds.Remaking.{Remaking}
-use Rattle.em_program.specs.declared.rounds.Step.{Step}
+use Rattle.em_program.specs.declared.rounds.NextBuild.{NextBuild}
 use Rattle.em_program.specs.declared.site.Site.{Site}
-use Rattle.em_program.specs.declared.verdict.Verdict.{Verdict}
+use Rattle.em_program.specs.declared.verdict.BuildStatus.{BuildStatus}
 use Rattle.em_program.specs.Alike.{AreSites, AreSteps, EndAlike, IsSame}
 use Rattle.em_program.specs.Statuses.{code_of}
 use Rattle.em_program.specs.Course.{Trace, Course, behind, ◌>>=◌, done, quit, say, say_all, take, stop}
@@ -44,7 +44,7 @@ use Rattle.em_program_laws.proofs.Replacing.{names_of, apart, image_closed, last
 
 -- ---- two traces
 
-abbrev pub Both : {A B : Type 0} → (A → B → Type 0) → Result A Verdict → Result B Verdict → Type 0
+abbrev pub Both : {A B : Type 0} → (A → B → Type 0) → Result A BuildStatus → Result B BuildStatus → Type 0
 Both R (Ok a) (Ok b) = R a b
 Both R (Err v) (Err w) = v ≡ w
 Both R _ _ = ⊥
@@ -56,13 +56,13 @@ pub record Twin {A B : Type 0} (R : A → B → Type 0) (x : Trace A) (y : Trace
 abbrev pub Alike : {A : Type 0} → A → A → Type 0
 Alike a b = a ≡ b
 
-both_same : {A : Type 0} (x y : Result A Verdict) → x ≡ y → Both Alike x y
+both_same : {A : Type 0} (x y : Result A BuildStatus) → x ≡ y → Both Alike x y
 both_same (Ok a) (Ok b) e = ok_same e
 both_same (Ok a) (Err w) e = absurd (ok_err e)
 both_same (Err v) (Ok b) e = absurd (ok_err (sym e))
 both_same (Err v) (Err w) e = err_same e
 
-both_is : {A : Type 0} (x y : Result A Verdict) → Both Alike x y → x ≡ y
+both_is : {A : Type 0} (x y : Result A BuildStatus) → Both Alike x y → x ≡ y
 both_is (Ok a) (Ok b) e = ap Ok e
 both_is (Ok a) (Err w) e = absurd e
 both_is (Err v) (Ok b) e = absurd e
@@ -81,7 +81,7 @@ module _ {A B C D : Type 0} (R : A → C → Type 0) (S : B → D → Type 0) (m
       (subst (λ (y : Trace D). Twin S (behind (m f).calls (k a (left m f))) y) (sym (trace_then n l g b i))
       (behind_twin (m f).calls (n g).calls (k a (left m f)) (l b (left n g)) p q))
 
-  both_stopped : (v w : Verdict) → (m f).end ≡ Err v → (n g).end ≡ Err w → printed_by (m f).calls ≡ printed_by (n g).calls → v ≡ w → Twin S ((m >>= k) f) ((n >>= l) g)
+  both_stopped : (v w : BuildStatus) → (m f).end ≡ Err v → (n g).end ≡ Err w → printed_by (m f).calls ≡ printed_by (n g).calls → v ≡ w → Twin S ((m >>= k) f) ((n >>= l) g)
   both_stopped v w e i p same =
       subst (λ (x : Trace B). Twin S x ((n >>= l) g)) (sym (trace_stop m k f v e))
       (subst (λ (y : Trace D). Twin S (record { calls = (m f).calls; end = Err v }) y) (sym (trace_stop n l g w i))
@@ -89,8 +89,8 @@ module _ {A B C D : Type 0} (R : A → C → Type 0) (S : B → D → Type 0) (m
 
   pub twin_then_left : Twin R (m f) (n g) → ((a : A) (b : C) → (m f).end ≡ Ok a → R a b → Twin S (k a (left m f)) (l b (left n g))) → Twin S ((m >>= k) f) ((n >>= l) g)
   twin_then_left p more =
-      let ends : (x : Result A Verdict) (y : Result C Verdict) → (m f).end ≡ x → (n g).end ≡ y → Both R x y =
-      λ x y e i. subst (λ (u : Result C Verdict). Both R x u) i (subst (λ (u : Result A Verdict). Both R u (n g).end) e p.end) in
+      let ends : (x : Result A BuildStatus) (y : Result C BuildStatus) → (m f).end ≡ x → (n g).end ≡ y → Both R x y =
+      λ x y e i. subst (λ (u : Result C BuildStatus). Both R x u) i (subst (λ (u : Result A BuildStatus). Both R u (n g).end) e p.end) in
       in_case (m f).end (Twin S ((m >>= k) f) ((n >>= l) g))
       (λ a e. in_case (n g).end (Twin S ((m >>= k) f) ((n >>= l) g))
       (λ b i. both_went a b e i p.printed (more a b e (ends (Ok a) (Ok b) e i)))
@@ -140,8 +140,8 @@ twin_recalled m name f g =
     let q = is_recalled m name g in
     record {
       printed = p.printed ∙ sym q.printed;
-      end = subst (λ (x : Result (List Pair) Verdict). Both (λ (a b : List Pair). Unit {0}) x (recalled m name g).end) (sym p.end)
-          (subst (λ (y : Result (List Pair) Verdict). Both (λ (a b : List Pair). Unit {0}) (Ok p.old) y) (sym q.end) tt);
+      end = subst (λ (x : Result (List Pair) BuildStatus). Both (λ (a b : List Pair). Unit {0}) x (recalled m name g).end) (sym p.end)
+          (subst (λ (y : Result (List Pair) BuildStatus). Both (λ (a b : List Pair). Unit {0}) (Ok p.old) y) (sym q.end) tt);
     }
 
 seen_as : (a b : Option (List ℕ)) (f g : Files) → a ≡ b → IfSome b (λ name. get f name ≡ get g name) → IfSome a (λ name. get f name ≡ get g name)
@@ -165,21 +165,21 @@ twin_site words f g seen =
 
 -- ---- the steps
 
-to_both : (x y : Result Step Verdict) → EndAlike x y → Both AreSteps x y
+to_both : (x y : Result NextBuild BuildStatus) → EndAlike x y → Both AreSteps x y
 to_both (Ok u) (Ok v) e = e
 to_both (Ok u) (Err w) e = absurd e
 to_both (Err v) (Ok w) e = absurd e
 to_both (Err v) (Err w) e = e
 
 -- ways to a step that are the same on the same files are twins on any
-twin_ways : (c d : Course Step) (f g : Files) → IsSame c d f → IsQuiet Any Step d → Twin AreSteps (c f) (d g)
+twin_ways : (c d : Course NextBuild) (f g : Files) → IsSame c d f → IsQuiet Any NextBuild d → Twin AreSteps (c f) (d g)
 twin_ways c d f g is quiet = record {
   printed = ap printed_by is.calls ∙ quiet.printed f g tt;
-  end = subst (λ (y : Result Step Verdict). Both AreSteps (c f).end y) (quiet.same f g tt) (to_both (c f).end (d f).end is.end);
+  end = subst (λ (y : Result NextBuild BuildStatus). Both AreSteps (c f).end y) (quiet.same f g tt) (to_both (c f).end (d f).end is.end);
 }
 
 -- a step that is alike is this one with other pairs, notes and waits
-abbrev other_step : Step → List Pair → Earlier → List (List ℕ) → Step
+abbrev other_step : NextBuild → List Pair → Earlier → List (List ℕ) → NextBuild
 other_step u old past waits = record {
   project = record {
     terms = record {
@@ -196,7 +196,7 @@ other_step u old past waits = record {
   remaking = u.remaking;
 }
 
-is_other_step : (u v : Step) → AreSteps u v → other_step u v.project.terms.old v.project.terms.earlier v.project.terms.waits ≡ v
+is_other_step : (u v : NextBuild) → AreSteps u v → other_step u v.project.terms.old v.project.terms.earlier v.project.terms.waits ≡ v
 is_other_step u v same = λ i. record {
   project = record {
     terms = record {
@@ -233,15 +233,15 @@ rest_made b c bs cs e = tails e
 
 -- ---- the summary
 
-twin_counted : (c d : List Call) (end : Result Tally Verdict) (f g : Files) → printed_by c ≡ printed_by d → Twin Alike (counted_as c end f) (counted_as d end g)
+twin_counted : (c d : List Call) (end : Result Tally BuildStatus) (f g : Files) → printed_by c ≡ printed_by d → Twin Alike (counted_as c end f) (counted_as d end g)
 unfolding ◌>>=◌ say quit done
 twin_counted c d (Ok t) f g same = by_cases t.whole (λ b. Twin Alike (cond b (summed c t) (done t.verdict) f) (cond b (summed d t) (done t.verdict) g))
     (λ _. subst (λ (text : List ℕ). Twin Alike (summed c t f) ((say (summary t.jobs (length text) t.nodes (code_of t.verdict)) >>= (λ u. done t.verdict)) g)) same (record { printed = refl; end = refl }))
     (λ _. record { printed = refl; end = refl })
-twin_counted c d (Err v) f g same = subst (λ (text : List ℕ). Twin Alike (stop {A = Verdict} (printed_by c) v f) (stop {A = Verdict} text v g)) same (record { printed = refl; end = refl })
+twin_counted c d (Err v) f g same = subst (λ (text : List ℕ). Twin Alike (stop {A = BuildStatus} (printed_by c) v f) (stop {A = BuildStatus} text v g)) same (record { printed = refl; end = refl })
 
 twin_sum : (x y : Trace Tally) (f g : Files) → Twin Alike x y → Twin Alike (counted x f) (counted y g)
-twin_sum x y f g p = subst (λ (e : Result Tally Verdict). Twin Alike (counted_as x.calls x.end f) (counted_as y.calls e g)) (both_is x.end y.end p.end) (twin_counted x.calls y.calls x.end f g p.printed)
+twin_sum x y f g p = subst (λ (e : Result Tally BuildStatus). Twin Alike (counted_as x.calls x.end f) (counted_as y.calls e g)) (both_is x.end y.end p.end) (twin_counted x.calls y.calls x.end f g p.printed)
 
 -- ---- two courses that show the same
 
@@ -263,8 +263,8 @@ module _ (words : List (List ℕ)) where
 
   module _ {A B C D : Type 0} (R : A → C → Type 0) (S : B → D → Type 0) (m : Course A) (k : A → Course B) (n : Course C) (l : C → Course D) (f g : Files) (still : left m f ≡ f) (quiet : left n g ≡ g)
       (twin : Twin R (m f) (n g)) (same : Agrees f g) (more : (a : A) (b : C) → (m f).end ≡ Ok a → R a b → Shows S (k a) (l b) f g) where
-    both_end : (x : Result A Verdict) (y : Result C Verdict) → (m f).end ≡ x → (n g).end ≡ y → Both R x y
-    both_end x y e i = subst (λ (u : Result C Verdict). Both R x u) i (subst (λ (u : Result A Verdict). Both R u (n g).end) e twin.end)
+    both_end : (x : Result A BuildStatus) (y : Result C BuildStatus) → (m f).end ≡ x → (n g).end ≡ y → Both R x y
+    both_end x y e i = subst (λ (u : Result C BuildStatus). Both R x u) i (subst (λ (u : Result A BuildStatus). Both R u (n g).end) e twin.end)
 
     files_then : Agrees (left (m >>= k) f) (left (n >>= l) g)
     files_then = in_case (m f).end (Agrees (left (m >>= k) f) (left (n >>= l) g))
@@ -285,8 +285,8 @@ module _ (words : List (List ℕ)) where
 
     -- ---- a build, and what follows it
 
-    module _ (u : Step) (b : Build) (old : List Pair) (earlier : Earlier) (waits : List (List ℕ)) (notes : List Note) (on : IsOn words u) where
-      abbrev v : Step
+    module _ (u : NextBuild) (b : Build) (old : List Pair) (earlier : Earlier) (waits : List (List ℕ)) (notes : List Note) (on : IsOn words u) where
+      abbrev v : NextBuild
       v = other_step u old earlier waits
 
       abbrev c : Build
@@ -311,7 +311,7 @@ module _ (words : List (List ℕ)) where
         files = last_files (order_of words).image refl seen;
       }
 
-      module _ (later past : Step → Course Tally) (more : (n w : Step) → AreSteps n w → IsOn words n → Shows Alike (later n) (past w) f g) where
+      module _ (later past : NextBuild → Course Tally) (more : (n w : NextBuild) → AreSteps n w → IsOn words n → Shows Alike (later n) (past w) f g) where
         module _ (m : Remaking) (some : u.remaking ≡ Some m) where
           abbrev here : Site
           here = moved m.order u.project.terms (left_by u.project b) b.notes
@@ -346,16 +346,16 @@ module _ (words : List (List ℕ)) where
         unfolding say_all
         shows_said texts = shows_then (Alike {A = Unit {0}}) Alike (say_all texts) _ (say_all texts) _ f g (all_still texts f) (all_still texts g) (record { printed = refl; end = refl }) seen (λ x y e same. shows_jobs)
 
-    shows_build : (b c : Build) (bs cs : List Build) (u v : Step) → b.made ≡ c.made → AreSteps u v → IsOn words u
-        → ((n w : Step) → AreSteps n w → IsOn words n → Shows Alike (run_from bs n) (run_from cs w) f g)
+    shows_build : (b c : Build) (bs cs : List Build) (u v : NextBuild) → b.made ≡ c.made → AreSteps u v → IsOn words u
+        → ((n w : NextBuild) → AreSteps n w → IsOn words n → Shows Alike (run_from bs n) (run_from cs w) f g)
         → Shows Alike (run_from (b ∷ bs) u) (run_from (c ∷ cs) v) f g
     unfolding run_from
     shows_build b c bs cs u v made same on more =
-        subst (λ (w : Step). Shows Alike (run_from (b ∷ bs) u) (run_from (c ∷ cs) w) f g) (is_other_step u v same)
+        subst (λ (w : NextBuild). Shows Alike (run_from (b ∷ bs) u) (run_from (c ∷ cs) w) f g) (is_other_step u v same)
         (subst (λ (d : Build). Shows Alike (run_from (b ∷ bs) u) (run_from (d ∷ cs) (other_step u v.project.terms.old v.project.terms.earlier v.project.terms.waits)) f g) (is_other_build b c made)
         (shows_said u b v.project.terms.old v.project.terms.earlier v.project.terms.waits c.notes on (run_from bs) (run_from cs) more (outputs_of b.made)))
 
-    shows_run : (builds others : List Build) → AreMadeAlike builds others → (u v : Step) → AreSteps u v → IsOn words u → Shows Alike (run_from builds u) (run_from others v) f g
+    shows_run : (builds others : List Build) → AreMadeAlike builds others → (u v : NextBuild) → AreSteps u v → IsOn words u → Shows Alike (run_from builds u) (run_from others v) f g
     unfolding run_from
     shows_run [] [] made u v same on = shows_broken
     shows_run [] (c ∷ cs) made u v same on = absurd cc

@@ -10,8 +10,8 @@ ghost use Rattle.em_engine.specs.declared.note.Note.{Note};
 ghost use Rattle.em_cmdline.specs.declared.order.HistoryMode.TheVariants as mode;
 ghost use Rattle.em_cmdline.specs.Words.{order_of, refusal};
 ghost use Rattle.em_cmdline.specs.Pages.{page_in};
-ghost use Rattle.em_program.specs.declared.rounds.Step.{Step};
-ghost use Rattle.em_program.specs.declared.verdict.Verdict.{Verdict};
+ghost use Rattle.em_program.specs.declared.rounds.NextBuild.{NextBuild};
+ghost use Rattle.em_program.specs.declared.verdict.BuildStatus.{BuildStatus};
 ghost use Rattle.em_program.specs.Endings.{ended};
 ghost use Rattle.em_program.specs.Headline.{Headline, first_in};
 ghost use Rattle.em_program.specs.Rounds.{Build, by_goals, final, goes_on};
@@ -34,7 +34,7 @@ pub fn law_others_stay()
 /// or an explanation is asked for; of a generated project; and under `-q`.
 pub fn law_nothing_replaced()
     ensures refused { (words : List (List ℕ)) (builds : List Build) (files : Files)
-        (verdict : Verdict) → (ended words builds files).end ≡ Err verdict
+        (verdict : BuildStatus) → (ended words builds files).end ≡ Err verdict
         → files_left words builds files ≡ files }
     ensures unordered { (words : List (List ℕ)) (builds : List Build) (files : Files)
         → IsSome (refusal words) → files_left words builds files ≡ files }
@@ -89,20 +89,20 @@ pub fn law_headline()
         (before after : Outside) (h : Headline words status notes before after)
         → status ≢ 3 → status ≢ 7 → status ≡ status_in words h.builds before.files }
     ensures image { (words : List (List ℕ)) (status : ℕ) (notes : List Note)
-        (before after : Outside) (h : Headline words status notes before after) (st : Step)
+        (before after : Outside) (h : Headline words status notes before after) (st : NextBuild)
         (t : Table) (name : List ℕ) → status ≢ 3 → status ≢ 7
         → first_in words before.files ≡ Ok st → tree_left h.builds st ≡ Some t
         → (order_of words).image ≡ Some name → (order_of words).question ≡ false
         → broken limits t ≡ None → get after.files name ≡ Some (image_text t) }
     ensures limit { (words : List (List ℕ)) (status : ℕ) (notes : List Note)
-        (before after : Outside) (h : Headline words status notes before after) (st : Step)
+        (before after : Outside) (h : Headline words status notes before after) (st : NextBuild)
         (t : Table) (name : List ℕ) → status ≢ 3 → status ≢ 7
         → first_in words before.files ≡ Ok st → tree_left h.builds st ≡ Some t
         → (order_of words).image ≡ Some name → (order_of words).question ≡ false
         → IsSome (broken limits t) → get after.files name ≡ get before.files name }
     ensures tree { (words : List (List ℕ)) (status : ℕ) (notes : List Note)
-        (before after : Outside) (h : Headline words status notes before after) (st : Step)
-        (verdict : Verdict) → status ≢ 3 → status ≢ 7 → first_in words before.files ≡ Ok st
+        (before after : Outside) (h : Headline words status notes before after) (st : NextBuild)
+        (verdict : BuildStatus) → status ≢ 3 → status ≢ 7 → first_in words before.files ≡ Ok st
         → (ended words h.builds before.files).end ≡ Ok verdict
         → IsSome (tree_left h.builds st) }
 {}

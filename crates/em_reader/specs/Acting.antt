@@ -32,8 +32,8 @@ use Rattle.em_statement.specs.declared.head.Head.{Head}
 use Rattle.em_statement.specs.Heads.{head_of, refusal_of}
 use Rattle.em_statement.specs.Shapes.{colons_in}
 use Rattle.em_statement.specs.Split.{is_empty}
-use Rattle.em_reading.specs.declared.no.Fault.{Fault}
-use Rattle.em_reading.specs.declared.no.Fault.TheVariants as fault
+use Rattle.em_reading.specs.declared.no.MakefileFault.{MakefileFault}
+use Rattle.em_reading.specs.declared.no.MakefileFault.TheVariants as fault
 use Rattle.em_reading.specs.declared.heard.Heard.{Heard}
 use Rattle.em_reading.specs.declared.heard.Expanded.{Expanded}
 use Rattle.em_reading.specs.declared.reading.Reading.{Reading}

@@ -24,7 +24,7 @@ use Rattle.em_view.specs.Do.{◌>>=◌}
 use Rattle.em_wordlist.specs.Words as words
 use Rattle.em_statement.specs.Split.{is_empty}
 use Rattle.em_reading.specs.declared.no.ReadNo.{ReadNo}
-use Rattle.em_reading.specs.declared.no.Fault.TheVariants as fault
+use Rattle.em_reading.specs.declared.no.MakefileFault.TheVariants as fault
 use Rattle.em_reading.specs.declared.heard.Expanded.{Expanded}
 use Rattle.em_reader.specs.declared.files.Makefile.{Makefile}
 use Rattle.em_reader.specs.declared.makefiles.Round.{Round}

@@ -13,7 +13,7 @@ use em_base::{NoMemory, Place, Seq, Text, is_blank};
 use em_glob::{Glyph, is_pattern};
 use em_namefn::glyphs_of;
 use em_pathname::matching_names;
-use em_reading::{Fault, Heard, ReadNo, Reading, at, desk_fault, refused};
+use em_reading::{Heard, MakefileFault, ReadNo, Reading, at, desk_fault, refused};
 use em_rules::{RecipeLine, Rule};
 use em_statement::{
     Head, RuleLine, Statement, colons_in, is_empty, read_head, refused_in_head, refused_in_read,
@@ -249,7 +249,7 @@ fn rule_by<V: View>(
         if is_nothing(text, &line.recipe) {
             return Ok(());
         }
-        return Err(at(alloc, place, Fault::Separator));
+        return Err(at(alloc, place, MakefileFault::Separator));
     };
     if let Some(name) = refused_in_read(line.assigns, text, &head) {
         return Err(refused(alloc, place, name));
@@ -350,7 +350,7 @@ pub(crate) fn act_alone<V: View>(
         Statement::Unexport(_) => reading.unexport(alloc, place, heard),
         Statement::Rule(line) => rule_line(alloc, desk, reading, place, line, heard),
         Statement::Unsupported(word) => Err(refused(alloc, place, word.bytes())),
-        Statement::Stray => Err(at(alloc, place, Fault::Separator)),
+        Statement::Stray => Err(at(alloc, place, MakefileFault::Separator)),
         Statement::Blank => Ok(()),
         Statement::If(_) => Ok(()),
         Statement::Else => Ok(()),

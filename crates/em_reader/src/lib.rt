@@ -9,5 +9,5 @@ pub mod laws;
 mod makefiles;
 mod read;
 
-pub use em_reading::{Fault, Missing, ReadNo, RuleNo};
+pub use em_reading::{MakefileFault, Missing, ReadNo, RuleNo};
 pub use makefiles::{Round, read_makefiles, read_round, read_through};

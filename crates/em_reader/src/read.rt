@@ -10,7 +10,9 @@ use crate::files::{content_of, eval_lines};
 use crate::hear::{hear, hear_condition};
 use em_base::{Place, Text};
 use em_lines::{Line, Lines, joined};
-use em_reading::{Body, Fault, Heard, ReadNo, Reading, at, refused, refused_in, whole};
+use em_reading::{
+    DefineBody, Heard, MakefileFault, ReadNo, Reading, at, refused, refused_in, whole,
+};
 use em_statement::{Condition, Include, Statement, read_statement, words};
 use em_view::{Desk, View};
 use std::alloc::Global;
@@ -29,7 +31,7 @@ pub(crate) fn read_text<V: View>(
         (read_text left place.now lines.now) }
 {
     if left == 0 {
-        return Err(at(alloc, place, Fault::Limit));
+        return Err(at(alloc, place, MakefileFault::Limit));
     }
     for line in lines.lines.items() {
         read_line(alloc, left - 1, desk, reading, line)?;
@@ -69,7 +71,7 @@ fn in_body<V: View>(
     desk: &mut Desk<V>,
     reading: &mut Reading,
     line: &Line,
-    body: Body,
+    body: DefineBody,
 ) -> Result<(), ReadNo>
     ensures { Does is_free V.tells desk.old desk.new reading.old reading.new result
         (steps.in_body (read_text left) line.now body) }
@@ -77,7 +79,7 @@ fn in_body<V: View>(
     if !body.ends(alloc, line)? {
         return reading.body_line(alloc, body, line);
     }
-    let Body {
+    let DefineBody {
         place,
         assignment,
         nested: _,
@@ -105,7 +107,7 @@ fn by_statement<V: View>(
         Statement::ElseIf(condition) => else_if_line(alloc, left, desk, reading, place, condition),
         Statement::Else => reading.other(alloc, place, None),
         Statement::Endif => reading.leave(alloc, place),
-        Statement::Extraneous => Err(at(alloc, place, Fault::Separator)),
+        Statement::Extraneous => Err(at(alloc, place, MakefileFault::Separator)),
         Statement::Blank => Ok(()),
         Statement::Define(assignment) => reading.define_line(alloc, place, assignment),
         Statement::Include(_) => active_line(alloc, left, desk, reading, place, statement),

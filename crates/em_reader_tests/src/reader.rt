@@ -3,20 +3,17 @@
 //! and the text of `V`, if it is defined, with a `+` before where it is exported. A fault stands
 //! behind `*** ` with its place. What is expected is what GNU make reads, or what docs/FORMATS.md
 //! refuses.
-ghost use Rattle.std.specs.Prelude.{◌≡◌, None, IfOk, Some};
-ghost use Rattle.std.specs.FinMap as map;
-ghost use Rattle.em_path.specs.Paths.{IsPath, parent_text, root_text};
+ghost use Rattle.std.specs.Prelude.{◌≡◌, None, IfOk};
+ghost use Rattle.em_path.specs.Paths.{root_text};
 ghost use Rattle.em_path.specs.Reading.{read_fault};
-ghost use Rattle.em_tree.specs.declared.node.Kind.TheVariants as kind;
-ghost use Rattle.em_tree.specs.Trees.{IsTree, kind_of};
 
 use em_base::{NoMemory, Place, Seq, Text};
 use em_cmdline::{HistoryMode, Order};
 use em_expand::ExpandNo;
-use em_path::Path;
-use em_reader::{Fault, ReadNo, RuleNo, read_makefiles};
+use em_reader::{MakefileFault, ReadNo, RuleNo, read_makefiles};
 use em_rules::{Book, RecipeLine, Rule};
-use em_tree::{Body, Kind, Node, Outcomes, State, Tree};
+use em_states::{add, file};
+use em_tree::{Outcomes, State, Tree};
 use em_wordlist::join_texts;
 use itoa::Buffer;
 use std::alloc::Global;
@@ -26,39 +23,6 @@ mod faults;
 mod good;
 mod orders;
 mod rounds;
-
-/// Puts a node where there is none.
-fn put(tree: &mut Tree, above: &Path, path: Path, node: Node) -> Result<(), NoMemory>
-    requires tree { IsTree tree.old }
-    requires path { IsPath path }
-    requires parent { parent_text path ≡ Some above.now }
-    requires dir { kind_of (map.get tree.old above.now) ≡ kind.Dir }
-    requires absent { kind_of (map.get tree.old path) ≡ kind.Absent }
-{
-    em_tree::laws::law_put();
-    tree.set(path, node)
-}
-
-/// Puts a node at an absent path of a directory that is there, and else does nothing.
-fn put_new(alloc: Global, tree: &mut Tree, path: Path, node: Node) -> Result<(), NoMemory> {
-    let Ok(Some(above)) = path.parent(alloc) else {
-        return Ok(());
-    };
-    let _ = path.text();
-    if tree.kind(&above) == Kind::Dir && tree.kind(&path) == Kind::Absent {
-        return put(tree, &above, path, node);
-    }
-    Ok(())
-}
-
-/// Puts a file there.
-fn add(alloc: Global, tree: &mut Tree, path: &[u8], bytes: &[u8]) -> Result<(), Fail> {
-    let Some(path) = Path::from_text(alloc, path)? else {
-        return Ok(());
-    };
-    let body = Body::from_slice(alloc, bytes)?;
-    Ok(put_new(alloc, tree, path, Node::File { body, stamp: 5 })?)
-}
 
 /// The files beside the makefile.
 const FILES: [(&[u8], &[u8]); 9] = [
@@ -78,7 +42,7 @@ const FILES: [(&[u8], &[u8]); 9] = [
 
 fn add_files(alloc: Global, tree: &mut Tree) -> Result<(), Fail> {
     for (path, bytes) in &FILES {
-        add(alloc, tree, path, bytes)?;
+        add(alloc, tree, path, file(alloc, bytes, 5)?)?;
     }
     Ok(())
 }
@@ -86,7 +50,7 @@ fn add_files(alloc: Global, tree: &mut Tree) -> Result<(), Fail> {
 /// A state with these files and a makefile of this name.
 fn state(alloc: Global, name: &[u8], makefile: &[u8]) -> Result<State, Fail> {
     let mut tree = Tree::new(alloc, 5)?;
-    add(alloc, &mut tree, name, makefile)?;
+    add(alloc, &mut tree, name, file(alloc, makefile, 5)?)?;
     add_files(alloc, &mut tree)?;
     Ok(State {
         tree,
@@ -200,21 +164,21 @@ fn expand_text(no: &ExpandNo) -> (&'static [u8], &[u8]) {
 }
 
 /// The name of a fault, and what it names.
-fn fault_text(fault: &Fault) -> (&'static [u8], &[u8]) {
+fn fault_text(fault: &MakefileFault) -> (&'static [u8], &[u8]) {
     match fault {
-        Fault::Separator => (b"separator", b""),
-        Fault::Conditional => (b"conditional", b""),
-        Fault::Endless => (b"no endif", b""),
-        Fault::Include(name) => (b"include ", name.bytes()),
-        Fault::Expand(no) => expand_text(no),
-        Fault::Define => (b"define", b""),
-        Fault::Refused(name) => (b"refused ", name.bytes()),
-        Fault::Spent => (b"spent", b""),
-        Fault::Limit => (b"limit", b""),
-        Fault::Rule(RuleNo::Recipe) => (b"recipe", b""),
-        Fault::Rule(RuleNo::Static(name)) => (b"static ", name.bytes()),
-        Fault::Rule(RuleNo::Group(name)) => (b"group ", name.bytes()),
-        Fault::Rule(RuleNo::Mixed(name)) => (b"mixed ", name.bytes()),
+        MakefileFault::Separator => (b"separator", b""),
+        MakefileFault::Conditional => (b"conditional", b""),
+        MakefileFault::Endless => (b"no endif", b""),
+        MakefileFault::Include(name) => (b"include ", name.bytes()),
+        MakefileFault::Expand(no) => expand_text(no),
+        MakefileFault::Define => (b"define", b""),
+        MakefileFault::Refused(name) => (b"refused ", name.bytes()),
+        MakefileFault::Spent => (b"spent", b""),
+        MakefileFault::Limit => (b"limit", b""),
+        MakefileFault::Rule(RuleNo::Recipe) => (b"recipe", b""),
+        MakefileFault::Rule(RuleNo::Static(name)) => (b"static ", name.bytes()),
+        MakefileFault::Rule(RuleNo::Group(name)) => (b"group ", name.bytes()),
+        MakefileFault::Rule(RuleNo::Mixed(name)) => (b"mixed ", name.bytes()),
     }
 }
 

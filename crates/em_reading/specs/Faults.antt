@@ -5,8 +5,8 @@ use Rattle.em_view.specs.declared.no.DeskNo.{DeskNo}
 use Rattle.em_view.specs.declared.no.DeskNo.TheVariants as desk
 use Rattle.em_expand.specs.declared.no.ExpandNo.{ExpandNo}
 use Rattle.em_expand.specs.declared.no.ExpandNo.TheVariants as no
-use Rattle.em_reading.specs.declared.no.Fault.{Fault}
-use Rattle.em_reading.specs.declared.no.Fault.TheVariants as fault
+use Rattle.em_reading.specs.declared.no.MakefileFault.{MakefileFault}
+use Rattle.em_reading.specs.declared.no.MakefileFault.TheVariants as fault
 use Rattle.em_rules.specs.declared.book.BookNo.{BookNo}
 use Rattle.em_rules.specs.declared.book.BookNo.TheVariants as book_no
 use Rattle.em_reading.specs.declared.no.RuleNo.TheVariants as rule_no
@@ -18,7 +18,7 @@ abbrev pub is_free : ReadNo → Bool
 is_free NoMemory = true
 is_free _ = false
 
-abbrev pub at_place : Place → Fault → ReadNo
+abbrev pub at_place : Place → MakefileFault → ReadNo
 at_place p f = At p f
 
 abbrev pub of_expand : Place → ExpandNo → ReadNo

@@ -16,7 +16,7 @@ use Rattle.em_statement.specs.declared.assignment.Operator.TheVariants as operat
 use Rattle.em_statement.specs.declared.condition.Condition.{Condition}
 use Rattle.em_statement.specs.declared.condition.Condition.TheVariants.{Same, Different, Defined, Undefined, Malformed}
 use Rattle.em_statement.specs.declared.statement.Undefine.{Undefine}
-use Rattle.em_reading.specs.declared.no.Fault.TheVariants as fault
+use Rattle.em_reading.specs.declared.no.MakefileFault.TheVariants as fault
 use Rattle.em_reading.specs.declared.heard.Heard.{Heard}
 use Rattle.em_reading.specs.Variables.{has_text, assigned, undefined, all_marked, all_unmarked}
 use Rattle.em_reading.specs.Changes.{Change, good, bad, with_vars, enter, other}

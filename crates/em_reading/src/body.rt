@@ -3,7 +3,7 @@ ghost use Rattle.std.specs.Prelude.{◌≡◌, [], unwrap_or, IfOk};
 ghost use Rattle.em_reading.specs.Changes as changes;
 ghost use Rattle.em_reading.specs.Changes.{body_after, ends_body, is_define, is_endef, joined_to, line_start, with_body_line};
 
-use crate::reading::Body;
+use crate::reading::DefineBody;
 use em_base::{NoMemory, Text};
 use em_lines::{Line, bare};
 use em_statement::{Assignment, first_word};
@@ -33,17 +33,17 @@ fn is_endef(alloc: Global, line: &Line) -> Result<bool, NoMemory>
 }
 
 /// Appends the line to the body, with the tab that it began with.
-fn with_body_line(alloc: Global, body: Body, line: &Line) -> Result<Body, NoMemory>
+fn with_body_line(alloc: Global, body: DefineBody, line: &Line) -> Result<DefineBody, NoMemory>
     ensures { IfOk result (λ b. b ≡ with_body_line body line.now) }
 {
-    let Body {
+    let DefineBody {
         place,
         assignment,
         nested,
         text,
     } = body;
     let text = Some(joined_to(alloc, text, line)?);
-    Ok(Body {
+    Ok(DefineBody {
         place,
         assignment,
         nested,
@@ -76,7 +76,7 @@ fn line_start(alloc: Global, text: Option<Text>) -> Result<Text, NoMemory>
     }
 }
 
-impl Body {
+impl DefineBody {
     /// Whether this line ends the body.
     pub fn ends(&self, alloc: Global, line: &Line) -> Result<bool, NoMemory>
         ensures { IfOk result (λ b. b ≡ ends_body self.now line.now) }
@@ -85,10 +85,10 @@ impl Body {
     }
 
     /// The body with one line more. A `define` in it has an `endef` of its own.
-    pub fn with_line(self, alloc: Global, line: &Line) -> Result<Body, NoMemory>
+    pub fn with_line(self, alloc: Global, line: &Line) -> Result<DefineBody, NoMemory>
         ensures { IfOk result (λ b. b ≡ body_after self line.now) }
     {
-        let Body {
+        let DefineBody {
             place,
             assignment,
             nested,
@@ -101,7 +101,7 @@ impl Body {
         } else {
             nested
         };
-        let body = Body {
+        let body = DefineBody {
             place,
             assignment,
             nested,

@@ -8,7 +8,7 @@ ghost use Rattle.em_wordlist.specs.Words.{words_of};
 
 use crate::assign::refused_in;
 use crate::heard::Heard;
-use crate::no::{Fault, ReadNo, at, refused};
+use crate::no::{MakefileFault, ReadNo, at, refused};
 use crate::reading::Reading;
 use crate::vars::has_text;
 use em_base::{NoMemory, Place};
@@ -68,7 +68,7 @@ impl Reading {
             return Err(refused(alloc, place, name.bytes()));
         }
         match holds(alloc, &self.book.vars, condition, heard)? {
-            None => Err(at(alloc, place, Fault::Separator)),
+            None => Err(at(alloc, place, MakefileFault::Separator)),
             Some(holds) => self.enter(alloc, place, holds),
         }
     }
@@ -88,7 +88,7 @@ impl Reading {
             return Err(refused(alloc, place, name.bytes()));
         }
         match holds(alloc, &self.book.vars, condition, heard)? {
-            None => Err(at(alloc, place, Fault::Separator)),
+            None => Err(at(alloc, place, MakefileFault::Separator)),
             Some(holds) => self.other(alloc, place, Some(holds)),
         }
     }

@@ -1,7 +1,7 @@
 //! Why a reading ends early.
 ghost use Rattle.std.specs.Prelude.{◌≡◌, false};
 ghost use Rattle.em_reading.specs.declared.no.ReadNo.TheVariants.{NoMemory as OutOfMemory};
-ghost use Rattle.em_reading.specs.declared.no.Fault.TheVariants as fault;
+ghost use Rattle.em_reading.specs.declared.no.MakefileFault.TheVariants as fault;
 ghost use Rattle.em_reading.specs.Faults.{is_free, at_place, of_expand, of_book, of_desk};
 
 use em_base::{NoMemory, Place, Text};
@@ -30,7 +30,7 @@ pub enum RuleNo {
 
 /// What is wrong at a place.
 #[derive(Debug, Drop, PartialEq, Eq, Error)]
-pub enum Fault {
+pub enum MakefileFault {
     /// The line is no statement.
     #[error("missing separator")]
     Separator,
@@ -67,7 +67,7 @@ pub enum Fault {
 #[derive(Debug, Drop, PartialEq, Eq, Error)]
 pub enum ReadNo {
     #[error("a fault in a makefile")]
-    At(Place, Fault),
+    At(Place, MakefileFault),
     #[error("out of memory")]
     NoMemory,
 }
@@ -97,7 +97,7 @@ impl<T: Drop> From<AllocFailed<T>> for ReadNo {
 }
 
 /// The fault at a place.
-pub fn at(alloc: Global, place: &Place, fault: Fault) -> ReadNo
+pub fn at(alloc: Global, place: &Place, fault: MakefileFault) -> ReadNo
     ensures { is_free result ≡ false → result ≡ at_place place.now fault }
 {
     match place.copy(alloc) {
@@ -111,7 +111,7 @@ pub fn refused(alloc: Global, place: &Place, name: &[u8]) -> ReadNo
     ensures { is_free result ≡ false → result ≡ at_place place.now (fault.Refused name.now) }
 {
     match Text::from_slice(alloc, name) {
-        Ok(name) => at(alloc, place, Fault::Refused(name)),
+        Ok(name) => at(alloc, place, MakefileFault::Refused(name)),
         Err(_) => ReadNo::NoMemory,
     }
 }
@@ -121,7 +121,7 @@ pub fn absent(alloc: Global, place: &Place, name: &[u8]) -> ReadNo
     ensures { is_free result ≡ false → result ≡ at_place place.now (fault.Include name.now) }
 {
     match Text::from_slice(alloc, name) {
-        Ok(name) => at(alloc, place, Fault::Include(name)),
+        Ok(name) => at(alloc, place, MakefileFault::Include(name)),
         Err(_) => ReadNo::NoMemory,
     }
 }
@@ -132,15 +132,27 @@ pub fn expand_fault(alloc: Global, place: &Place, e: ExpandNo) -> ReadNo
 {
     match e {
         ExpandNo::NoMemory => ReadNo::NoMemory,
-        ExpandNo::Spent => at(alloc, place, Fault::Spent),
-        ExpandNo::Refused(name) => at(alloc, place, Fault::Refused(name)),
+        ExpandNo::Spent => at(alloc, place, MakefileFault::Spent),
+        ExpandNo::Refused(name) => at(alloc, place, MakefileFault::Refused(name)),
         ExpandNo::SelfReference(name) => {
-            at(alloc, place, Fault::Expand(ExpandNo::SelfReference(name)))
+            at(
+                alloc,
+                place,
+                MakefileFault::Expand(ExpandNo::SelfReference(name)),
+            )
         }
-        ExpandNo::UserError(text) => at(alloc, place, Fault::Expand(ExpandNo::UserError(text))),
-        ExpandNo::BadArgument(name) => at(alloc, place, Fault::Expand(ExpandNo::BadArgument(name))),
-        ExpandNo::Unclosed => at(alloc, place, Fault::Expand(ExpandNo::Unclosed)),
-        ExpandNo::TooDeep => at(alloc, place, Fault::Expand(ExpandNo::TooDeep)),
+        ExpandNo::UserError(text) => at(
+            alloc,
+            place,
+            MakefileFault::Expand(ExpandNo::UserError(text)),
+        ),
+        ExpandNo::BadArgument(name) => at(
+            alloc,
+            place,
+            MakefileFault::Expand(ExpandNo::BadArgument(name)),
+        ),
+        ExpandNo::Unclosed => at(alloc, place, MakefileFault::Expand(ExpandNo::Unclosed)),
+        ExpandNo::TooDeep => at(alloc, place, MakefileFault::Expand(ExpandNo::TooDeep)),
     }
 }
 
@@ -150,9 +162,9 @@ pub fn book_fault(place: Place, e: BookNo) -> ReadNo
 {
     match e {
         BookNo::NoMemory => ReadNo::NoMemory,
-        BookNo::Static(target) => ReadNo::At(place, Fault::Rule(RuleNo::Static(target))),
-        BookNo::Group(target) => ReadNo::At(place, Fault::Rule(RuleNo::Group(target))),
-        BookNo::Mixed(target) => ReadNo::At(place, Fault::Rule(RuleNo::Mixed(target))),
+        BookNo::Static(target) => ReadNo::At(place, MakefileFault::Rule(RuleNo::Static(target))),
+        BookNo::Group(target) => ReadNo::At(place, MakefileFault::Rule(RuleNo::Group(target))),
+        BookNo::Mixed(target) => ReadNo::At(place, MakefileFault::Rule(RuleNo::Mixed(target))),
     }
 }
 
@@ -162,7 +174,7 @@ pub fn desk_fault(alloc: Global, place: &Place, e: DeskNo) -> ReadNo
 {
     match e {
         DeskNo::NoMemory => ReadNo::NoMemory,
-        DeskNo::Spent => at(alloc, place, Fault::Spent),
-        DeskNo::File(_) => at(alloc, place, Fault::Spent),
+        DeskNo::Spent => at(alloc, place, MakefileFault::Spent),
+        DeskNo::File(_) => at(alloc, place, MakefileFault::Spent),
     }
 }

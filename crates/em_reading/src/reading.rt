@@ -5,7 +5,7 @@ ghost use Rattle.em_reading.specs.Changes.{is_read, without_evals};
 ghost use Rattle.em_reading.specs.Faults.{is_free};
 ghost use Rattle.em_view.specs.Steps.{Works};
 
-use crate::no::{Fault, ReadNo, at};
+use crate::no::{MakefileFault, ReadNo, at};
 use crate::noted::Noted;
 use em_base::{NoMemory, Place, Seq, Text};
 use em_cond::Nest;
@@ -19,7 +19,7 @@ use std::mem;
 
 /// A `define` whose `endef` hasn't come.
 #[derive(Drop)]
-pub struct Body {
+pub struct DefineBody {
     /// Its line.
     pub place: Place,
     /// Its name and operator.
@@ -45,7 +45,7 @@ pub struct Reading {
     /// How many of the open conditionals were open when the last rule began: the outermost ones.
     pub around: usize,
     /// The `define` whose body is read.
-    pub define: Option<Body>,
+    pub define: Option<DefineBody>,
     /// What was said, and the texts for `eval` that aren't read yet.
     pub spoken: Spoken,
     /// The files that were read and those that aren't there, where these are noted.
@@ -94,7 +94,7 @@ impl Reading {
     {
         match self.nest.other(condition) {
             Ok(()) => Ok(()),
-            Err(_) => Err(at(alloc, place, Fault::Conditional)),
+            Err(_) => Err(at(alloc, place, MakefileFault::Conditional)),
         }
     }
 
@@ -110,7 +110,7 @@ impl Reading {
                 self.around = self.around.min(self.opened.len());
                 Ok(())
             }
-            Err(_) => Err(at(alloc, place, Fault::Conditional)),
+            Err(_) => Err(at(alloc, place, MakefileFault::Conditional)),
         }
     }
 
@@ -124,7 +124,7 @@ impl Reading {
         ensures { Works is_free self.old self.new result
             (changes.begin_define place.now assignment.now) }
     {
-        self.define = Some(Body {
+        self.define = Some(DefineBody {
             place: place.copy(alloc)?,
             assignment: copied(alloc, assignment)?,
             nested: 0,
@@ -151,7 +151,7 @@ impl Reading {
     }
 
     /// A line of the body of a `define`.
-    pub fn body_line(&mut self, alloc: Global, body: Body, line: &Line) -> Result<(), ReadNo>
+    pub fn body_line(&mut self, alloc: Global, body: DefineBody, line: &Line) -> Result<(), ReadNo>
         ensures { Works is_free self.old self.new result (changes.body_line body line.now) }
     {
         self.define = Some(body.with_line(alloc, line)?);
@@ -159,7 +159,7 @@ impl Reading {
     }
 
     /// The `define` whose body is read, taken out.
-    pub fn take_define(&mut self) -> Option<Body>
+    pub fn take_define(&mut self) -> Option<DefineBody>
         ensures result { result ≡ self.old.define }
         ensures state { self.new ≡ record self.old { define = None } }
     {
@@ -172,11 +172,11 @@ impl Reading {
         ensures { Works is_free self.old self.new result (changes.end_text too_long.now) }
     {
         if let Some(place) = too_long {
-            return Err(at(alloc, place, Fault::Limit));
+            return Err(at(alloc, place, MakefileFault::Limit));
         }
         match &self.define {
             None => Ok(()),
-            Some(body) => Err(at(alloc, &body.place, Fault::Define)),
+            Some(body) => Err(at(alloc, &body.place, MakefileFault::Define)),
         }
     }
 
@@ -186,7 +186,7 @@ impl Reading {
     {
         match self.opened.get(0) {
             None => Ok(()),
-            Some(place) => Err(at(alloc, place, Fault::Endless)),
+            Some(place) => Err(at(alloc, place, MakefileFault::Endless)),
         }
     }
 

@@ -11,7 +11,7 @@ ghost use Rattle.em_reading.specs.Changes.{warning, warning_for, warnings, with_
 ghost use Rattle.em_reading.specs.Faults.{is_free};
 ghost use Rattle.em_view.specs.Steps.{Works};
 
-use crate::no::{Fault, ReadNo, RuleNo, at, book_fault};
+use crate::no::{MakefileFault, ReadNo, RuleNo, at, book_fault};
 use crate::reading::Reading;
 use em_base::{NoMemory, Place, Seq, Table, Text};
 use em_lines::{Line, folded_references};
@@ -187,7 +187,7 @@ impl Reading {
         if self.is_held()
             && let Some(place) = self.opened.get(0)
         {
-            return Err(at(alloc, place, Fault::Endless));
+            return Err(at(alloc, place, MakefileFault::Endless));
         }
         self.close_rule(alloc)
     }
@@ -200,7 +200,7 @@ impl Reading {
             return Ok(());
         }
         match mem::replace(&mut self.begun, None) {
-            None => Err(at(alloc, &line.place, Fault::Rule(RuleNo::Recipe))),
+            None => Err(at(alloc, &line.place, MakefileFault::Rule(RuleNo::Recipe))),
             Some(rule) => {
                 let rule = with_line(alloc, rule, recipe_line(alloc, line)?)?;
                 self.begun = Some(rule);

@@ -4,7 +4,7 @@
 use Rattle.std.specs.Prelude.{◌≡◌, ℕ, Bool, List}
 use Rattle.std.specs.List.{list_any}
 use Rattle.em_base.specs.declared.place.Place.{Place}
-use Rattle.em_reading.specs.declared.no.Fault.TheVariants as fault
+use Rattle.em_reading.specs.declared.no.MakefileFault.TheVariants as fault
 use Rattle.em_reading.specs.declared.no.ReadNo.{ReadNo}
 use Rattle.em_reading.specs.declared.noted.Missing.{Missing}
 use Rattle.em_reading.specs.Faults.{at_place}

@@ -8,12 +8,12 @@ use Rattle.std.specs.Prelude.{nat_lt, not}
 use Rattle.std.proofs.lemmas.List.{take_more}
 use Rattle.std.proofs.lemmas.Bool.{ne_eqb}
 use Rattle.em_base.proofs.Lemmas.{by_cases, cell}
-use Rattle.em_recipe.specs.declared.command.Command.{Command}
+use Rattle.em_recipe.specs.declared.command.RecipeCommand.{RecipeCommand}
 use Rattle.em_recipe.specs.declared.mark.Marks.{Marks}
 use Rattle.em_recipe.specs.Marks.{bare}
 use Rattle.em_recipe.specs.Commands.{lines_from, command, kept}
 
-abbrev pub rest : Marks → List ℕ → ℕ → ℕ → Bool → List Command
+abbrev pub rest : Marks → List ℕ → ℕ → ℕ → Bool → List RecipeCommand
 rest front text start i quoted = kept front (lines_from (take (i - start) (drop start text)) quoted (drop i text))
 
 pub kept_next : (front : Marks) (line : List ℕ) (lines : List (List ℕ)) → kept front (line ∷ lines) ≡ kept front (line ∷ []) ++ kept front lines

@@ -6,7 +6,7 @@ use Rattle.std.specs.List.{prefix_len}
 use Rattle.std.proofs.lemmas.Bool.{eqb-true, ltb-true}
 use Rattle.std.proofs.lemmas.List.Elements.{All-cons, All-nil, All-filter, All-map, filter_passes}
 use Rattle.em_base.proofs.Lemmas.{by_cases}
-use Rattle.em_recipe.specs.declared.command.Command.{Command}
+use Rattle.em_recipe.specs.declared.command.RecipeCommand.{RecipeCommand}
 use Rattle.em_recipe.specs.Marks.{is_mark, marks, bare, Includes}
 use Rattle.em_recipe.specs.Commands.{lines_from, split, command, commands_of}
 
@@ -62,7 +62,7 @@ none_twice p (b ∷ bs) = by_cases (p b)
     (λ _ _. let next : 1 + prefix_len p bs ≡ suc (prefix_len p bs) = omega arith in rw next (none_twice p bs))
     (λ _ plain. rw plain refl) refl
 
-filled : Command → Bool
+filled : RecipeCommand → Bool
 filled c = nat_lt 0 (length c.text)
 
 or_left : (a b : Bool) → IsTrue a → IsTrue (a || b)

@@ -8,7 +8,7 @@ use std::alloc::Global;
 
 /// A line for the shell, as it is echoed, and the marks that stood in front of it. It isn't empty.
 #[derive(Debug, Drop, PartialEq, Eq)]
-pub struct Command {
+pub struct RecipeCommand {
     pub text: Text,
     pub marks: Marks,
 }
@@ -16,7 +16,7 @@ pub struct Command {
 /// Appends what comes of a line for the shell, unless that is empty.
 fn add(
     alloc: Global,
-    commands: &mut Seq<Command>,
+    commands: &mut Seq<RecipeCommand>,
     front: Marks,
     line: &[u8],
 ) -> Result<(), NoMemory>
@@ -26,7 +26,7 @@ fn add(
     if text.is_empty() {
         return Ok(());
     }
-    commands.push(Command {
+    commands.push(RecipeCommand {
         text: Text::from_slice(alloc, text)?,
         marks: front.or(marks_of(line)),
     })
@@ -36,7 +36,11 @@ fn add(
 /// at newlines without a backslash in front; blanks and marks in front of each are taken off, and
 /// those in front of the line as it was written hold for all; empty ones are left out. Each byte is
 /// copied once.
-pub fn commands(alloc: Global, written: &[u8], expanded: &[u8]) -> Result<Seq<Command>, NoMemory>
+pub fn commands(
+    alloc: Global,
+    written: &[u8],
+    expanded: &[u8],
+) -> Result<Seq<RecipeCommand>, NoMemory>
     ensures { IfOk result (λ cs. cs ≡ commands_of written.now expanded.now) }
 {
     let front = marks_of(written);

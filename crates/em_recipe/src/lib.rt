@@ -9,7 +9,7 @@ mod mark;
 mod message;
 
 pub use automatic::automatic_vars;
-pub use command::{Command, commands};
+pub use command::{RecipeCommand, commands};
 pub use mark::{Marks, bare, marks_of};
 pub use message::{
     fault_text, put_deleted, put_failed, put_halted, put_ignored, put_no_rule, put_quoted,

@@ -1,16 +1,11 @@
 //! Pattern rules over small trees.
-ghost use Rattle.std.specs.Prelude.{◌≡◌, Some};
-ghost use Rattle.std.specs.FinMap as map;
-ghost use Rattle.em_path.specs.Paths.{IsPath, parent_text};
-ghost use Rattle.em_tree.specs.declared.node.Kind.TheVariants as kind;
-ghost use Rattle.em_tree.specs.Trees.{IsTree, kind_of};
 
 use crate::written::rule as bare_rule;
 use em_base::{NoMemory, Seq, Text};
 use em_implicit::{Found, Prerequisites, find, match_at, members_of, prerequisites_of};
-use em_path::Path;
 use em_rules::{Book, BookNo, Rule};
-use em_tree::{Body, Kind, Node, Tree};
+use em_states::{add, file, path};
+use em_tree::{Node, Tree};
 use em_wordlist::{join, join_texts, texts};
 use std::alloc::Global;
 use std::process::Abort;
@@ -40,51 +35,11 @@ fn book(alloc: Global, rows: &[Row]) -> Result<Book, BookNo> {
     Ok(book)
 }
 
-/// Puts a node where there is none.
-fn put(tree: &mut Tree, above: &Path, path: Path, node: Node) -> Result<(), NoMemory>
-    requires tree { IsTree tree.old }
-    requires path { IsPath path }
-    requires parent { parent_text path ≡ Some above.now }
-    requires dir { kind_of (map.get tree.old above.now) ≡ kind.Dir }
-    requires absent { kind_of (map.get tree.old path) ≡ kind.Absent }
-{
-    em_tree::laws::law_put();
-    tree.set(path, node)
-}
-
-/// Puts a node at an absent path of a directory that is there, and else does nothing.
-fn put_new(alloc: Global, tree: &mut Tree, path: Path, node: Node) -> Result<(), NoMemory> {
-    let Ok(Some(above)) = path.parent(alloc) else {
-        return Ok(());
-    };
-    let _ = path.text();
-    if tree.kind(&above) == Kind::Dir && tree.kind(&path) == Kind::Absent {
-        return put(tree, &above, path, node);
-    }
-    Ok(())
-}
-
-/// The path of a text that is one.
-fn path(alloc: Global, text: &[u8]) -> Result<Path, Fail> {
-    match Path::from_text(alloc, text)? {
-        Some(path) => Ok(path),
-        None => Err(Fail::from("no path")),
-    }
-}
-
-fn add(alloc: Global, tree: &mut Tree, text: &[u8], node: Node) -> Result<(), Fail> {
-    let path = path(alloc, text)?;
-    Ok(put_new(alloc, tree, path, node)?)
-}
-
 /// Adds a node: `d/a` is a directory and `f/a/x` an empty file.
 fn add_written(alloc: Global, tree: &mut Tree, node: &[u8]) -> Result<(), Fail> {
     match node {
         [b'd', path @ ..] => add(alloc, tree, path, Node::Dir { stamp: 1 }),
-        [b'f', path @ ..] => {
-            let body = Body::from_slice(alloc, b"")?;
-            add(alloc, tree, path, Node::File { body, stamp: 1 })
-        }
+        [b'f', path @ ..] => add(alloc, tree, path, file(alloc, b"", 1)?),
         _ => Ok(()),
     }
 }
@@ -117,14 +72,14 @@ fn shown(alloc: Global, book: &Book, target: &[u8], found: &Found) -> Result<Tex
     spelled(alloc, found.stem.bytes(), &needed)
 }
 
-fn found_in(alloc: Global, book: &Book, case: &Case) -> Result<Option<Found>, Fail> {
+fn found_in(alloc: Global, book: &Book, case: &ImplicitRow) -> Result<Option<Found>, Fail> {
     let tree = tree(alloc, case.0)?;
     let cwd = path(alloc, case.1)?;
     Ok(find(alloc, book, case.2, &tree, &cwd)?)
 }
 
 /// Nodes, working directory, target; the rule that is found, and its stem and prerequisites.
-type Case = (
+type ImplicitRow = (
     &'static [u8],
     &'static [u8],
     &'static [u8],
@@ -137,7 +92,7 @@ fn is_wanted(
     alloc: Global,
     book: &Book,
     found: &Option<Found>,
-    case: &Case,
+    case: &ImplicitRow,
 ) -> Result<bool, NoMemory> {
     let (_, _, target, rule, want) = case;
     match (found, rule) {
@@ -151,7 +106,12 @@ fn is_wanted(
 }
 
 /// That over these rules each case's rule is found.
-fn are_found(rt: &impl Abort, alloc: Global, rows: &[Row], cases: &[Case]) -> Result<(), Fail> {
+fn are_found(
+    rt: &impl Abort,
+    alloc: Global,
+    rows: &[Row],
+    cases: &[ImplicitRow],
+) -> Result<(), Fail> {
     let book = book(alloc, rows)?;
     for case in cases {
         let found = found_in(alloc, &book, case)?;

@@ -7,7 +7,7 @@ use std::alloc::Global;
 use std::test::Fail;
 
 /// The colon of a rule, and the rule.
-type Line = (&'static [u8], Row);
+type ColonRow = (&'static [u8], Row);
 
 fn kind_of(colon: &[u8]) -> RuleKind {
     match colon {
@@ -17,13 +17,13 @@ fn kind_of(colon: &[u8]) -> RuleKind {
     }
 }
 
-fn add(alloc: Global, book: &mut Book, line: &Line) -> Result<(), BookNo> {
+fn add(alloc: Global, book: &mut Book, line: &ColonRow) -> Result<(), BookNo> {
     let mut rule = rule(alloc, &line.1)?;
     rule.kind = kind_of(line.0);
     book.add(rule)
 }
 
-fn book(alloc: Global, lines: &[Line]) -> Result<Book, BookNo> {
+fn book(alloc: Global, lines: &[ColonRow]) -> Result<Book, BookNo> {
     let mut book = Book::new(alloc)?;
     for line in lines {
         add(alloc, &mut book, line)?;
@@ -31,7 +31,7 @@ fn book(alloc: Global, lines: &[Line]) -> Result<Book, BookNo> {
     Ok(book)
 }
 
-const COME_TO: [(Line, &[u8]); 5] = [
+const COME_TO: [(ColonRow, &[u8]); 5] = [
     (
         (b"::", [b"t ./t u", b"-", b"a", b"b", b"r"]),
         b"t: a | b\nt: a | b\nu: a | b\n",
@@ -89,7 +89,7 @@ fn a_target_of_a_group_has_its_own_prerequisites(rt: HostRuntime) -> Result<(), 
     Ok(())
 }
 
-const FAULTS: [(&[Line], &[u8], &[u8]); 12] = [
+const FAULTS: [(&[ColonRow], &[u8], &[u8]); 12] = [
     (&[(b":", A), (b"::", A)], b"mixed", b"a"),
     (
         &[(b"::", A), (b":", [b"b ./a", b"-", b"", b"", b"-"])],
@@ -137,7 +137,7 @@ const A: Row = [b"a", b"-", b"", b"", b"-"];
 const XY: Row = [b"x y", b"-", b"s", b"", b"r"];
 
 /// Whether the last of the rules, and none before it, has this fault.
-fn has_fault(alloc: Global, lines: &[Line], fault: &[u8], name: &[u8]) -> bool {
+fn has_fault(alloc: Global, lines: &[ColonRow], fault: &[u8], name: &[u8]) -> bool {
     match book(alloc, lines) {
         Ok(_) => fault.is_empty(),
         Err(BookNo::Static(target)) => fault == b"static".as_slice() && target.bytes() == name,
@@ -154,7 +154,7 @@ fn faulty_rules_are_not_added(rt: HostRuntime) {
     }
 }
 
-const GROUPS: [Line; 6] = [
+const GROUPS: [ColonRow; 6] = [
     (b"&:", [b"x y ./x z w", b"-", b"s", b"", b"r"]),
     (b":", [b"y", b"-", b"", b"", b"r"]),
     (b":", [b"x", b"-", b"", b"", b"-"]),

@@ -176,9 +176,9 @@ const RULES: [Row; 7] = [
 ];
 
 /// A name, the numbers of its rules, its recipe's, and whether it is mentioned and phony.
-type Known = (&'static [u8], &'static [usize], Option<usize>, bool, bool);
+type NameRow = (&'static [u8], &'static [usize], Option<usize>, bool, bool);
 
-const ANSWERS: [Known; 12] = [
+const ANSWERS: [NameRow; 12] = [
     (b".PHONY", &[0], None, true, false),
     (b"all", &[1], None, true, true),
     (b"clean", &[], None, true, true),
@@ -200,7 +200,7 @@ fn has_rules(alloc: Global, book: &Book, name: &[u8], numbers: &[usize]) -> Resu
 }
 
 /// Whether all else of a name is as wanted.
-fn is_known(book: &Book, known: &Known) -> bool {
+fn is_known(book: &Book, known: &NameRow) -> bool {
     let (name, numbers, recipe, mentioned, phony) = known;
     book.rules.recipe_rule(name) == *recipe
         && book.rules.is_target(name) != numbers.is_empty()

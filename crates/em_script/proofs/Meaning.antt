@@ -12,8 +12,8 @@ use Rattle.em_gram.proofs.Verdicts.{only_fault, tree_or_fault}
 use Rattle.em_command.specs.Heres.{begun}
 use Rattle.em_exec.specs.Words.{in_copy}
 use Rattle.em_exec.specs.Exec.{run, closed}
-use Rattle.em_script.specs.declared.line.Line.{Line}
-use Rattle.em_script.specs.declared.line.Line.TheVariants.{Script, Wrong, Refused}
+use Rattle.em_script.specs.declared.line.ShellLine.{ShellLine}
+use Rattle.em_script.specs.declared.line.ShellLine.TheVariants.{Script, Wrong, Refused}
 use Rattle.em_script.specs.Lines.{IsWrong, Unexpected, Unclosed, IsRefused, IsRead, run_line}
 use Rattle.em_script.specs.Strands.{Meaning, sub_of, IsMeant}
 use Rattle.em_script.proofs.Alike.{scripts_alike}
@@ -24,11 +24,11 @@ unfolding run
 alike s t e = λ i. λ a o w. (closed a (scripts_alike 65 s t e i (in_copy []) (begun a.shell) o w).0, (scripts_alike 65 s t e i (in_copy []) (begun a.shell) o w).1)
 
 -- the line of a fault
-abbrev line_of : GramNo → Line
+abbrev line_of : GramNo → ShellLine
 line_of (gram.Refused construct at) = Refused construct
 line_of _ = Wrong
 
-record Faulty (text : List ℕ) (line : Line) : Type 0 where
+record Faulty (text : List ℕ) (line : ShellLine) : Type 0 where
   reason : GramNo
   fault : IsFault (lexed text) (length text) reason
   told : reason ≢ gram.NoMemory
@@ -41,13 +41,13 @@ wrong text (Unclosed at f) = record { reason = gram.Unclosed at; fault = f; told
 refused : (text : List ℕ) (c : Construct) → IsRefused text c → Faulty text (Refused c)
 refused text c r = record { reason = gram.Refused c r.at; fault = r.fault; told = λ e. absurd cc; is = refl }
 
-same_line : (text : List ℕ) (a b : Line) → Faulty text a → Faulty text b → run_line a ≡ run_line b
+same_line : (text : List ℕ) (a b : ShellLine) → Faulty text a → Faulty text b → run_line a ≡ run_line b
 same_line text a b f g = ap run_line (f.is ∙ ap line_of (only_fault (lexed text) (length text) f.reason g.reason f.fault g.fault f.told g.told) ∙ sym g.is)
 
-no_line : {A : Type 0} (text : List ℕ) (s : tree.Script) (a : Line) → IsScript (lexed text) s → Faulty text a → A
+no_line : {A : Type 0} (text : List ℕ) (s : tree.Script) (a : ShellLine) → IsScript (lexed text) s → Faulty text a → A
 no_line text s a h f = absurd (f.told (tree_or_fault (lexed text) (length text) s f.reason h f.fault))
 
-pub one_meaning : (text : List ℕ) (a b : Line) → IsRead text a → IsRead text b → run_line a ≡ run_line b
+pub one_meaning : (text : List ℕ) (a b : ShellLine) → IsRead text a → IsRead text b → run_line a ≡ run_line b
 one_meaning text (Script s) (Script t) h g = alike s t (only_tree (lexed text) s t h g)
 one_meaning text (Script s) Wrong h g = no_line text s _ h (wrong text g)
 one_meaning text (Script s) (Refused c) h g = no_line text s _ h (refused text c g)
@@ -58,7 +58,7 @@ one_meaning text Wrong (Refused d) h g = same_line text _ _ (wrong text h) (refu
 one_meaning text (Refused c) Wrong h g = same_line text _ _ (refused text c h) (wrong text g)
 one_meaning text (Refused c) (Refused d) h g = same_line text _ _ (refused text c h) (refused text d g)
 
-one_sub : (text : List ℕ) (a b : Line) → IsRead text a → IsRead text b → sub_of a ≡ sub_of b
+one_sub : (text : List ℕ) (a b : ShellLine) → IsRead text a → IsRead text b → sub_of a ≡ sub_of b
 one_sub text (Script s) (Script t) h g = subs_alike s t (only_tree (lexed text) s t h g)
 one_sub text (Script s) Wrong h g = no_line text s _ h (wrong text g)
 one_sub text (Script s) (Refused c) h g = no_line text s _ h (refused text c g)

@@ -10,8 +10,8 @@ use Rattle.em_lex.specs.Lexing.{lexed}
 use Rattle.em_gram.specs.declared.no.GramNo.TheVariants as gram
 use Rattle.em_gram.specs.Line.{IsScript, IsFault}
 use Rattle.em_exec.specs.Exec.{Session, run}
-use Rattle.em_script.specs.declared.line.Line.{Line}
-use Rattle.em_script.specs.declared.line.Line.TheVariants.{Script, Wrong, Refused}
+use Rattle.em_script.specs.declared.line.ShellLine.{ShellLine}
+use Rattle.em_script.specs.declared.line.ShellLine.TheVariants.{Script, Wrong, Refused}
 
 -- the leftmost fault is an error of syntax
 pub data IsWrong (text : List ℕ) : Type 0 where
@@ -23,7 +23,7 @@ pub record IsRefused (text : List ℕ) (construct : Construct) : Type 0 where
   pub at : ℕ
   pub fault : IsFault (lexed text) (length text) (gram.Refused construct at)
 
-abbrev pub IsRead : List ℕ → Line → Type 0
+abbrev pub IsRead : List ℕ → ShellLine → Type 0
 IsRead text (Script s) = IsScript (lexed text) s
 IsRead text Wrong = IsWrong text
 IsRead text (Refused construct) = IsRefused text construct
@@ -34,7 +34,7 @@ syntax_error = codes "emake: sh: syntax error" ++ 10 ∷ []
 abbrev pub wrong : Session → Result (ℕ × Session) (ExecNo × Session)
 wrong s = Ok (2, record s { output = s.output ++ syntax_error })
 
-abbrev pub run_line : Line → Steps Session ExecNo ℕ
+abbrev pub run_line : ShellLine → Steps Session ExecNo ℕ
 run_line (Script s) = run s
 run_line Wrong = own wrong
 run_line (Refused construct) = refuse (exec.Refused construct)

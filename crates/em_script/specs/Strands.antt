@@ -25,8 +25,8 @@ use Rattle.em_exec.specs.declared.turn.Turn.{Turn}
 use Rattle.em_exec.specs.declared.turn.Turn.TheVariants as turn
 use Rattle.em_exec.specs.Exec.{Session}
 use Rattle.em_exec.specs.Subs.{sub_form, words_of}
-use Rattle.em_script.specs.declared.line.Line.{Line}
-use Rattle.em_script.specs.declared.line.Line.TheVariants.{Script}
+use Rattle.em_script.specs.declared.line.ShellLine.{ShellLine}
+use Rattle.em_script.specs.declared.line.ShellLine.TheVariants.{Script}
 use Rattle.em_script.specs.Lines.{IsRead, run_line}
 
 -- ---- texts
@@ -36,15 +36,15 @@ pub record Meaning : Type 0 where
   -- none where it is no line that begins a make
   pub sub : Option (Steps Session ExecNo SubWords)
 
-abbrev pub sub_of : Line → Option (Steps Session ExecNo SubWords)
+abbrev pub sub_of : ShellLine → Option (Steps Session ExecNo SubWords)
 sub_of (Script s) = option_map words_of (sub_form s)
 sub_of _ = None
 
-abbrev pub meaning_of : Line → Meaning
+abbrev pub meaning_of : ShellLine → Meaning
 meaning_of line = record { run = run_line line; sub = sub_of line }
 
 pub record IsMeant (text : List ℕ) (m : Meaning) : Type 0 where
-  pub line : Line
+  pub line : ShellLine
   pub read : IsRead text line
   pub is : m ≡ meaning_of line
 

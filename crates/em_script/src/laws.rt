@@ -4,7 +4,7 @@ ghost use Rattle.em_exec.specs.Exec.{run};
 ghost use Rattle.em_gram.specs.Same.{script_shape};
 ghost use Rattle.em_script.specs.Lines.{IsRead, run_line};
 ghost use Rattle.em_script.specs.Strands.{IsMeant, Meaning};
-ghost use Rattle.em_script.specs.declared.line.Line.{Line};
+ghost use Rattle.em_script.specs.declared.line.ShellLine.{ShellLine};
 ghost use Rattle.em_syntax.specs.declared.tree.Script.{Script};
 
 /// Scripts of one shape run alike: it doesn't matter where they lie in memory.
@@ -14,7 +14,7 @@ pub fn law_alike()
 
 /// A text means one thing to the shell: whatever it is read as, that runs alike.
 pub fn law_one_meaning()
-    ensures { (text : List ℕ) (a b : Line) → IsRead text a → IsRead text b
+    ensures { (text : List ℕ) (a b : ShellLine) → IsRead text a → IsRead text b
         → run_line a ≡ run_line b }
 {}
 

@@ -4,4 +4,4 @@
 pub mod laws;
 mod line;
 
-pub use line::Line;
+pub use line::ShellLine;

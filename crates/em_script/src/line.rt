@@ -16,7 +16,7 @@ use std::alloc::Global;
 
 /// What a line is by the grammar.
 #[derive(Drop)]
-pub enum Line {
+pub enum ShellLine {
     Script(tree::Script),
     /// Its leftmost fault is an error of syntax.
     Wrong,
@@ -24,16 +24,16 @@ pub enum Line {
     Refused(Construct),
 }
 
-impl Line {
+impl ShellLine {
     /// Reads a line, in time linear in its length.
-    pub fn read(alloc: Global, text: &[u8]) -> Result<Line, NoMemory>
+    pub fn read(alloc: Global, text: &[u8]) -> Result<ShellLine, NoMemory>
         ensures { IfOk result (λ line. IsRead text.now line) }
     {
         match parse(alloc, text) {
-            Ok(script) => Ok(Line::Script(script)),
-            Err(GramNo::Unexpected(_)) => Ok(Line::Wrong),
-            Err(GramNo::Unclosed(_)) => Ok(Line::Wrong),
-            Err(GramNo::Refused(construct, _)) => Ok(Line::Refused(construct)),
+            Ok(script) => Ok(ShellLine::Script(script)),
+            Err(GramNo::Unexpected(_)) => Ok(ShellLine::Wrong),
+            Err(GramNo::Unclosed(_)) => Ok(ShellLine::Wrong),
+            Err(GramNo::Refused(construct, _)) => Ok(ShellLine::Refused(construct)),
             Err(GramNo::NoMemory) => Err(NoMemory),
         }
     }
@@ -53,12 +53,12 @@ impl Line {
             result (run_line self.now) }
     {
         match self {
-            Line::Script(script) => exec(alloc, script, shell, desk, out),
-            Line::Wrong => {
+            ShellLine::Script(script) => exec(alloc, script, shell, desk, out),
+            ShellLine::Wrong => {
                 out.add(b"emake: sh: syntax error\n")?;
                 Ok(2)
             }
-            Line::Refused(construct) => Err(ExecNo::Refused(construct.copy(alloc)?)),
+            ShellLine::Refused(construct) => Err(ExecNo::Refused(construct.copy(alloc)?)),
         }
     }
 
@@ -84,9 +84,9 @@ impl Line {
             (λ w. IfSome w (λ x. desk.new.work.fuel < desk.old.work.fuel)) }
     {
         match self {
-            Line::Script(script) => em_exec::sub_words(alloc, script, shell, desk, out),
-            Line::Wrong => Ok(None),
-            Line::Refused(_) => Ok(None),
+            ShellLine::Script(script) => em_exec::sub_words(alloc, script, shell, desk, out),
+            ShellLine::Wrong => Ok(None),
+            ShellLine::Refused(_) => Ok(None),
         }
     }
 }

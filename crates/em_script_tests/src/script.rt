@@ -2,7 +2,7 @@
 //! and a letter, `$` for spent fuel.
 use em_base::{Construct, Fuel, Text};
 use em_path::Path;
-use em_script::Line;
+use em_script::ShellLine;
 use em_states::{put_all, state};
 use em_vars::Vars;
 use em_view::{Desk, ExecNo, PlainView, View};
@@ -62,7 +62,7 @@ pub fn shell(alloc: Global) -> Result<Shell, Fail> {
 /// Runs a line over a desk.
 fn run<V: View>(
     alloc: Global,
-    line: &Line,
+    line: &ShellLine,
     desk: &mut Desk<V>,
     out: &mut Text,
 ) -> Result<(), Fail> {
@@ -73,7 +73,7 @@ fn run<V: View>(
 
 /// Runs a line over a desk, once it is read.
 fn on_desk<V: View>(alloc: Global, line: &[u8], desk: &mut Desk<V>) -> Result<Text, Fail> {
-    let line = Line::read(alloc, line)?;
+    let line = ShellLine::read(alloc, line)?;
     let mut out = Text::new(alloc);
     run(alloc, &line, desk, &mut out)?;
     Ok(out)

@@ -3,7 +3,7 @@ use crate::script::shell;
 use em_base::{Fuel, Text};
 use em_exec::{SubWords, sub_words};
 use em_gram::parse;
-use em_script::Line;
+use em_script::ShellLine;
 use em_states::{put_all, state};
 use em_view::{Desk, ExecNo, PlainView, View};
 use em_word::Shell;
@@ -53,7 +53,7 @@ static ROWS: [Row; 28] = [
     ("make if; if", 0, "/ none"),
 ];
 
-type Found = Result<Option<SubWords>, ExecNo>;
+type SubRead = Result<Option<SubWords>, ExecNo>;
 
 /// Of the line.
 fn by_line<V: View>(
@@ -62,8 +62,8 @@ fn by_line<V: View>(
     shell: &mut Shell,
     desk: &mut Desk<V>,
     out: &mut Text,
-) -> Found {
-    let line = Line::read(alloc, line)?;
+) -> SubRead {
+    let line = ShellLine::read(alloc, line)?;
     line.sub_words(alloc, shell, desk, out)
 }
 
@@ -74,14 +74,14 @@ fn by_script<V: View>(
     shell: &mut Shell,
     desk: &mut Desk<V>,
     out: &mut Text,
-) -> Found {
+) -> SubRead {
     match parse(alloc, line) {
         Ok(script) => sub_words(alloc, &script, shell, desk, out),
         Err(_) => Ok(None),
     }
 }
 
-fn put_found(alloc: Global, out: &mut Text, found: &Found) -> Result<(), Fail> {
+fn put_found(alloc: Global, out: &mut Text, found: &SubRead) -> Result<(), Fail> {
     match found {
         Ok(None) => put_all(out, &[b" none"]),
         Ok(Some(SubWords::Words(words))) => {

@@ -13,7 +13,7 @@ use Rattle.em_command.specs.declared.jump.Jump.{Jump}
 use Rattle.em_command.specs.declared.jump.Jump.TheVariants.{Exit, Break, Continue, End}
 use Rattle.em_command.specs.declared.here.Here.{Here}
 use Rattle.em_command.specs.declared.here.Scene.{Scene}
-use Rattle.em_command.specs.declared.streams.Opened.{Opened}
+use Rattle.em_command.specs.declared.streams.OpenedFile.{OpenedFile}
 use Rattle.em_command.specs.declared.streams.Streams.{Streams}
 use Rattle.em_command.specs.Jumps.{Acts, looked}
 use Rattle.em_command.specs.Heres.{piece, written, complain}
@@ -31,7 +31,7 @@ use Rattle.em_shell_laws.proofs.Redirecting.{writes, appends, alone, into_handed
 use Rattle.em_shell_laws.proofs.Writing.{behind, behind_old}
 
 -- it is handed on, and the text for its file is appended
-module _ (f : Opened) (ps : List Piece) (o : Oracle) (h : Here) (w : Workspace) where
+module _ (f : OpenedFile) (ps : List Piece) (o : Oracle) (h : Here) (w : Workspace) where
   abbrev passed : Here
   passed = written (map (λ p. piece 2 p.text) (beside 1 ps)) h
 
@@ -122,7 +122,7 @@ module _ (ended : Result (Unit {0}) Jump) (has : HasEnd ended) (o : Oracle) (g z
   was_told (Err (operand.Fault word r), q) e = at_end (complain word r g) q e
   was_told (Err (operand.End j), q) e = absurd (isnt_end ended j g z has (ap (λ (d : Outcome (Unit {0})). d.0) e))
 
-module _ (deeper : Deeper) (scene : Scene) (o : Oracle) (c : Compound) (r : Redirect) (f : Opened) (h t k : Here) (w v x y : Workspace) (ended : Result (Unit {0}) Jump)
+module _ (deeper : Deeper) (scene : Scene) (o : Oracle) (c : Compound) (r : Redirect) (f : OpenedFile) (h t k : Here) (w v x y : Workspace) (ended : Result (Unit {0}) Jump)
     (opened : Ends o (redirect_one deeper scene r around) h w (Some (into around f)) t v)
     (comes : Comes o (body_of deeper (within_streams (into around f) scene) c) (unwritten t) v ended k x) (has : HasEnd ended) where
   abbrev text : List ℕ
@@ -138,14 +138,14 @@ module _ (deeper : Deeper) (scene : Scene) (o : Oracle) (c : Compound) (r : Redi
       let whole = as_ended deeper scene o c (r ∷ []) (into around f) h t k w v x (alone deeper scene o r around (into around f) h t w v opened) ended comes has in
       was_told ended has o left_here left_here y (append f text o x) (ap (jumping ended has o left_here left_here y) (sym file) ∙ sym whole ∙ e)
 
-pub write : (deeper : Deeper) (scene : Scene) (o : Oracle) (c : Compound) (r : Redirect) (f : Opened) (h t k : Here) (w v x y : Workspace) (ended : Result (Unit {0}) Jump) → Empties deeper scene o r h w f t v
+pub write : (deeper : Deeper) (scene : Scene) (o : Oracle) (c : Compound) (r : Redirect) (f : OpenedFile) (h t k : Here) (w v x y : Workspace) (ended : Result (Unit {0}) Jump) → Empties deeper scene o r h w f t v
     → Comes o (body_of deeper (within_streams (into around f) scene) c) (unwritten t) v ended k x → HasEnd ended → HasNoLinks o x → Holds x f.path []
     → Comes o (compound_of deeper scene c (r ∷ [])) h w ended (record k { pieces = t.pieces ++ map (λ p. piece 2 p.text) (beside 1 k.pieces) }) y → Holds y f.path (said_on 1 k.pieces)
 write deeper scene o c r f h t k w v x y ended empties comes has none holds e =
     behind o f [] (passed f k.pieces o (record k { pieces = t.pieces }) x) x y none (said_on 1 k.pieces) holds
     (was_appended deeper scene o c r f h t k w v x y ended (writes deeper scene o r around f h t w v empties) comes has e)
 
-pub append_old : (deeper : Deeper) (scene : Scene) (o : Oracle) (c : Compound) (r : Redirect) (f : Opened) (old : List ℕ) (h t k : Here) (w v x u y : Workspace) (ended : Result (Unit {0}) Jump) → Finds deeper scene o r h w f t v
+pub append_old : (deeper : Deeper) (scene : Scene) (o : Oracle) (c : Compound) (r : Redirect) (f : OpenedFile) (old : List ℕ) (h t k : Here) (w v x u y : Workspace) (ended : Result (Unit {0}) Jump) → Finds deeper scene o r h w f t v
     → Comes o (body_of deeper (within_streams (into around f) scene) c) (unwritten t) v ended k x → HasEnd ended → HasNoLinks o x → content f.path o x ≡ (Ok (Some old), u) → said_on 1 k.pieces ≢ []
     → Comes o (compound_of deeper scene c (r ∷ [])) h w ended (record k { pieces = t.pieces ++ map (λ p. piece 2 p.text) (beside 1 k.pieces) }) y → Holds y f.path (old ++ said_on 1 k.pieces)
 append_old deeper scene o c r f old h t k w v x u y ended finds comes has none was some e =

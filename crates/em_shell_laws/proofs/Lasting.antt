@@ -46,7 +46,7 @@ use Rattle.em_command.specs.declared.jump.Jump.{Jump}
 use Rattle.em_command.specs.declared.jump.Jump.TheVariants.{End}
 use Rattle.em_command.specs.declared.here.Here.{Here}
 use Rattle.em_command.specs.declared.here.Scene.{Scene}
-use Rattle.em_command.specs.declared.streams.Opened.{Opened}
+use Rattle.em_command.specs.declared.streams.OpenedFile.{OpenedFile}
 use Rattle.em_command.specs.declared.streams.Streams.{Streams}
 use Rattle.em_command.specs.Jumps as jumps
 use Rattle.em_command.specs.Jumps.{Acts, Change, looked, jump_of}
@@ -176,7 +176,7 @@ redirected_burns fd k word s = all_looked (λ h. connect h.shell.cwd fd k word s
     by_kind cwd Read = path_burns cwd fd Read word s
     by_kind cwd Duplicate = burns_gives (duplicated fd word s)
 
-append_burns : (f : Opened) (text : List ℕ) → Burns (append f text)
+append_burns : (f : OpenedFile) (text : List ℕ) → Burns (append f text)
 unfolding append_some
 append_burns f [] = burns_done tt
 append_burns f (b ∷ bs) = then_burns (burns_named f.word (content_burns f.path)) by_content
@@ -185,7 +185,7 @@ append_burns f (b ∷ bs) = then_burns (burns_named f.word (content_burns f.path
     by_content None = burns_done tt
     by_content (Some bytes) = burns_named f.word (put_burns f.path (bytes ++ b ∷ bs))
 
-each_appended : (fs : List Opened) (ts : List (List ℕ)) → BurnsAll (append_each fs ts)
+each_appended : (fs : List OpenedFile) (ts : List (List ℕ)) → BurnsAll (append_each fs ts)
 unfolding appended
 each_appended [] ts = all_done tt
 each_appended (f ∷ fs) [] = all_done tt

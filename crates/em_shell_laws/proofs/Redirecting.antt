@@ -18,7 +18,7 @@ use Rattle.em_syntax.specs.declared.tree.RedirectKind.TheVariants.{Write, Append
 use Rattle.em_word.specs.Literal.{literal_of}
 use Rattle.em_command.specs.declared.here.Here.{Here}
 use Rattle.em_command.specs.declared.here.Scene.{Scene}
-use Rattle.em_command.specs.declared.streams.Opened.{Opened}
+use Rattle.em_command.specs.declared.streams.OpenedFile.{OpenedFile}
 use Rattle.em_command.specs.declared.streams.Streams.{Streams}
 use Rattle.em_command.specs.Jumps.{looked}
 use Rattle.em_command.specs.Heres.{piece}
@@ -49,11 +49,11 @@ module _ (deeper : Deeper) (scene : Scene) (o : Oracle) where
       then_on (whole deeper scene (out-Redirect r).target) (λ x. redirected (out-Redirect r).fd (out-Redirect r).kind x s) o word e
       ∙ ap (λ (n : ℕ). redirected n (out-Redirect r).kind word s t o u) is.0 ∙ ap (λ (x : RedirectKind). redirected fd x word s t o u) is.1
 
-  by_write : (s : Streams) (f : Opened) (t : Here) (u v : Workspace) → located t.shell.cwd f.word ≡ Ok f.path → f.path ≢ codes "/dev/null" → put f.path [] o u ≡ (Ok tt, v) → Ends o (redirected 1 Write f.word s) t u (Some (into s f)) t v
+  by_write : (s : Streams) (f : OpenedFile) (t : Here) (u v : Workspace) → located t.shell.cwd f.word ≡ Ok f.path → f.path ≢ codes "/dev/null" → put f.path [] o u ≡ (Ok tt, v) → Ends o (redirected 1 Write f.word s) t u (Some (into s f)) t v
   unfolding redirected looked opened source_of emptied named lift action.◌>>=◌ action.done
   by_write s f t u v path plain puts = rw (path, not_null f.path plain, puts) refl
 
-  by_append : (s : Streams) (f : Opened) (t : Here) (u v : Workspace) → located t.shell.cwd f.word ≡ Ok f.path → f.path ≢ codes "/dev/null" → kind_at f.path o u ≡ (Ok kind.File, v) → Ends o (redirected 1 Append f.word s) t u (Some (into s f)) t v
+  by_append : (s : Streams) (f : OpenedFile) (t : Here) (u v : Workspace) → located t.shell.cwd f.word ≡ Ok f.path → f.path ≢ codes "/dev/null" → kind_at f.path o u ≡ (Ok kind.File, v) → Ends o (redirected 1 Append f.word s) t u (Some (into s f)) t v
   unfolding redirected looked opened source_of added named lift action.◌>>=◌ action.done
   by_append s f t u v path plain finds = rw (path, not_null f.path plain, finds) refl
 
@@ -61,10 +61,10 @@ module _ (deeper : Deeper) (scene : Scene) (o : Oracle) where
   unfolding redirected looked action.done
   by_double s h w = refl
 
-  pub writes : (r : Redirect) (s : Streams) (f : Opened) (h t : Here) (w v : Workspace) → Empties deeper scene o r h w f t v → Ends o (redirect_one deeper scene r s) h w (Some (into s f)) t v
+  pub writes : (r : Redirect) (s : Streams) (f : OpenedFile) (h t : Here) (w v : Workspace) → Empties deeper scene o r h w f t v → Ends o (redirect_one deeper scene r s) h w (Some (into s f)) t v
   writes r s f h t w v is = by_word r 1 Write s f.word h t w is.between is.says.is is.says.word ∙ by_write s f t is.between v is.says.path is.says.plain is.puts
 
-  pub appends : (r : Redirect) (s : Streams) (f : Opened) (h t : Here) (w v : Workspace) → Finds deeper scene o r h w f t v → Ends o (redirect_one deeper scene r s) h w (Some (into s f)) t v
+  pub appends : (r : Redirect) (s : Streams) (f : OpenedFile) (h t : Here) (w v : Workspace) → Finds deeper scene o r h w f t v → Ends o (redirect_one deeper scene r s) h w (Some (into s f)) t v
   appends r s f h t w v is = by_word r 1 Append s f.word h t w is.between is.says.is is.says.word ∙ by_append s f t is.between v is.says.path is.says.plain is.finds
 
   doubles : (q : Redirect) (s : Streams) (h : Here) (w : Workspace) → IsTwoToOne deeper scene o q → Ends o (redirect_one deeper scene q s) h w (Some (record s { errors = s.output })) h w
@@ -85,22 +85,22 @@ module _ (deeper : Deeper) (scene : Scene) (o : Oracle) where
   unfolding done
   alone r s x h t w v first = then_on (redirect_one deeper scene r s) (λ next. if_open next (redirects deeper scene [])) o (Some x) first
 
-  module _ (r q : Redirect) (s : Streams) (f : Opened) (h t : Here) (w v : Workspace) (empties : Empties deeper scene o r h w f t v) (doubled : IsTwoToOne deeper scene o q) where
+  module _ (r q : Redirect) (s : Streams) (f : OpenedFile) (h t : Here) (w v : Workspace) (empties : Empties deeper scene o r h w f t v) (doubled : IsTwoToOne deeper scene o q) where
     pub both : Ends o (redirects deeper scene (r ∷ q ∷ []) s) h w (Some (both_into s f)) t v
     both = two r q s (into s f) (both_into s f) h t t w v v (writes r s f h t w v empties) (doubles q (into s f) t v doubled)
 
     pub apart : Ends o (redirects deeper scene (q ∷ r ∷ []) s) h w (Some (apart_into s f)) t v
     apart = two q r s (record s { errors = s.output }) (apart_into s f) h h t w w v (doubles q s h w doubled) (writes r (record s { errors = s.output }) f h t w v empties)
 
-  pub write : (r : Redirect) (s : Streams) (f : Opened) (h t : Here) (w v : Workspace) (empties : Empties deeper scene o r h w f t v) → Ends o (redirect_one deeper scene r s) h w (Some (into s f)) t v × (HasNoLinks o empties.between → Holds v f.path [])
+  pub write : (r : Redirect) (s : Streams) (f : OpenedFile) (h t : Here) (w v : Workspace) (empties : Empties deeper scene o r h w f t v) → Ends o (redirect_one deeper scene r s) h w (Some (into s f)) t v × (HasNoLinks o empties.between → Holds v f.path [])
   write r s f h t w v is = (writes r s f h t w v is, λ none. put_holds f.path [] o is.between v none is.puts)
 
-  pub append : (r : Redirect) (s : Streams) (f : Opened) (h t : Here) (w v : Workspace) (found : Finds deeper scene o r h w f t v) → Ends o (redirect_one deeper scene r s) h w (Some (into s f)) t v × (v.changes ≡ found.between.changes)
+  pub append : (r : Redirect) (s : Streams) (f : OpenedFile) (h t : Here) (w v : Workspace) (found : Finds deeper scene o r h w f t v) → Ends o (redirect_one deeper scene r s) h w (Some (into s f)) t v × (v.changes ≡ found.between.changes)
   append r s f h t w v is = (appends r s f h t w v is, looking_keeps f.path o is.between v _ is.finds)
 
 -- ---- where what is written goes
 
-module _ (f : Opened) where
+module _ (f : OpenedFile) where
   abbrev to_output : Piece → Piece
   to_output p = piece 1 p.text
 

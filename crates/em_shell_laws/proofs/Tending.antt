@@ -33,12 +33,12 @@ use Rattle.em_lineutil.specs.declared.test.Binary.TheVariants as binary
 use Rattle.em_lineutil.specs.declared.test.Form.{Form}
 use Rattle.em_lineutil.specs.declared.test.Form.TheVariants as form
 use Rattle.em_lineutil.specs.Tests.{form_of, stripped}
-use Rattle.em_textutil.specs.declared.source.Source.{Source}
-use Rattle.em_textutil.specs.declared.name.Reading.{Reading}
-use Rattle.em_textutil.specs.declared.name.Utility as text
-use Rattle.em_textutil.specs.declared.name.Utility.TheVariants as by_text
-use Rattle.em_textutil.specs.declared.plan.Plan.{Plan}
-use Rattle.em_textutil.specs.declared.plan.Plan.TheVariants.{Read, Wrong}
+use Rattle.em_textutil.specs.declared.source.ReadOperand.{ReadOperand}
+use Rattle.em_textutil.specs.declared.name.InputUtility.{InputUtility}
+use Rattle.em_textutil.specs.declared.name.TextUtility as text
+use Rattle.em_textutil.specs.declared.name.TextUtility.TheVariants as by_text
+use Rattle.em_textutil.specs.declared.plan.ParsedArgs.{ParsedArgs}
+use Rattle.em_textutil.specs.declared.plan.ParsedArgs.TheVariants.{Read, Wrong}
 use Rattle.em_textutil.specs.Sources.{found, is_input, found_in, sources, read_all}
 use Rattle.em_textutil.specs.Expressions.{kind_by, stamp_by, content_by, path_of, says_kind, says_bytes, says_link, says_unary, says_stamps, says_binary, says, word_at, test_words}
 use Rattle.em_textutil.specs.Expressions as expression
@@ -378,7 +378,7 @@ found_burns : (cwd name : List ℕ) → Burns (found cwd name)
 unfolding found
 found_burns cwd name = record { down = λ o w. (read_burns cwd name).down o w }
 
-sources_burn : (cwd : List ℕ) (dashed : Bool) (input : List ℕ) (so_far : List Source) (names : List (List ℕ)) → Burns (sources cwd dashed input so_far names)
+sources_burn : (cwd : List ℕ) (dashed : Bool) (input : List ℕ) (so_far : List ReadOperand) (names : List (List ℕ)) → Burns (sources cwd dashed input so_far names)
 unfolding found_in
 sources_burn cwd dashed input so_far [] = burns_done _
 sources_burn cwd dashed input so_far (name ∷ names) = then_burns (burns_by (is_input dashed name) (burns_done _) (found_burns cwd name)) (λ what. sources_burn cwd dashed input _ names)
@@ -386,16 +386,16 @@ sources_burn cwd dashed input so_far (name ∷ names) = then_burns (burns_by (is
 all_read : (cwd : List ℕ) (dashed : Bool) (input : List ℕ) (names : List (List ℕ)) → Burns (read_all cwd dashed input names)
 all_read cwd dashed input names = burns_by (length names == 0) (burns_done _) (sources_burn cwd dashed input [] names)
 
-carried_burns : (cwd : List ℕ) (r : Reading) (o : Options) (input : List ℕ) (os : List (List ℕ)) (p : Plan) → Burns (carried cwd r o input os p)
+carried_burns : (cwd : List ℕ) (r : InputUtility) (o : Options) (input : List ℕ) (os : List (List ℕ)) (p : ParsedArgs) → Burns (carried cwd r o input os p)
 unfolding carried
 carried_burns cwd r o input os (Wrong word reason) = burns_done _
 carried_burns cwd r o input os (Read job) = then_burns (all_read cwd (is_dashed r) input (files_of job os)) (λ ss. burns_done _)
 
-reads_burn : (cwd : List ℕ) (r : Reading) (input : List ℕ) (words : List (List ℕ)) → Burns (reads cwd r input words)
+reads_burn : (cwd : List ℕ) (r : InputUtility) (input : List ℕ) (words : List (List ℕ)) → Burns (reads cwd r input words)
 unfolding reads with_options
 reads_burn cwd r input words = then_burns (burns_gives _) (λ o. then_burns (burns_gives _) (λ p. carried_burns cwd r o input (drop o.taken words) p))
 
-text_run_burns : (cwd : List ℕ) (u : text.Utility) (input : List ℕ) (words : List (List ℕ)) → Burns (texts.run cwd u input words)
+text_run_burns : (cwd : List ℕ) (u : text.TextUtility) (input : List ℕ) (words : List (List ℕ)) → Burns (texts.run cwd u input words)
 unfolding bracketed
 text_run_burns cwd (by_text.Plain p) input words = burns_gives _
 text_run_burns cwd (by_text.Reading r) input words = reads_burn cwd r input words
@@ -407,6 +407,6 @@ unfolding texts.utility
 text_utility_burns [] input cwd = burns_done None
 text_utility_burns (name ∷ words) input cwd = by_utility (texts.utility_of name)
   where
-    by_utility : (u : Option text.Utility) → Burns (texts.run_by u cwd input words)
+    by_utility : (u : Option text.TextUtility) → Burns (texts.run_by u cwd input words)
     by_utility None = burns_done None
     by_utility (Some u) = then_burns (text_run_burns cwd u input words) (λ d. burns_done (Some d))

@@ -26,7 +26,7 @@ use Rattle.em_utility.specs.Operands.{refused, named}
 use Rattle.em_command.specs.declared.jump.Jump.{Jump}
 use Rattle.em_command.specs.declared.jump.Jump.TheVariants.{End}
 use Rattle.em_command.specs.declared.here.Here.{Here}
-use Rattle.em_command.specs.declared.streams.Opened.{Opened}
+use Rattle.em_command.specs.declared.streams.OpenedFile.{OpenedFile}
 use Rattle.em_command.specs.Jumps.{looked}
 use Rattle.em_command.specs.Heres.{piece, complaint, complain}
 use Rattle.em_command.specs.Delivering.{append_to, append_some, append, told, appended}
@@ -131,7 +131,7 @@ longer : (ps : List Piece) (p : Piece) → ps ++ p ∷ [] ≢ ps
 longer ps p e = (let more = length-append ps (p ∷ []) in let same = ap length e in omega (arith, more, same))
 
 -- where nothing was written of a refusal there was none
-unrefused : (o : Oracle) (f : Opened) (text : List ℕ) (h : Here) (w v : Workspace) → Ends o (appended f text) h w tt h v → append f text o w ≡ (Ok tt, v)
+unrefused : (o : Oracle) (f : OpenedFile) (text : List ℕ) (h : Here) (w v : Workspace) → Ends o (appended f text) h w tt h v → append f text o w ≡ (Ok tt, v)
 unfolding appended looked
 unrefused o f text h w v e = by (append f text o w) e
   where
@@ -147,7 +147,7 @@ put_behind o word p old text body u v none is e =
     let put_it : append_to word p text (Some old) o u ≡ (Ok tt, v) = ap (λ (b : Body). append_to word p text b o u) (sym is) ∙ e in
     put_holds p (old ++ text) o u v none (lifted (refused word) tt (put p (old ++ text)) o u v put_it)
 
-module _ (o : Oracle) (f : Opened) (old : List ℕ) (h : Here) (w v : Workspace) (none : HasNoLinks o w) where
+module _ (o : Oracle) (f : OpenedFile) (old : List ℕ) (h : Here) (w v : Workspace) (none : HasNoLinks o w) where
   pub behind : (text : List ℕ) → Holds w f.path old → Ends o (appended f text) h w tt h v → Holds v f.path (old ++ text)
   unfolding append_some named action.done
   behind [] holds e =

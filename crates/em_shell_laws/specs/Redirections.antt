@@ -19,7 +19,7 @@ use Rattle.em_syntax.specs.declared.tree.RedirectKind.{RedirectKind}
 use Rattle.em_syntax.specs.declared.tree.RedirectKind.TheVariants.{Write, Append, Duplicate}
 use Rattle.em_command.specs.declared.here.Here.{Here}
 use Rattle.em_command.specs.declared.here.Scene.{Scene}
-use Rattle.em_command.specs.declared.streams.Opened.{Opened}
+use Rattle.em_command.specs.declared.streams.OpenedFile.{OpenedFile}
 use Rattle.em_command.specs.declared.streams.Sink.TheVariants.{Output, Nowhere, File}
 use Rattle.em_command.specs.declared.streams.Streams.{Streams}
 use Rattle.em_exec.specs.Words.{Deeper, whole}
@@ -30,18 +30,18 @@ Is fd k r = ((out-Redirect r).fd ≡ fd) × ((out-Redirect r).kind ≡ k)
 
 -- from h and w the word of a redirection of stream 1 comes to f's, and says f's path, which isn't
 -- `/dev/null`; u stands behind its expansion
-pub record Says (deeper : Deeper) (scene : Scene) (o : Oracle) (k : RedirectKind) (r : Redirect) (h : Here) (w : Workspace) (f : Opened) (t : Here) (u : Workspace) : Type 0 where
+pub record Says (deeper : Deeper) (scene : Scene) (o : Oracle) (k : RedirectKind) (r : Redirect) (h : Here) (w : Workspace) (f : OpenedFile) (t : Here) (u : Workspace) : Type 0 where
   pub is : Is 1 k r
   pub word : Ends o (whole deeper scene (out-Redirect r).target) h w f.word t u
   pub path : located t.shell.cwd f.word ≡ Ok f.path
   pub plain : f.path ≢ codes "/dev/null"
 
-pub record Empties (deeper : Deeper) (scene : Scene) (o : Oracle) (r : Redirect) (h : Here) (w : Workspace) (f : Opened) (t : Here) (v : Workspace) : Type 0 where
+pub record Empties (deeper : Deeper) (scene : Scene) (o : Oracle) (r : Redirect) (h : Here) (w : Workspace) (f : OpenedFile) (t : Here) (v : Workspace) : Type 0 where
   pub between : Workspace
   pub says : Says deeper scene o Write r h w f t between
   pub puts : put f.path [] o between ≡ (Ok tt, v)
 
-pub record Finds (deeper : Deeper) (scene : Scene) (o : Oracle) (r : Redirect) (h : Here) (w : Workspace) (f : Opened) (t : Here) (v : Workspace) : Type 0 where
+pub record Finds (deeper : Deeper) (scene : Scene) (o : Oracle) (r : Redirect) (h : Here) (w : Workspace) (f : OpenedFile) (t : Here) (v : Workspace) : Type 0 where
   pub between : Workspace
   pub says : Says deeper scene o Append r h w f t between
   pub finds : kind_at f.path o between ≡ (Ok kind.File, v)
@@ -53,14 +53,14 @@ pub record IsTwoToOne (deeper : Deeper) (scene : Scene) (o : Oracle) (r : Redire
 
 -- ---- where streams go
 
-abbrev pub into : Streams → Opened → Streams
+abbrev pub into : Streams → OpenedFile → Streams
 into s f = record s { output = File (length s.files); files = s.files ++ f ∷ [] }
 
-abbrev pub both_into : Streams → Opened → Streams
+abbrev pub both_into : Streams → OpenedFile → Streams
 both_into s f = record s { output = File (length s.files); errors = File (length s.files); files = s.files ++ f ∷ [] }
 
 -- stream 2 goes where stream 1 went
-abbrev pub apart_into : Streams → Opened → Streams
+abbrev pub apart_into : Streams → OpenedFile → Streams
 apart_into s f = record s { output = File (length s.files); errors = s.output; files = s.files ++ f ∷ [] }
 
 abbrev pub HasNoLinks : Oracle → Workspace → Type 0

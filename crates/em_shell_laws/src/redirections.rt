@@ -27,7 +27,7 @@ ghost use Rattle.em_command.specs.declared.jump.Jump.{Jump};
 ghost use Rattle.em_command.specs.declared.jump.Jump.TheVariants.{End};
 ghost use Rattle.em_command.specs.declared.here.Here.{Here};
 ghost use Rattle.em_command.specs.declared.here.Scene.{Scene};
-ghost use Rattle.em_command.specs.declared.streams.Opened.{Opened};
+ghost use Rattle.em_command.specs.declared.streams.OpenedFile.{OpenedFile};
 ghost use Rattle.em_command.specs.declared.streams.Streams.{Streams};
 ghost use Rattle.em_command.specs.Heres.{piece, written};
 ghost use Rattle.em_command.specs.Streams.{around};
@@ -59,17 +59,17 @@ pub fn law_order()
     ensures digit { (deeper : Deeper) (scene : Scene) (o : Oracle) (q : Redirect) → Is 2 Duplicate q
         → literal_of (out-Redirect q).target ≡ Some (codes "1") → IsTwoToOne deeper scene o q }
     ensures both { (deeper : Deeper) (scene : Scene) (o : Oracle) (r q : Redirect) (s : Streams)
-        (f : Opened) (h t : Here) (w v : Workspace) → Empties deeper scene o r h w f t v
+        (f : OpenedFile) (h t : Here) (w v : Workspace) → Empties deeper scene o r h w f t v
         → IsTwoToOne deeper scene o q
         → Ends o (redirects deeper scene (r ∷ q ∷ []) s) h w (Some (both_into s f)) t v }
     ensures apart { (deeper : Deeper) (scene : Scene) (o : Oracle) (r q : Redirect) (s : Streams)
-        (f : Opened) (h t : Here) (w v : Workspace) → Empties deeper scene o r h w f t v
+        (f : OpenedFile) (h t : Here) (w v : Workspace) → Empties deeper scene o r h w f t v
         → IsTwoToOne deeper scene o q
         → Ends o (redirects deeper scene (q ∷ r ∷ []) s) h w (Some (apart_into s f)) t v }
-    ensures both_written { (f : Opened) (ps : List Piece)
+    ensures both_written { (f : OpenedFile) (ps : List Piece)
         → (handed (both_into around f) ps ≡ [])
         × (texts_for (both_into around f) ps ≡ said ps ∷ []) }
-    ensures apart_written { (f : Opened) (ps : List Piece)
+    ensures apart_written { (f : OpenedFile) (ps : List Piece)
         → (handed (apart_into around f) ps ≡ map (λ p. piece 1 p.text) (beside 1 ps))
         × (texts_for (apart_into around f) ps ≡ said_on 1 ps ∷ []) }
 {}
@@ -80,17 +80,17 @@ pub fn law_order()
 /// symbolic link is told of or made.
 pub fn law_file()
     ensures write { (deeper : Deeper) (scene : Scene) (o : Oracle) (r : Redirect) (s : Streams)
-        (f : Opened) (h t : Here) (w v : Workspace) (empties : Empties deeper scene o r h w f t v)
+        (f : OpenedFile) (h t : Here) (w v : Workspace) (empties : Empties deeper scene o r h w f t v)
         → Ends o (redirect_one deeper scene r s) h w (Some (into s f)) t v
         × (HasNoLinks o empties.between → Holds v f.path []) }
     ensures append { (deeper : Deeper) (scene : Scene) (o : Oracle) (r : Redirect) (s : Streams)
-        (f : Opened) (h t : Here) (w v : Workspace) (found : Finds deeper scene o r h w f t v)
+        (f : OpenedFile) (h t : Here) (w v : Workspace) (found : Finds deeper scene o r h w f t v)
         → Ends o (redirect_one deeper scene r s) h w (Some (into s f)) t v
         × (v.changes ≡ found.between.changes) }
-    ensures behind { (o : Oracle) (f : Opened) (old text : List ℕ) (h : Here) (w v : Workspace)
+    ensures behind { (o : Oracle) (f : OpenedFile) (old text : List ℕ) (h : Here) (w v : Workspace)
         → HasNoLinks o w → Holds w f.path old → Ends o (appended f text) h w tt h v
         → Holds v f.path (old ++ text) }
-    ensures behind_old { (o : Oracle) (f : Opened) (old text : List ℕ) (h : Here)
+    ensures behind_old { (o : Oracle) (f : OpenedFile) (old text : List ℕ) (h : Here)
         (w u v : Workspace) → HasNoLinks o w → content f.path o w ≡ (Ok (Some old), u) → text ≢ []
         → Ends o (appended f text) h w tt h v → Holds v f.path (old ++ text) }
     ensures read { (o : Oracle) (p bytes : List ℕ) (w : Workspace) → Holds w p bytes
@@ -117,7 +117,7 @@ pub fn law_compound()
         → Leaves o (compound_of deeper scene c rs) h w (End e)
         (record k { pieces = t.pieces ++ handed s k.pieces }) x }
     ensures write { (deeper : Deeper) (scene : Scene) (o : Oracle) (c : Compound) (r : Redirect)
-        (f : Opened) (h t k : Here) (w v x y : Workspace) (ended : Result (Unit {0}) Jump)
+        (f : OpenedFile) (h t k : Here) (w v x y : Workspace) (ended : Result (Unit {0}) Jump)
         → Empties deeper scene o r h w f t v
         → Comes o (running.body_of deeper (within_streams (into around f) scene) c) (unwritten t) v
         ended k x
@@ -126,7 +126,7 @@ pub fn law_compound()
         (record k { pieces = t.pieces ++ map (λ p. piece 2 p.text) (beside 1 k.pieces) }) y
         → Holds y f.path (said_on 1 k.pieces) }
     ensures append { (deeper : Deeper) (scene : Scene) (o : Oracle) (c : Compound) (r : Redirect)
-        (f : Opened) (old : List ℕ) (h t k : Here) (w v x u y : Workspace)
+        (f : OpenedFile) (old : List ℕ) (h t k : Here) (w v x u y : Workspace)
         (ended : Result (Unit {0}) Jump) → Finds deeper scene o r h w f t v
         → Comes o (running.body_of deeper (within_streams (into around f) scene) c) (unwritten t) v
         ended k x

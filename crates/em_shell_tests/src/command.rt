@@ -181,7 +181,7 @@ fn unset(alloc: Global, here: &mut Here) -> Result<(), Jump> {
 
 /// What a command in capitals does.
 #[derive(Clone, Copy)]
-enum Call {
+enum TestCommand {
     Input,
     Set,
     Vars,
@@ -196,22 +196,22 @@ enum Call {
     Spent,
 }
 
-static CALLS: [(&str, Call); 12] = [
-    ("INPUT", Call::Input),
-    ("SET", Call::Set),
-    ("VARS", Call::Vars),
-    ("HAND", Call::Hand),
-    ("DELIVER", Call::Deliver),
-    ("REJOIN", Call::Rejoin),
-    ("STUCK", Call::Stuck),
-    ("OVERHEAR", Call::Overhear),
-    ("COMPLAIN", Call::Complain),
-    ("UNSET", Call::Unset),
-    ("REFUSED", Call::Refused),
-    ("SPENT", Call::Spent),
+static CALLS: [(&str, TestCommand); 12] = [
+    ("INPUT", TestCommand::Input),
+    ("SET", TestCommand::Set),
+    ("VARS", TestCommand::Vars),
+    ("HAND", TestCommand::Hand),
+    ("DELIVER", TestCommand::Deliver),
+    ("REJOIN", TestCommand::Rejoin),
+    ("STUCK", TestCommand::Stuck),
+    ("OVERHEAR", TestCommand::Overhear),
+    ("COMPLAIN", TestCommand::Complain),
+    ("UNSET", TestCommand::Unset),
+    ("REFUSED", TestCommand::Refused),
+    ("SPENT", TestCommand::Spent),
 ];
 
-fn call_of(words: &[Text]) -> Option<Call> {
+fn call_of(words: &[Text]) -> Option<TestCommand> {
     let name = words.first()?;
     for (known, call) in &CALLS {
         if known.as_bytes() == name.bytes() {
@@ -224,24 +224,24 @@ fn call_of(words: &[Text]) -> Option<Call> {
 /// Calls what em_exec calls.
 fn run_call<V: View>(
     alloc: Global,
-    call: Call,
+    call: TestCommand,
     streams: &Streams,
     here: &mut Here,
     desk: &mut Desk<V>,
 ) -> Result<(), Jump> {
     match call {
-        Call::Input => write_input(alloc, streams, here),
-        Call::Set => set(alloc, here),
-        Call::Vars => write_vars(alloc, here),
-        Call::Hand => hand_copy(alloc, streams, here),
-        Call::Deliver => deliver_copy(alloc, streams, here, desk),
-        Call::Rejoin => rejoin(alloc, here),
-        Call::Stuck => rejoin_stuck(alloc, here),
-        Call::Overhear => overhear(alloc, here),
-        Call::Complain => here.complain(alloc, b"w", Reason::File(FileNo::TooBig)),
-        Call::Unset => unset(alloc, here),
-        Call::Refused => Err(here.fault(WordFault::Refused(Construct::Submake))),
-        Call::Spent => Err(here.fault(WordFault::Spent)),
+        TestCommand::Input => write_input(alloc, streams, here),
+        TestCommand::Set => set(alloc, here),
+        TestCommand::Vars => write_vars(alloc, here),
+        TestCommand::Hand => hand_copy(alloc, streams, here),
+        TestCommand::Deliver => deliver_copy(alloc, streams, here, desk),
+        TestCommand::Rejoin => rejoin(alloc, here),
+        TestCommand::Stuck => rejoin_stuck(alloc, here),
+        TestCommand::Overhear => overhear(alloc, here),
+        TestCommand::Complain => here.complain(alloc, b"w", Reason::File(FileNo::TooBig)),
+        TestCommand::Unset => unset(alloc, here),
+        TestCommand::Refused => Err(here.fault(WordFault::Refused(Construct::Submake))),
+        TestCommand::Spent => Err(here.fault(WordFault::Spent)),
     }
 }
 

@@ -18,7 +18,7 @@ use std::test::Fail;
 
 /// A piece of a word; the first of each tells whether it is quoted.
 #[derive(Clone, Copy)]
-enum Part {
+enum WordPart {
     Bytes(bool, &'static str),
     /// A value of the variable `x`: its form, and its argument, which is one piece, not quoted;
     /// `None` is no argument.
@@ -86,20 +86,20 @@ fn output(alloc: Global) -> WordPiece {
     }
 }
 
-fn add_part(alloc: Global, pieces: &mut Vec<WordPiece>, part: &Part) -> Result<(), NoMemory> {
+fn add_part(alloc: Global, pieces: &mut Vec<WordPiece>, part: &WordPart) -> Result<(), NoMemory> {
     match part {
-        Part::Bytes(quoted, text) => pieces.push(bytes(alloc, *quoted, text)?)?,
-        Part::Value(quoted, form, argument) => {
+        WordPart::Bytes(quoted, text) => pieces.push(bytes(alloc, *quoted, text)?)?,
+        WordPart::Value(quoted, form, argument) => {
             add_value(alloc, pieces, *quoted, form, *argument)?
         }
-        Part::Begin(form) => pieces.push(begin(alloc, false, form)?)?,
-        Part::End => pieces.push(end())?,
-        Part::Output => pieces.push(output(alloc))?,
+        WordPart::Begin(form) => pieces.push(begin(alloc, false, form)?)?,
+        WordPart::End => pieces.push(end())?,
+        WordPart::Output => pieces.push(output(alloc))?,
     }
     Ok(())
 }
 
-fn word(alloc: Global, parts: &[Part]) -> Result<Word, NoMemory> {
+fn word(alloc: Global, parts: &[WordPart]) -> Result<Word, NoMemory> {
     let mut pieces = Vec::new(alloc);
     for part in parts {
         add_part(alloc, &mut pieces, part)?;
@@ -264,12 +264,12 @@ fn say_desk<V: View>(alloc: Global, desk: Desk<V>, text: &mut Text) -> Result<()
 }
 
 /// How a word is expanded, and the text of `x`.
-type Manner<'a> = (Mode, Option<&'a str>);
+type WordManner<'a> = (Mode, Option<&'a str>);
 
 fn expand<V: View>(
     alloc: Global,
     word: &Word,
-    manner: Manner,
+    manner: WordManner,
     desk: &mut Desk<V>,
     text: &mut Text,
 ) -> Result<(), Fail> {
@@ -277,7 +277,12 @@ fn expand<V: View>(
     turns(alloc, word, manner.0, &mut shell, desk, text)
 }
 
-fn told<V: View>(alloc: Global, desk: Desk<V>, word: &Word, manner: Manner) -> Result<Text, Fail> {
+fn told<V: View>(
+    alloc: Global,
+    desk: Desk<V>,
+    word: &Word,
+    manner: WordManner,
+) -> Result<Text, Fail> {
     let mut desk = desk;
     let mut text = Text::new(alloc);
     expand(alloc, word, manner, &mut desk, &mut text)?;
@@ -290,7 +295,7 @@ fn told_on(
     alloc: Global,
     state: &State,
     word: &Word,
-    manner: Manner,
+    manner: WordManner,
     units: u64,
 ) -> Result<Text, Fail> {
     let view = PlainView::new(state);
@@ -302,8 +307,8 @@ fn told_on(
 fn told_of(
     alloc: Global,
     state: &State,
-    parts: &[Part],
-    manner: Manner,
+    parts: &[WordPart],
+    manner: WordManner,
     units: u64,
 ) -> Result<Text, Fail> {
     let word = word(alloc, parts)?;
@@ -311,7 +316,7 @@ fn told_of(
 }
 
 /// A form, its argument, the text of `x`, whether it is quoted, and what is expected.
-type Form = (
+type FormRow = (
     &'static str,
     Option<&'static str>,
     Option<&'static str>,
@@ -319,7 +324,7 @@ type Form = (
     &'static str,
 );
 
-static FORMS: [Form; 33] = [
+static FORMS: [FormRow; 33] = [
     ("", None, None, false, "[<>]|1"),
     ("", None, Some(""), true, "[<>]|1"),
     ("", None, Some("a  b"), false, "[<a][b>]|2"),
@@ -356,11 +361,11 @@ static FORMS: [Form; 33] = [
 ];
 
 /// Whether the value between `<` and `>` is told so.
-fn is_form(alloc: Global, state: &State, row: &Form) -> Result<bool, Fail> {
+fn is_form(alloc: Global, state: &State, row: &FormRow) -> Result<bool, Fail> {
     let parts = [
-        Part::Bytes(false, "<"),
-        Part::Value(row.3, row.0, row.1),
-        Part::Bytes(false, ">"),
+        WordPart::Bytes(false, "<"),
+        WordPart::Value(row.3, row.0, row.1),
+        WordPart::Bytes(false, ">"),
     ];
     let given = told_of(alloc, state, &parts, (Mode::Fields, row.2), 100)?;
     Ok(given.bytes() == row.4.as_bytes())
@@ -415,7 +420,7 @@ static TEXTS: [Plain; 20] = [
 ];
 
 fn is_plain(alloc: Global, state: &State, row: &Plain) -> Result<bool, Fail> {
-    let parts = [Part::Bytes(row.1, row.0)];
+    let parts = [WordPart::Bytes(row.1, row.0)];
     let given = told_of(alloc, state, &parts, (row.2, None), row.3)?;
     Ok(given.bytes() == row.4.as_bytes())
 }
@@ -430,15 +435,15 @@ fn texts_are_fields_names_or_patterns(rt: HostRuntime) -> Result<(), Fail> {
 }
 
 /// A word, the text of `x`, the units, and what is expected.
-type Mixed = (&'static [Part], Option<&'static str>, u64, &'static str);
+type Mixed = (&'static [WordPart], Option<&'static str>, u64, &'static str);
 
 /// Where quotes begin and end within a word.
 static QUOTES: [Mixed; 8] = [
     (
         &[
-            Part::Bytes(false, "a"),
-            Part::Value(true, "", None),
-            Part::Bytes(false, "b"),
+            WordPart::Bytes(false, "a"),
+            WordPart::Value(true, "", None),
+            WordPart::Bytes(false, "b"),
         ],
         Some("c  d"),
         100,
@@ -446,50 +451,56 @@ static QUOTES: [Mixed; 8] = [
     ),
     (
         &[
-            Part::Bytes(false, "a"),
-            Part::Value(false, "", None),
-            Part::Bytes(true, "b"),
+            WordPart::Bytes(false, "a"),
+            WordPart::Value(false, "", None),
+            WordPart::Bytes(true, "b"),
         ],
         Some(" c "),
         100,
         "[a][c][b]|2",
     ),
     (
-        &[Part::Bytes(true, ""), Part::Value(false, "", None)],
+        &[WordPart::Bytes(true, ""), WordPart::Value(false, "", None)],
         Some(" "),
         100,
         "[]|2",
     ),
     (
-        &[Part::Value(false, "", None), Part::Bytes(true, "")],
+        &[WordPart::Value(false, "", None), WordPart::Bytes(true, "")],
         Some(" "),
         100,
         "[]|2",
     ),
     (
         &[
-            Part::Bytes(true, ""),
-            Part::Value(false, "", None),
-            Part::Bytes(true, ""),
+            WordPart::Bytes(true, ""),
+            WordPart::Value(false, "", None),
+            WordPart::Bytes(true, ""),
         ],
         Some(" "),
         100,
         "[][]|2",
     ),
     (
-        &[Part::Bytes(true, ""), Part::Bytes(true, "")],
+        &[WordPart::Bytes(true, ""), WordPart::Bytes(true, "")],
         None,
         100,
         "[]|0",
     ),
     (
-        &[Part::Value(false, "", None), Part::Value(false, "", None)],
+        &[
+            WordPart::Value(false, "", None),
+            WordPart::Value(false, "", None),
+        ],
         None,
         100,
         "|2",
     ),
     (
-        &[Part::Value(true, "", None), Part::Value(false, "", None)],
+        &[
+            WordPart::Value(true, "", None),
+            WordPart::Value(false, "", None),
+        ],
         None,
         100,
         "[]|2",
@@ -522,9 +533,9 @@ static SET_FIRST: [(u64, &str); 6] = [
 
 fn is_set_first(alloc: Global, state: &State, units: u64, wanted: &str) -> Result<bool, Fail> {
     let parts = [
-        Part::Bytes(false, "a"),
-        Part::Value(false, "=", Some("z")),
-        Part::Output,
+        WordPart::Bytes(false, "a"),
+        WordPart::Value(false, "=", Some("z")),
+        WordPart::Output,
     ];
     let given = told_of(alloc, state, &parts, (Mode::Fields, None), units)?;
     Ok(given.bytes() == wanted.as_bytes())
@@ -540,12 +551,12 @@ fn a_value_is_set_before_an_output_is_asked_for(rt: HostRuntime) -> Result<(), F
 }
 
 /// `${x-${x=n}$(c)}$(d)`
-static NESTED_PARTS: [Part; 5] = [
-    Part::Begin("-"),
-    Part::Value(false, "=", Some("n")),
-    Part::Output,
-    Part::End,
-    Part::Output,
+static NESTED_PARTS: [WordPart; 5] = [
+    WordPart::Begin("-"),
+    WordPart::Value(false, "=", Some("n")),
+    WordPart::Output,
+    WordPart::End,
+    WordPart::Output,
 ];
 
 /// The text of `x`, and what is told of the word above.
@@ -583,7 +594,7 @@ fn over_states(alloc: Global, states: Vec<State>, word: &Word) -> Result<Text, F
 
 /// What is told of `d/*/k`, where `d` is listed and then isn't there.
 fn without_d(alloc: Global) -> Result<Text, Fail> {
-    let word = word(alloc, &[Part::Bytes(false, "d/*/k")])?;
+    let word = word(alloc, &[WordPart::Bytes(false, "d/*/k")])?;
     let with_d = "d/d f/d/x";
     let states = states(alloc, &[with_d, with_d, with_d, with_d, ""])?;
     over_states(alloc, states, &word)

@@ -9,7 +9,7 @@ use std::test::Fail;
 
 /// What is seen of a statement.
 #[derive(Clone, Copy)]
-struct Seen<'a> {
+struct StatementParts<'a> {
     /// What it is.
     kind: &'static [u8],
     /// The name, the names or the left side.
@@ -25,8 +25,8 @@ fn seen_as<'a>(
     first: &'a [u8],
     operator: &'static [u8],
     second: &'a [u8],
-) -> Seen<'a> {
-    Seen {
+) -> StatementParts<'a> {
+    StatementParts {
         kind,
         first,
         operator,
@@ -37,7 +37,7 @@ fn seen_as<'a>(
 /// A line, and what is seen of its statement.
 type Row = [&'static [u8]; 5];
 
-fn condition_seen<'a>(kind: &'static [u8], condition: &'a Condition) -> Seen<'a> {
+fn condition_seen<'a>(kind: &'static [u8], condition: &'a Condition) -> StatementParts<'a> {
     match condition {
         Condition::Same(sides) => seen_as(kind, sides.left.bytes(), b"is", sides.right.bytes()),
         Condition::Different(sides) => seen_as(
@@ -65,7 +65,10 @@ fn operator_text(operator: Operator) -> &'static [u8] {
 
 /// An assignment, whose kinds are named with no modifier, with `override`, with `export` and with
 /// both.
-fn assignment_seen<'a>(kinds: [&'static [u8]; 4], assignment: &'a Assignment) -> Seen<'a> {
+fn assignment_seen<'a>(
+    kinds: [&'static [u8]; 4],
+    assignment: &'a Assignment,
+) -> StatementParts<'a> {
     let [plain, overriding, exported, both] = kinds;
     let modifiers = assignment.modifiers;
     let kind = match (modifiers.overriding, modifiers.exported) {
@@ -97,7 +100,7 @@ const DEFINE: [&[u8]; 4] = [
     b"override export define",
 ];
 
-fn include_seen(include: &Include) -> Seen<'_> {
+fn include_seen(include: &Include) -> StatementParts<'_> {
     let kind: &'static [u8] = if include.required {
         b"include"
     } else {
@@ -106,7 +109,7 @@ fn include_seen(include: &Include) -> Seen<'_> {
     seen_as(kind, include.names.bytes(), b"", b"")
 }
 
-fn undefine_seen(undefine: &Undefine) -> Seen<'_> {
+fn undefine_seen(undefine: &Undefine) -> StatementParts<'_> {
     let kind: &'static [u8] = if undefine.overriding {
         b"override undefine"
     } else {
@@ -115,7 +118,7 @@ fn undefine_seen(undefine: &Undefine) -> Seen<'_> {
     seen_as(kind, undefine.name.bytes(), b"", b"")
 }
 
-fn statement_seen(statement: &Statement) -> Seen<'_> {
+fn statement_seen(statement: &Statement) -> StatementParts<'_> {
     match statement {
         Statement::Blank => seen_as(b"blank", b"", b"", b""),
         Statement::If(condition) => condition_seen(b"if", condition),

@@ -6,4 +6,4 @@ mod texts;
 mod trees;
 
 pub use texts::{put_all, put_part};
-pub use trees::{state, states};
+pub use trees::{add, file, path, state, states};

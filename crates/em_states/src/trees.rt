@@ -36,23 +36,32 @@ fn add_at(alloc: Global, tree: &mut Tree, path: Path, node: Node) -> Result<(), 
     Err("no place".into())
 }
 
-fn add(alloc: Global, tree: &mut Tree, text: &[u8], node: Node) -> Result<(), Fail> {
+/// The path of a text; where it is none, a failure.
+pub fn path(alloc: Global, text: &[u8]) -> Result<Path, Fail> {
     match Path::from_text(alloc, text)? {
-        Some(path) => add_at(alloc, tree, path, node),
+        Some(path) => Ok(path),
         None => Err("no path".into()),
     }
 }
 
-fn file(alloc: Global, bytes: &[u8]) -> Result<Node, NoMemory> {
+/// Puts a node at the path of a text, right under a directory that is there; a failure where it
+/// can't stand.
+pub fn add(alloc: Global, tree: &mut Tree, text: &[u8], node: Node) -> Result<(), Fail> {
+    let path = path(alloc, text)?;
+    add_at(alloc, tree, path, node)
+}
+
+/// A file of these bytes with this stamp.
+pub fn file(alloc: Global, bytes: &[u8], stamp: u64) -> Result<Node, NoMemory> {
     let body = Body::from_slice(alloc, bytes)?;
-    Ok(Node::File { body, stamp: 1 })
+    Ok(Node::File { body, stamp })
 }
 
 fn add_word(alloc: Global, tree: &mut Tree, word: &[u8]) -> Result<(), Fail> {
     match word {
         [b'd', path @ ..] => add(alloc, tree, path, Node::Dir { stamp: 1 }),
-        [b'f', path @ ..] => add(alloc, tree, path, file(alloc, b"")?),
-        [b'b', path @ ..] => add(alloc, tree, path, file(alloc, b"b\n")?),
+        [b'f', path @ ..] => add(alloc, tree, path, file(alloc, b"", 1)?),
+        [b'b', path @ ..] => add(alloc, tree, path, file(alloc, b"b\n", 1)?),
         [] => Ok(()),
         _ => Err("no word of a tree".into()),
     }

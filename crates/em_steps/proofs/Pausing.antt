@@ -26,8 +26,8 @@ use Rattle.em_steps.specs.declared.steps.Progress.TheVariants as progress
 use Rattle.em_steps.specs.declared.steps.Stage.{Stage}
 use Rattle.em_steps.specs.declared.steps.Stage.TheVariants as stage
 use Rattle.em_job.specs.declared.prepare.Placed.{Placed}
-use Rattle.em_job.specs.declared.ready.Ready.{Ready}
-use Rattle.em_job.specs.declared.stop.Stop.{Stop}
+use Rattle.em_job.specs.declared.ready.ParsedLine.{ParsedLine}
+use Rattle.em_job.specs.declared.stop.JobStop.{JobStop}
 use Rattle.em_job.specs.Carrying.{AreRead}
 use Rattle.em_job.specs.Deciding.{Known}
 use Rattle.em_job.specs.Effects.{saying}
@@ -35,17 +35,17 @@ use Rattle.em_job.specs.Stops.{Acts, is_free}
 use Rattle.em_steps.specs.Laps.{said, close, by_lap, lines_plot, read_plot, meant, going_at, going_by, back_by}
 use Rattle.em_steps.specs.Pausing.{turn_in, IsProgress, IsStopped, IfPaused, heard}
 
-module _ {V A : Type 0} {tells : V → Told} {old new : DeskState V} {s t : Spoken} {stop : Stop} {m : Acts A} (j : Job) (depth : ℕ) (k : A → Going Spoken) (u : Spoken) where
+module _ {V A : Type 0} {tells : V → Told} {old new : DeskState V} {s t : Spoken} {stop : JobStop} {m : Acts A} (j : Job) (depth : ℕ) (k : A → Going Spoken) (u : Spoken) where
   pub halts : (r : Result Progress NoMemory) → Does is_free tells old new s t (Err stop) m → IfOk r (λ p. IsStopped j stop t u p) → IsProgress tells old new s u j depth r (to (close j) m k)
   halts (Ok p) did is = stopped_t (close j) k is.plain (ap (λ (q : Progress). turn_in (Ok q)) is.ended) is.told did
   halts (Err e) did is = lost_t did
 
-pub unpaused : (P : SubLine → Type 0) (j : Job) (stop : Stop) (t u : Spoken) (r : Result Progress NoMemory) → IfOk r (λ p. IsStopped j stop t u p) → IfPaused r P
+pub unpaused : (P : SubLine → Type 0) (j : Job) (stop : JobStop) (t u : Spoken) (r : Result Progress NoMemory) → IfOk r (λ p. IsStopped j stop t u p) → IfPaused r P
 unpaused P j stop t u (Ok (progress.Ended o)) is = tt
 unpaused P j stop t u (Ok (progress.Paused h line)) is = absurd (let e : progress.Paused h line ≡ progress.Ended (close j stop t).0 = is.ended in cc)
 unpaused P j stop t u (Err e) is = tt
 
-module _ {V A : Type 0} {tells : V → Told} {old new : DeskState V} {s t : Spoken} {q : Result A Stop} {m : Acts A} (P : NoMemory → Type 0) (j : Job) (depth : ℕ) (g : Going Spoken) (u : Spoken) where
+module _ {V A : Type 0} {tells : V → Told} {old new : DeskState V} {s t : Spoken} {q : Result A JobStop} {m : Acts A} (P : NoMemory → Type 0) (j : Job) (depth : ℕ) (g : Going Spoken) (u : Spoken) where
   pub lost : (r : Result Progress NoMemory) → IsErrAnd r P → Does is_free tells old new s t q m → IsProgress tells old new s u j depth r g
   lost (Ok p) is did = absurd is
   lost (Err e) is did = lost_t did
@@ -56,12 +56,12 @@ module _ {V : Type 0} {tells : V → Told} {d : DeskState V} {s : Spoken} (P : N
   lacking (Err e) is = short_t
 
 module _ {V : Type 0} {tells : V → Told} {d : DeskState V} {s : Spoken} (j : Job) (depth : ℕ) where
-  pub pauses : (h : Halfway) (line : SubLine) (r : Ready) (rest : List Ready) → drop h.at h.lines ≡ r ∷ rest
+  pub pauses : (h : Halfway) (line : SubLine) (r : ParsedLine) (rest : List ParsedLine) → drop h.at h.lines ≡ r ∷ rest
       → IsProgress tells d d s s j depth (Ok (progress.Paused h line)) (by_lap j depth h.opened r.placed (lines_plot j depth h.opened (map meant rest)) (lap.Begins h.env line))
-  pauses h line r rest left = pause_t said (ap {B = Back → Plot} (λ (xs : List Ready) (b : Back). from_output saying (going_at j depth h.opened h.env xs b)) left)
+  pauses h line r rest left = pause_t said (ap {B = Back → Plot} (λ (xs : List ParsedLine) (b : Back). from_output saying (going_at j depth h.opened h.env xs b)) left)
 
 module _ {V : Type 0} {tells : V → Told} {old new : DeskState V} {s : Spoken} {after : List ℕ} {r : Result Turn NoMemory} {back : Back → Plot} (j : Job) (depth : ℕ) where
-  pub read_all : (ps : List Placed) (rs : List Ready) (so_far : List (Placed × Meaning)) (k : List (Placed × Meaning) → Going Spoken) → AreRead ps rs → Turned tells old new s after r (k (so_far ++ map meant rs)) back
+  pub read_all : (ps : List Placed) (rs : List ParsedLine) (so_far : List (Placed × Meaning)) (k : List (Placed × Meaning) → Going Spoken) → AreRead ps rs → Turned tells old new s after r (k (so_far ++ map meant rs)) back
       → Turned tells old new s after r (read_plot j depth ps so_far k) back
   read_all [] [] so_far k all p = subst (λ (xs : List (Placed × Meaning)). Turned tells old new s after r (k xs) back) (append-nil so_far) p
   read_all [] (q ∷ rs) so_far k all p = absurd all

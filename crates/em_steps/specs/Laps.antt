@@ -38,16 +38,16 @@ use Rattle.em_steps.specs.declared.laps.Lap.TheVariants.{Next, Ended, Begins}
 use Rattle.em_steps.specs.declared.laps.Tried.{Tried}
 use Rattle.em_steps.specs.declared.laps.Tried.TheVariants as tried
 use Rattle.em_job.specs.declared.prepare.Placed.{Placed}
-use Rattle.em_job.specs.declared.prepare.Opened.{Opened}
+use Rattle.em_job.specs.declared.prepare.RecipeStart.{RecipeStart}
 use Rattle.em_job.specs.declared.prepare.Prepared.{Prepared}
 use Rattle.em_job.specs.declared.prepare.Prepared.TheVariants as prepared
-use Rattle.em_job.specs.declared.ready.Ready.{Ready}
+use Rattle.em_job.specs.declared.ready.ParsedLine.{ParsedLine}
 use Rattle.em_steps.specs.declared.steps.Halfway.{Halfway}
 use Rattle.em_steps.specs.declared.steps.Stage.{Stage}
 use Rattle.em_steps.specs.declared.steps.Stage.TheVariants as stage
 use Rattle.em_steps.specs.declared.steps.JobSteps.{JobSteps}
-use Rattle.em_job.specs.declared.stop.Stop.{Stop}
-use Rattle.em_job.specs.declared.stop.Stop.TheVariants as stop
+use Rattle.em_job.specs.declared.stop.JobStop.{JobStop}
+use Rattle.em_job.specs.declared.stop.JobStop.TheVariants as stop
 use Rattle.em_job.specs.Deciding.{Known, path_of}
 use Rattle.em_job.specs.Stops.{Acts, of_desk, of_line, stop_text, end_of}
 use Rattle.em_job.specs.Preparing.{say, prepare_with}
@@ -74,11 +74,11 @@ abbrev pub begun_at : Job → ℕ → List (List ℕ) → Shell → Order → Li
 begun_at j depth ws shell o dir = record { words = ws; shell = record shell { cwd = dir }; order = handed j o dir; depth = suc depth }
 
 -- the line has this refusal as its output, and status 2
-abbrev pub refused : List ℕ → Spoken → Result (Tried × Spoken) (Stop × Spoken)
+abbrev pub refused : List ℕ → Spoken → Result (Tried × Spoken) (JobStop × Spoken)
 refused text s = Ok (tried.Ran 2, record s { said = s.said ++ text })
 
 -- makes stand at most 8 levels deep
-abbrev pub if_deep : Place → SubLine → Bool → Spoken → Result (Tried × Spoken) (Stop × Spoken)
+abbrev pub if_deep : Place → SubLine → Bool → Spoken → Result (Tried × Spoken) (JobStop × Spoken)
 if_deep p line true s = Ok (tried.Begins line, s)
 if_deep p line false s = Err (stop.Refused construct.Depth p, s)
 
@@ -86,7 +86,7 @@ abbrev pub is_dir : Kind → Bool
 is_dir kind.Dir = true
 is_dir _ = false
 
-abbrev pub by_kind : Job → ℕ → Place → List (List ℕ) → Shell → Order → List ℕ → Kind → Spoken → Result (Tried × Spoken) (Stop × Spoken)
+abbrev pub by_kind : Job → ℕ → Place → List (List ℕ) → Shell → Order → List ℕ → Kind → Spoken → Result (Tried × Spoken) (JobStop × Spoken)
 by_kind j depth p ws shell o dir k s = if is_dir k then if_deep p (begun_at j depth ws shell o dir) (nat_lt depth 8) s else refused (dir_line o.dir) s
 
 -- the directory of `-C`, read against the line's own
@@ -124,7 +124,7 @@ abbrev pub said : Spoken → List ℕ
 said s = s.said
 
 -- a stop is told, and is how the job ends
-abbrev pub close : Job → Stop → Spoken → Outcome × List ℕ
+abbrev pub close : Job → JobStop → Spoken → Outcome × List ℕ
 close j e s = (end_of e, s.said ++ stop_text j.plan.target e)
 
 module _ (j : Job) (depth : ℕ) where
@@ -133,7 +133,7 @@ module _ (j : Job) (depth : ℕ) where
     w ← words_in p m.sub shell
     by_words j depth p m.run w.0 w.1
 
-  module _ (x : Opened) where
+  module _ (x : RecipeStart) where
     unfoldable pub in_env : Option Entries → Placed → Meaning → Acts (Option Entries × Tried)
     in_env env l m = do
       e ← environment_once j x.autos l.place env
@@ -161,7 +161,7 @@ module _ (j : Job) (depth : ℕ) where
 
   -- ---- all lines
 
-  module _ (x : Opened) where
+  module _ (x : RecipeStart) where
     abbrev pub by_end : (Option Entries → Going Spoken) → LineEnd → Going Spoken
     by_end rest (line_end.Next env) = rest env
     by_end rest (line_end.Ended o) = over said o
@@ -195,7 +195,7 @@ module _ (j : Job) (depth : ℕ) where
 
 -- ---- a job on its way
 
-abbrev pub meant : Ready → Placed × Meaning
+abbrev pub meant : ParsedLine → Placed × Meaning
 meant r = (r.placed, meaning_of r.line)
 
 abbrev pub nothing_left : Going Spoken
@@ -206,7 +206,7 @@ ended_plot = from_output saying nothing_left
 
 module _ (j : Job) (depth : ℕ) where
   -- from the line that stands first on, whose make has ended so
-  abbrev pub going_at : Opened → Option Entries → List Ready → Back → Going Spoken
+  abbrev pub going_at : RecipeStart → Option Entries → List ParsedLine → Back → Going Spoken
   -- where no line stands at that place; a job that pauses stands at one
   going_at x env [] b = nothing_left
   going_at x env (r ∷ rs) b = resumed j depth x r.placed env (lines_plot j depth x (map meant rs)) b

@@ -16,7 +16,7 @@ use Rattle.em_steps.specs.declared.steps.Progress.{Progress}
 use Rattle.em_steps.specs.declared.steps.Progress.TheVariants.{Ended, Paused}
 use Rattle.em_steps.specs.declared.steps.Stage.{Stage}
 use Rattle.em_steps.specs.declared.steps.Stage.TheVariants as stage
-use Rattle.em_job.specs.declared.stop.Stop.{Stop}
+use Rattle.em_job.specs.declared.stop.JobStop.{JobStop}
 use Rattle.em_job.specs.Stops.{is_free}
 use Rattle.em_job.specs.Effects.{saying}
 use Rattle.em_steps.specs.Laps.{said, close, nothing_left, going_on}
@@ -33,7 +33,7 @@ back_in j depth _ b = from_output saying nothing_left
 abbrev pub IsProgress : {V : Type 0} → (V → Told) → DeskState V → DeskState V → Spoken → Spoken → Job → ℕ → Result Progress NoMemory → Going Spoken → Type 0
 IsProgress tells old new s t j depth r g = Turned tells old new s (said t) (turn_in r) g (back_in j depth r)
 
-pub record IsStopped (j : Job) (stop : Stop) (s t : Spoken) (p : Progress) : Type 0 where
+pub record IsStopped (j : Job) (stop : JobStop) (s t : Spoken) (p : Progress) : Type 0 where
   pub ended : p ≡ Ended (close j stop s).0
   pub told : said t ≡ (close j stop s).1
   pub plain : is_free stop ≡ false

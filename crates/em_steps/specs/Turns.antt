@@ -6,12 +6,12 @@ use Rattle.em_steps.specs.declared.laps.Lap.{Lap}
 use Rattle.em_steps.specs.declared.laps.Lap.TheVariants as lap
 use Rattle.em_steps.specs.declared.laps.Tried.{Tried}
 use Rattle.em_steps.specs.declared.laps.Tried.TheVariants as tried
-use Rattle.em_job.specs.declared.stop.Stop.{Stop}
+use Rattle.em_job.specs.declared.stop.JobStop.{JobStop}
 
-abbrev pub IfTried : Result Tried Stop → (SubLine → Type 0) → Type 0
+abbrev pub IfTried : Result Tried JobStop → (SubLine → Type 0) → Type 0
 IfTried (Ok (tried.Begins l)) P = P l
 IfTried _ P = Unit {0}
 
-abbrev pub IfBegins : Result Lap Stop → (SubLine → Type 0) → Type 0
+abbrev pub IfBegins : Result Lap JobStop → (SubLine → Type 0) → Type 0
 IfBegins (Ok (lap.Begins env l)) P = P l
 IfBegins _ P = Unit {0}

@@ -16,11 +16,11 @@ use em_cmdline::{Order, WordNo, read_sub_words};
 use em_exec::{SubLine, SubWords};
 use em_expand::Spoken;
 use em_job::{
-    Job, LineEnd, Opened, Ready, Stop, after_line, does_run, echo, environment_once, of_desk,
-    of_line, refused, run_in, shell_of,
+    Job, JobStop, LineEnd, ParsedLine, RecipeStart, after_line, does_run, echo, environment_once,
+    of_desk, of_line, refused, run_in, shell_of,
 };
 use em_path::{Path, PathNo};
-use em_script::Line;
+use em_script::ShellLine;
 use em_tree::{Kind, Outcome};
 use em_vars::Vars;
 use em_view::{Desk, View};
@@ -98,7 +98,7 @@ fn handed(alloc: Global, job: &Job, order: Order, dir: &Path) -> Result<Order, N
 }
 
 /// The line has this refusal as its output, and status 2.
-fn refuse_line(spoken: &mut Spoken, text: &[u8]) -> Result<Tried, Stop>
+fn refuse_line(spoken: &mut Spoken, text: &[u8]) -> Result<Tried, JobStop>
     ensures works { Works is_free spoken.old spoken.new result (laps.refused text.now) }
     ensures sent { IfTried result IsSent }
 {
@@ -107,7 +107,7 @@ fn refuse_line(spoken: &mut Spoken, text: &[u8]) -> Result<Tried, Stop>
 }
 
 /// `-C` names no directory.
-fn refuse_dir(alloc: Global, spoken: &mut Spoken, name: &[u8]) -> Result<Tried, Stop>
+fn refuse_dir(alloc: Global, spoken: &mut Spoken, name: &[u8]) -> Result<Tried, JobStop>
     ensures works { Works is_free spoken.old spoken.new result
         (laps.refused (refusals.dir_line name.now)) }
     ensures sent { IfTried result IsSent }
@@ -117,7 +117,7 @@ fn refuse_dir(alloc: Global, spoken: &mut Spoken, name: &[u8]) -> Result<Tried, 
 }
 
 /// The words of the line order nothing.
-fn refuse_words(alloc: Global, spoken: &mut Spoken, no: &WordNo) -> Result<Tried, Stop>
+fn refuse_words(alloc: Global, spoken: &mut Spoken, no: &WordNo) -> Result<Tried, JobStop>
     ensures works { Works is_free spoken.old spoken.new result
         (laps.refused (refusals.word_line no.now)) }
     ensures sent { IfTried result IsSent }
@@ -192,7 +192,7 @@ fn by_kind(
     order: Order,
     dir: Path,
     kind: Kind,
-) -> Result<Tried, Stop>
+) -> Result<Tried, JobStop>
     requires { order.fuel ≤ 1000000 }
     ensures works { Works is_free spoken.old spoken.new result
         (laps.by_kind job.now depth place.now words shell order dir kind) }
@@ -219,7 +219,7 @@ fn in_dir<V: View>(
     words: Seq<Text>,
     shell: Shell,
     order: Order,
-) -> Result<Tried, Stop>
+) -> Result<Tried, JobStop>
     requires { order.fuel ≤ 1000000 }
     ensures does { Does is_free V.tells desk.old desk.new spoken.old spoken.new result
         (laps.in_dir job.now depth place.now words shell order
@@ -259,7 +259,7 @@ fn by_order<V: View>(
     place: &Place,
     words: Seq<Text>,
     shell: Shell,
-) -> Result<Tried, Stop>
+) -> Result<Tried, JobStop>
     ensures does { Does is_free V.tells desk.old desk.new spoken.old spoken.new result
         (laps.by_order job.now depth place.now words shell (sub_refusal words)
         (sub_order words)) }
@@ -277,9 +277,9 @@ fn words_in<V: View>(
     desk: &mut Desk<V>,
     spoken: &mut Spoken,
     place: &Place,
-    line: &Line,
+    line: &ShellLine,
     shell: Shell,
-) -> Result<(Option<SubWords>, Shell), Stop>
+) -> Result<(Option<SubWords>, Shell), JobStop>
     ensures does { Does is_free V.tells desk.old desk.new spoken.old spoken.new result
         (laps.words_in place.now (sub_of line.now) shell) }
     ensures burns { IfOk result (λ p. IfSome p.0 (λ w. desk.new.work.fuel < desk.old.work.fuel)) }
@@ -299,9 +299,9 @@ fn try_line<V: View>(
     job: &Job,
     depth: u8,
     place: &Place,
-    line: &Line,
+    line: &ShellLine,
     shell: Shell,
-) -> Result<Tried, Stop>
+) -> Result<Tried, JobStop>
     ensures does { Does is_free V.tells desk.old desk.new spoken.old spoken.new result
         (laps.try_line job.now depth place.now (meaning_of line.now) shell) }
     ensures sent { IfTried result IsSent }
@@ -328,17 +328,17 @@ fn in_env<V: View>(
     spoken: &mut Spoken,
     job: &Job,
     depth: u8,
-    opened: &Opened,
+    opened: &RecipeStart,
     env: Option<Vars>,
-    ready: &Ready,
-) -> Result<(Option<Vars>, Tried), Stop>
+    ready: &ParsedLine,
+) -> Result<(Option<Vars>, Tried), JobStop>
     ensures does { Does is_free V.tells desk.old desk.new spoken.old spoken.new result
         (laps.in_env job.now depth opened.now env ready.now.placed (meaning_of ready.now.line)) }
     ensures sent { IfOk result (λ t. IfTried (Ok t.1) IsSent) }
     ensures burns { IfOk result
         (λ t. IfTried (Ok t.1) (λ l. desk.new.work.fuel < desk.old.work.fuel)) }
 {
-    let Ready { placed, line } = ready;
+    let ParsedLine { placed, line } = ready;
     let place = &placed.place;
     let autos = opened.autos.items();
     let env = environment_once(alloc, desk, spoken, job, autos, place, env)?;
@@ -354,10 +354,10 @@ fn tried_line<V: View>(
     spoken: &mut Spoken,
     job: &Job,
     depth: u8,
-    opened: &Opened,
+    opened: &RecipeStart,
     env: Option<Vars>,
-    ready: &Ready,
-) -> Result<(Option<Vars>, Tried), Stop>
+    ready: &ParsedLine,
+) -> Result<(Option<Vars>, Tried), JobStop>
     ensures does { Does is_free V.tells desk.old desk.new spoken.old spoken.new result
         (laps.tried_line job.now depth opened.now env ready.now.placed
         (meaning_of ready.now.line)) }
@@ -389,10 +389,10 @@ pub(crate) fn run_lap<V: View>(
     spoken: &mut Spoken,
     job: &Job,
     depth: u8,
-    opened: &Opened,
+    opened: &RecipeStart,
     env: Option<Vars>,
-    ready: &Ready,
-) -> Result<Lap, Stop>
+    ready: &ParsedLine,
+) -> Result<Lap, JobStop>
     ensures does { Does is_free V.tells desk.old desk.new spoken.old spoken.new result
         (laps.lap job.now depth opened.now env ready.now.placed (meaning_of ready.now.line)) }
     ensures sent { IfBegins result IsSent }

@@ -11,8 +11,8 @@ use em_base::{NoMemory, Seq, Text};
 use em_exec::{SubLine, Turn};
 use em_expand::Spoken;
 use em_job::{
-    Job, JobSpec, LineEnd, Opened, Prepared, Ready, Stop, after_line, end_of, prepare_job,
-    put_stop, read_lines,
+    Job, JobSpec, JobStop, LineEnd, ParsedLine, Prepared, RecipeStart, after_line, end_of,
+    prepare_job, put_stop, read_lines,
 };
 use em_run::Spec;
 use em_tree::Outcome;
@@ -24,8 +24,8 @@ use std::mem;
 /// A job between two lines of its recipe.
 #[derive(Drop)]
 pub(crate) struct Halfway {
-    pub(crate) opened: Opened,
-    pub(crate) lines: Seq<Ready>,
+    pub(crate) opened: RecipeStart,
+    pub(crate) lines: Seq<ParsedLine>,
     /// The place of the line that has begun a make, or that is next.
     pub(crate) at: usize,
     /// The variables of its shells, if they were made.
@@ -64,10 +64,10 @@ pub struct JobSteps {
 }
 
 /// The job goes no further.
-fn stopped(spoken: &mut Spoken, job: &Job, stop: Stop) -> Result<Progress, NoMemory>
+fn stopped(spoken: &mut Spoken, job: &Job, stop: JobStop) -> Result<Progress, NoMemory>
     ensures { IfOk result (IsStopped job.now stop spoken.old spoken.new) }
 {
-    if let Stop::NoMemory = stop {
+    if let JobStop::NoMemory = stop {
         return Err(NoMemory);
     }
     put_stop(&mut spoken.said, job.plan.get().target.bytes(), &stop)?;
@@ -76,8 +76,8 @@ fn stopped(spoken: &mut Spoken, job: &Job, stop: Stop) -> Result<Progress, NoMem
 
 /// The job pauses at this line, which begins a make.
 fn paused(
-    opened: Opened,
-    lines: Seq<Ready>,
+    opened: RecipeStart,
+    lines: Seq<ParsedLine>,
     at: usize,
     env: Option<Vars>,
     line: SubLine,
@@ -215,7 +215,7 @@ fn go_spent<V: View>(
     let Some(ready) = half.lines.get(half.at) else {
         return Ok(Progress::Ended(Outcome::Made));
     };
-    stopped(spoken, job, Stop::Spent(ready.placed.place.copy(alloc)?))
+    stopped(spoken, job, JobStop::Spent(ready.placed.place.copy(alloc)?))
 }
 
 /// The outcomes of the prerequisites' jobs, where they are known.

@@ -3,7 +3,7 @@ use super::makefiles::{NODES, job_of, outcomes_of, state_of};
 use super::shows::name_of;
 use em_base::{Fuel, Seq, Text};
 use em_expand::Spoken;
-use em_job::{Prepared, Stop, prepare_job};
+use em_job::{JobStop, Prepared, prepare_job};
 use em_view::{Desk, PlainView};
 use std::alloc::Global;
 use std::test::Fail;
@@ -25,11 +25,11 @@ static ROWS: [(char, &str, u64, &str, u64); 9] = [
     (' ', "UU", 1, "spent early", 0),
 ];
 
-fn end_of(prepared: &Result<Prepared, Stop>) -> &'static str {
+fn end_of(prepared: &Result<Prepared, JobStop>) -> &'static str {
     match prepared {
         Ok(Prepared::Ended(outcome)) => name_of(outcome),
         Ok(Prepared::Lines(_, _)) => "to run",
-        Err(Stop::Early) => "spent early",
+        Err(JobStop::Early) => "spent early",
         Err(_) => "stopped",
     }
 }

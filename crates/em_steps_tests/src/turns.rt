@@ -10,9 +10,9 @@ use std::alloc::Global;
 use std::test::Fail;
 
 /// A makefile; what its job is told at its pauses; what is said and shown, with 90 units.
-type Line = (&'static str, &'static str, &'static str);
+type TurnRow = (&'static str, &'static str, &'static str);
 
-static LINES: [Line; 17] = [
+static LINES: [TurnRow; 17] = [
     (
         "all:\n\t@echo hi\n\tmake x y=2\n\techo bye\n",
         "0",

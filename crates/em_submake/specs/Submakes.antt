@@ -25,8 +25,8 @@ use Rattle.em_plan.specs.declared.planned.Pre.{Pre}
 use Rattle.em_plan.specs.declared.no.PlanNo.{PlanNo}
 use Rattle.em_plan.specs.declared.no.PlanNo.TheVariants as plan_no
 use Rattle.em_plan.specs.Walking.{planned_through}
-use Rattle.em_reading.specs.declared.no.Fault.{Fault}
-use Rattle.em_reading.specs.declared.no.Fault.TheVariants as fault
+use Rattle.em_reading.specs.declared.no.MakefileFault.{MakefileFault}
+use Rattle.em_reading.specs.declared.no.MakefileFault.TheVariants as fault
 use Rattle.em_reading.specs.declared.no.ReadNo.{ReadNo}
 use Rattle.em_reading.specs.declared.no.ReadNo.TheVariants.{At, NoMemory as OutOfMemory}
 use Rattle.em_reader.specs.Makefiles.{reading}
@@ -58,14 +58,14 @@ by_plan book (Ok plan) = saying plan.notes (ground.Planned book plan)
 by_plan book (Err plan_no.Spent) = steps.done ground.Spent
 by_plan book (Err e) = refused (plan_line book.found e)
 
-abbrev pub is_spent : Fault → Bool
+abbrev pub is_spent : MakefileFault → Bool
 is_spent fault.Spent = true
 is_spent _ = false
 
-abbrev pub unread_as : Fault → Ground
+abbrev pub unread_as : MakefileFault → Ground
 unread_as f = if is_spent f then ground.Spent else ground.Ended 2
 
-abbrev pub unread_line : Place → Fault → List ℕ
+abbrev pub unread_line : Place → MakefileFault → List ℕ
 unread_line p f = if is_spent f then [] else fault_line p f
 
 -- what reading has said stands

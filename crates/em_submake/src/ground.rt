@@ -12,7 +12,7 @@ use em_closing::{fault_line, plan_line};
 use em_exec::SubLine;
 use em_plan::{Plan, PlanNo, plan_through};
 use em_reader::read_through;
-use em_reading::{Fault, ReadNo};
+use em_reading::{MakefileFault, ReadNo};
 use em_rules::Book;
 use em_view::{Desk, View};
 use std::alloc::Global;
@@ -59,14 +59,19 @@ fn no_plan(alloc: Global, out: &mut Text, found: bool, no: PlanNo) -> Result<Gro
 }
 
 /// Whether reading has spent the fuel.
-fn is_spent(fault: &Fault) -> bool
+fn is_spent(fault: &MakefileFault) -> bool
     ensures { result ≡ submakes.is_spent fault.now }
 {
-    matches!(fault, Fault::Spent)
+    matches!(fault, MakefileFault::Spent)
 }
 
 /// The makefiles can't be read for this reason, which is printed unless the fuel is spent.
-fn unread(alloc: Global, out: &mut Text, place: &Place, fault: &Fault) -> Result<Ground, NoMemory>
+fn unread(
+    alloc: Global,
+    out: &mut Text,
+    place: &Place,
+    fault: &MakefileFault,
+) -> Result<Ground, NoMemory>
     ensures works { Works (λ e. true) out.old out.new result
         (λ s. Ok (submakes.unread_as fault.now, s ++ submakes.unread_line place.now fault.now)) }
     ensures few { IfOk result IsFew }

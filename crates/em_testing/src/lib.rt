@@ -10,7 +10,7 @@ mod shows;
 pub use counting::Counter;
 pub use links::{Link, Linker, root};
 pub use plans::{
-    Plan, THREE, are_lower, are_numbered, front_from, front_of, links_of, path_of, run_at_root,
+    LinkPlan, THREE, are_lower, are_numbered, front_from, front_of, links_of, path_of, run_at_root,
     run_of, shared_from, shared_of, waits_of,
 };
 pub use shows::{show_answer, show_bytes, show_note, show_notes, show_outcome, show_path};

@@ -13,7 +13,7 @@ use std::alloc::Global;
 use std::test::Fail;
 
 /// What each job reads, and what it makes.
-pub type Plan<'a> = &'a [(&'static str, &'static str)];
+pub type LinkPlan<'a> = &'a [(&'static str, &'static str)];
 
 /// Three jobs, each of which reads the file of the one before. The first reads a file that isn't
 /// there.
@@ -31,7 +31,7 @@ fn link_of(alloc: Global, job: u32, part: &(&str, &str)) -> Result<Link, Fail> {
 }
 
 /// The jobs of the plan, with the numbers from 0 on.
-pub fn links_of(alloc: Global, plan: Plan<'_>) -> Result<Seq<Link>, Fail> {
+pub fn links_of(alloc: Global, plan: LinkPlan<'_>) -> Result<Seq<Link>, Fail> {
     let mut links = Seq::new(alloc);
     for (job, part) in (0..=u32::MAX).zip(plan) {
         let link = link_of(alloc, job, part)?;
@@ -55,7 +55,7 @@ pub fn are_numbered<S: Spec>(specs: &[S]) -> bool
 /// What each job waits for: nothing, or where that is declared the one before.
 pub fn waits_of(
     alloc: Global,
-    plan: Plan<'_>,
+    plan: LinkPlan<'_>,
     is_declared: bool,
 ) -> Result<Seq<Seq<u32>>, NoMemory> {
     let mut waits = Seq::new(alloc);
@@ -88,14 +88,19 @@ pub fn are_lower(waits: &[Seq<u32>]) -> bool
 }
 
 /// The run of a job of the plan on a state.
-pub fn run_of(alloc: Global, plan: Plan<'_>, job: u32, state: &State) -> Result<Run<Link>, Fail> {
+pub fn run_of(
+    alloc: Global,
+    plan: LinkPlan<'_>,
+    job: u32,
+    state: &State,
+) -> Result<Run<Link>, Fail> {
     let links = links_of(alloc, plan)?;
     let link = links.get(job as usize).ok_or("no job")?;
     Ok(run_on(alloc, link, state)?)
 }
 
 /// Its run over a root alone.
-pub fn run_at_root(alloc: Global, plan: Plan<'_>, job: u32) -> Result<Run<Link>, Fail> {
+pub fn run_at_root(alloc: Global, plan: LinkPlan<'_>, job: u32) -> Result<Run<Link>, Fail> {
     let state = root(alloc)?;
     run_of(alloc, plan, job, &state)
 }
@@ -111,7 +116,7 @@ pub fn front_from<S: Spec>(alloc: Global, start: State, specs: Seq<S>) -> Result
 }
 
 /// A front of the plan's jobs over a root alone.
-pub fn front_of(alloc: Global, plan: Plan<'_>) -> Result<Front<Link>, Fail> {
+pub fn front_of(alloc: Global, plan: LinkPlan<'_>) -> Result<Front<Link>, Fail> {
     let links = links_of(alloc, plan)?;
     let start = root(alloc)?;
     front_from(alloc, start, links)
@@ -131,7 +136,11 @@ pub fn shared_from<S: Spec>(
 }
 
 /// A shared board of the plan's jobs over a root alone.
-pub fn shared_of(alloc: Global, plan: Plan<'_>, is_declared: bool) -> Result<Shared<Link>, Fail> {
+pub fn shared_of(
+    alloc: Global,
+    plan: LinkPlan<'_>,
+    is_declared: bool,
+) -> Result<Shared<Link>, Fail> {
     let waits = waits_of(alloc, plan, is_declared)?;
     let start = root(alloc)?;
     shared_from(alloc, start, waits)

@@ -16,7 +16,7 @@ use Rattle.em_view.proofs.Performing.{itself, act, lifted, lifted_exit}
 use Rattle.em_utility.specs.declared.operand.OperandNo.{OperandNo}
 use Rattle.em_utility.specs.declared.operand.OperandNo.TheVariants.{Fault, End}
 use Rattle.em_utility.specs.Operands.{is_free, read, gives}
-use Rattle.em_textutil.specs.declared.source.Found.{Found}
+use Rattle.em_textutil.specs.declared.source.OperandContent.{OperandContent}
 use Rattle.em_textutil.specs.Sources.{kept, found}
 
 still_free : (r : Result (List ℕ) OperandNo) → performs.is_free is_want (kept r) ≡ false → performs.is_free is_free r ≡ false
@@ -29,7 +29,7 @@ module _ {V : Type 0} {tells : V → Told} {old new : DeskState V} {r : Result (
   unfolding found
   found_by p = record {
     grows = p.grows;
-    plain = λ h o all. ap (λ (z : Result (List ℕ) OperandNo × Workspace). let y : Result Found ExecNo × Workspace = (kept z.0, z.1) in y) (p.plain (still_free r h) o all);
+    plain = λ h o all. ap (λ (z : Result (List ℕ) OperandNo × Workspace). let y : Result OperandContent ExecNo × Workspace = (kept z.0, z.1) in y) (p.plain (still_free r h) o all);
   }
 
 module _ {V A : Type 0} {tells : V → Told} {d : DeskState V} where

@@ -14,8 +14,8 @@ use Rattle.em_utility.specs.declared.reason.Reason.{Reason}
 use Rattle.em_utility.specs.declared.reason.Reason.TheVariants.{NotANumber, MissingOperand, ExtraOperand}
 use Rattle.em_utility.specs.Options.{read_options}
 use Rattle.em_utility.specs.Writing.{nothing, written, faulted}
-use Rattle.em_textutil.specs.declared.name.Plain.{Plain}
-use Rattle.em_textutil.specs.declared.name.Plain.TheVariants as plain
+use Rattle.em_textutil.specs.declared.name.NoInputUtility.{NoInputUtility}
+use Rattle.em_textutil.specs.declared.name.NoInputUtility.TheVariants as plain
 
 abbrev pub line : List ℕ → Done
 line text = written 1 (text ++ 10 ∷ []) nothing
@@ -62,7 +62,7 @@ ok_base os = Ok (base_words os)
 abbrev pub ok_dir : List (List ℕ) → Result Done ExecNo
 ok_dir os = Ok (dir_words os)
 
-unfoldable pub plain_done : Plain → List (List ℕ) → Result Done ExecNo
+unfoldable pub plain_done : NoInputUtility → List (List ℕ) → Result Done ExecNo
 plain_done plain.Echo words = Ok (line (joined words))
 plain_done plain.Printf words = of_operands (read_options (codes "printf") [] [] words) print_words words
 plain_done plain.Basename words = of_operands (read_options (codes "basename") [] [] words) ok_base words

@@ -10,12 +10,12 @@ use crate::bracket::bracketed;
 use crate::expression::test_words;
 use crate::gather::read_all;
 use crate::grep::grep_done;
-use crate::job::Job;
-use crate::name::{Reading, Utility, is_dashed, name_of, utility_of};
+use crate::job::TextOperation;
+use crate::name::{InputUtility, TextUtility, is_dashed, name_of, utility_of};
 use crate::pair::{compare_done, muted};
 use crate::plain::plain_done;
-use crate::plan::{Plan, files_of, given_options, is_silent, planned};
-use crate::source::Source;
+use crate::plan::{ParsedArgs, files_of, given_options, is_silent, planned};
+use crate::source::ReadOperand;
 use crate::texts::{each_done, sort_done};
 use em_base::{NoMemory, Text};
 use em_path::Path;
@@ -25,21 +25,26 @@ use std::alloc::Global;
 
 /// What the job writes of what was read.
 #[tactic(auto, unfolding(crate::specs::Jobs::job_done))]
-fn job_done(alloc: Global, utility: &[u8], job: &Job, sources: &[Source]) -> Result<Done, NoMemory>
+fn job_done(
+    alloc: Global,
+    utility: &[u8],
+    job: &TextOperation,
+    sources: &[ReadOperand],
+) -> Result<Done, NoMemory>
     ensures { IfOk result (λ d. d ≡ jobs.job_done utility.now job.now sources.now) }
 {
     match job {
-        Job::Each(filter) => each_done(alloc, utility, filter, sources),
-        Job::Sort(order) => sort_done(alloc, utility, order, sources),
-        Job::Pair(silent) => compare_done(alloc, *silent, sources),
-        Job::Grep(grep) => grep_done(alloc, grep, sources),
+        TextOperation::Each(filter) => each_done(alloc, utility, filter, sources),
+        TextOperation::Sort(order) => sort_done(alloc, utility, order, sources),
+        TextOperation::Pair(silent) => compare_done(alloc, *silent, sources),
+        TextOperation::Grep(grep) => grep_done(alloc, grep, sources),
     }
 }
 
 /// What a utility leaves whose words are written wrongly.
 fn wrong_done(
     alloc: Global,
-    reading: Reading,
+    reading: InputUtility,
     options: &Options,
     word: &Text,
     reason: Reason,
@@ -55,19 +60,19 @@ fn wrong_done(
 fn carried<V: View>(
     alloc: Global,
     cwd: &Path,
-    reading: Reading,
+    reading: InputUtility,
     options: &Options,
     input: &[u8],
     operands: &[Text],
-    plan: &Plan,
+    plan: &ParsedArgs,
     desk: &mut Desk<V>,
 ) -> Result<Done, ExecNo>
     ensures { Performs is_want V.tells desk.old desk.new result
         (carried cwd.now reading options.now input.now operands.now plan.now) }
 {
     match plan {
-        Plan::Wrong(word, reason) => Ok(wrong_done(alloc, reading, options, word, *reason)?),
-        Plan::Read(job) => {
+        ParsedArgs::Wrong(word, reason) => Ok(wrong_done(alloc, reading, options, word, *reason)?),
+        ParsedArgs::Read(job) => {
             let files = files_of(job, operands);
             let sources = read_all(alloc, cwd, is_dashed(reading), input, files, desk)?;
             Ok(job_done(alloc, name_of(reading), job, sources.items())?)
@@ -78,7 +83,7 @@ fn carried<V: View>(
 fn with_options<V: View>(
     alloc: Global,
     cwd: &Path,
-    reading: Reading,
+    reading: InputUtility,
     input: &[u8],
     words: &[Text],
     options: &Options,
@@ -96,7 +101,7 @@ fn with_options<V: View>(
 fn reads<V: View>(
     alloc: Global,
     cwd: &Path,
-    reading: Reading,
+    reading: InputUtility,
     input: &[u8],
     words: &[Text],
     desk: &mut Desk<V>,
@@ -111,7 +116,7 @@ fn reads<V: View>(
 fn run<V: View>(
     alloc: Global,
     cwd: &Path,
-    utility: Utility,
+    utility: TextUtility,
     input: &[u8],
     words: &[Text],
     desk: &mut Desk<V>,
@@ -120,17 +125,17 @@ fn run<V: View>(
         (run cwd.now utility input.now words.now) }
 {
     match utility {
-        Utility::Plain(plain) => plain_done(alloc, plain, words),
-        Utility::Reading(reading) => reads(alloc, cwd, reading, input, words, desk),
-        Utility::Test => test_words(alloc, cwd, words, desk),
-        Utility::Bracket => bracketed(alloc, cwd, words, desk),
+        TextUtility::Plain(plain) => plain_done(alloc, plain, words),
+        TextUtility::Reading(reading) => reads(alloc, cwd, reading, input, words, desk),
+        TextUtility::Test => test_words(alloc, cwd, words, desk),
+        TextUtility::Bracket => bracketed(alloc, cwd, words, desk),
     }
 }
 
 fn run_by<V: View>(
     alloc: Global,
     cwd: &Path,
-    utility: Option<Utility>,
+    utility: Option<TextUtility>,
     input: &[u8],
     words: &[Text],
     desk: &mut Desk<V>,

@@ -5,7 +5,7 @@ ghost use Rattle.em_view.specs.Ends.{is_want};
 ghost use Rattle.em_textutil.specs.Sources as sources;
 ghost use Rattle.em_textutil.specs.Sources.{kept, found, found_in, is_input, input_alone, read_all};
 
-use crate::source::{Found, Source};
+use crate::source::{OperandContent, ReadOperand};
 use em_base::{NoMemory, Seq, Text};
 use em_path::Path;
 use em_tree::Body;
@@ -14,13 +14,13 @@ use em_view::{Desk, ExecNo, View};
 use std::alloc::Global;
 
 /// What reading an operand gave; its fault is kept.
-fn kept(given: Result<Body, OperandNo>) -> Result<Found, ExecNo>
+fn kept(given: Result<Body, OperandNo>) -> Result<OperandContent, ExecNo>
     ensures { result ≡ kept given }
 {
     match given {
-        Ok(body) => Ok(Found::Bytes(body)),
+        Ok(body) => Ok(OperandContent::Bytes(body)),
         Err(no) => match no {
-            OperandNo::Fault(_, reason) => Ok(Found::No(reason)),
+            OperandNo::Fault(_, reason) => Ok(OperandContent::No(reason)),
             OperandNo::End(no) => Err(no),
         },
     }
@@ -31,17 +31,17 @@ fn found<V: View>(
     cwd: &Path,
     name: &[u8],
     desk: &mut Desk<V>,
-) -> Result<Found, ExecNo>
+) -> Result<OperandContent, ExecNo>
     ensures { Performs is_want V.tells desk.old desk.new result (found cwd.now name.now) }
 {
     kept(read(alloc, cwd, name, desk))
 }
 
 /// The input, as what was found.
-fn input_found(alloc: Global, input: &[u8]) -> Result<Found, NoMemory>
-    ensures { IfOk result (λ f. f ≡ Found.Bytes input.now) }
+fn input_found(alloc: Global, input: &[u8]) -> Result<OperandContent, NoMemory>
+    ensures { IfOk result (λ f. f ≡ OperandContent.Bytes input.now) }
 {
-    Ok(Found::Bytes(Body::from_slice(alloc, input)?))
+    Ok(OperandContent::Bytes(Body::from_slice(alloc, input)?))
 }
 
 fn is_input(dashed: bool, name: &[u8]) -> bool
@@ -57,7 +57,7 @@ fn found_in<V: View>(
     input: &[u8],
     name: &[u8],
     desk: &mut Desk<V>,
-) -> Result<Found, ExecNo>
+) -> Result<OperandContent, ExecNo>
     ensures { Performs is_want V.tells desk.old desk.new result
         (found_in cwd.now dashed input.now name.now) }
 {
@@ -68,10 +68,10 @@ fn found_in<V: View>(
     }
 }
 
-fn source(alloc: Global, name: &[u8], found: Found) -> Result<Source, NoMemory>
+fn source(alloc: Global, name: &[u8], found: OperandContent) -> Result<ReadOperand, NoMemory>
     ensures { IfOk result (λ s. s ≡ record { name = name.now; found = found }) }
 {
-    Ok(Source {
+    Ok(ReadOperand {
         name: Text::from_slice(alloc, name)?,
         found,
     })
@@ -85,7 +85,7 @@ fn sources<V: View>(
     input: &[u8],
     names: &[Text],
     desk: &mut Desk<V>,
-) -> Result<Seq<Source>, ExecNo>
+) -> Result<Seq<ReadOperand>, ExecNo>
     ensures { Performs is_want V.tells desk.old desk.new result
         (sources.sources cwd.now dashed input.now [] names.now) }
 {
@@ -98,7 +98,7 @@ fn sources<V: View>(
 }
 
 /// The input alone.
-fn input_alone(alloc: Global, input: &[u8]) -> Result<Seq<Source>, NoMemory>
+fn input_alone(alloc: Global, input: &[u8]) -> Result<Seq<ReadOperand>, NoMemory>
     ensures { IfOk result (λ ss. ss ≡ input_alone input.now) }
 {
     let mut all = Seq::new(alloc);
@@ -116,7 +116,7 @@ pub(crate) fn read_all<V: View>(
     input: &[u8],
     names: &[Text],
     desk: &mut Desk<V>,
-) -> Result<Seq<Source>, ExecNo>
+) -> Result<Seq<ReadOperand>, ExecNo>
     ensures { Performs is_want V.tells desk.old desk.new result
         (read_all cwd.now dashed input.now names.now) }
 {

@@ -5,7 +5,7 @@ ghost use Rattle.em_textutil.specs.Jobs as jobs;
 ghost use Rattle.em_textutil.specs.Jobs.{front_of, shown_lines, grep_found, grep_each, has_line, grep_status};
 
 use crate::job::Grep;
-use crate::source::{Found, Source};
+use crate::source::{OperandContent, ReadOperand};
 use em_base::{NoMemory, Text};
 use em_lineutil::{prefixed, selected};
 use em_utility::{Reason, begun, fail, write};
@@ -59,8 +59,8 @@ fn grep_bytes(
     done: &mut Done,
 ) -> Result<bool, NoMemory>
     ensures done { OnOk result
-        (done.new ≡ grep_found grep.now name.now (Found.Bytes bytes.now) done.old) }
-    ensures some { IfOk result (λ some. some ≡ has_line grep.now (Found.Bytes bytes.now)) }
+        (done.new ≡ grep_found grep.now name.now (OperandContent.Bytes bytes.now) done.old) }
+    ensures some { IfOk result (λ some. some ≡ has_line grep.now (OperandContent.Bytes bytes.now)) }
 {
     let lines = selected(alloc, &grep.search, grep.pattern.bytes(), bytes)?;
     let text = shown_lines(alloc, grep, name, &lines)?;
@@ -81,7 +81,7 @@ fn grep_fault(alloc: Global, name: &Text, reason: Reason, done: &mut Done) -> Re
 fn grep_found(
     alloc: Global,
     grep: &Grep,
-    source: &Source,
+    source: &ReadOperand,
     done: &mut Done,
 ) -> Result<bool, NoMemory>
     ensures done { OnOk result
@@ -89,8 +89,8 @@ fn grep_found(
     ensures some { IfOk result (λ some. some ≡ has_line grep.now source.now.found) }
 {
     match &source.found {
-        Found::Bytes(body) => grep_bytes(alloc, grep, &source.name, body.bytes(), done),
-        Found::No(reason) => grep_fault(alloc, &source.name, *reason, done),
+        OperandContent::Bytes(body) => grep_bytes(alloc, grep, &source.name, body.bytes(), done),
+        OperandContent::No(reason) => grep_fault(alloc, &source.name, *reason, done),
     }
 }
 
@@ -104,7 +104,7 @@ fn either(one: bool, other: bool) -> bool
 fn grep_each(
     alloc: Global,
     grep: &Grep,
-    sources: &[Source],
+    sources: &[ReadOperand],
     done: &mut Done,
 ) -> Result<bool, NoMemory>
     ensures done { OnOk result (done.new ≡ grep_each grep.now sources.now done.old) }
@@ -131,7 +131,11 @@ fn grep_status(some: bool, status: u8) -> u8
 }
 
 /// The lines that are selected, of one file after another.
-pub(crate) fn grep_done(alloc: Global, grep: &Grep, sources: &[Source]) -> Result<Done, NoMemory>
+pub(crate) fn grep_done(
+    alloc: Global,
+    grep: &Grep,
+    sources: &[ReadOperand],
+) -> Result<Done, NoMemory>
     ensures { IfOk result (λ d. d ≡ jobs.grep_done grep.now sources.now) }
 {
     let mut done = begun(alloc);

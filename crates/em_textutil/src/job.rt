@@ -33,7 +33,7 @@ pub struct Grep {
 
 /// What a utility does with what it has read.
 #[derive(Debug, Drop, PartialEq, Eq)]
-pub enum Job {
+pub enum TextOperation {
     /// Each file for itself.
     Each(Filter),
     /// All lines in order.

@@ -6,7 +6,7 @@ ghost use Rattle.em_textutil.specs.Utilities.{is_dashed};
 
 /// A utility that reads nothing.
 #[derive(Clone, Copy, Debug, PartialEq, Eq)]
-pub enum Plain {
+pub enum NoInputUtility {
     Echo,
     Printf,
     Basename,
@@ -18,7 +18,7 @@ pub enum Plain {
 
 /// A utility that reads its input or files.
 #[derive(Clone, Copy, Debug, PartialEq, Eq)]
-pub enum Reading {
+pub enum InputUtility {
     Cat,
     Head,
     Tail,
@@ -31,88 +31,88 @@ pub enum Reading {
 
 /// A text utility.
 #[derive(Clone, Copy, Debug, PartialEq, Eq)]
-pub enum Utility {
-    Plain(Plain),
-    Reading(Reading),
+pub enum TextUtility {
+    Plain(NoInputUtility),
+    Reading(InputUtility),
     Test,
     /// `[`
     Bracket,
 }
 
 /// The utility of this name.
-pub(crate) fn utility_of(name: &[u8]) -> Option<Utility>
+pub(crate) fn utility_of(name: &[u8]) -> Option<TextUtility>
     ensures { result ≡ utilities.utility_of name.now }
 {
     match name {
-        b"cat" => Some(Utility::Reading(Reading::Cat)),
-        b"echo" => Some(Utility::Plain(Plain::Echo)),
-        b"printf" => Some(Utility::Plain(Plain::Printf)),
-        b"head" => Some(Utility::Reading(Reading::Head)),
-        b"tail" => Some(Utility::Reading(Reading::Tail)),
-        b"wc" => Some(Utility::Reading(Reading::Wc)),
-        b"sort" => Some(Utility::Reading(Reading::Sort)),
-        b"uniq" => Some(Utility::Reading(Reading::Uniq)),
-        b"cmp" => Some(Utility::Reading(Reading::Cmp)),
-        b"grep" => Some(Utility::Reading(Reading::Grep)),
-        b"basename" => Some(Utility::Plain(Plain::Basename)),
-        b"dirname" => Some(Utility::Plain(Plain::Dirname)),
-        b"test" => Some(Utility::Test),
-        b"[" => Some(Utility::Bracket),
-        b"true" => Some(Utility::Plain(Plain::True)),
-        b"false" => Some(Utility::Plain(Plain::False)),
-        b":" => Some(Utility::Plain(Plain::True)),
+        b"cat" => Some(TextUtility::Reading(InputUtility::Cat)),
+        b"echo" => Some(TextUtility::Plain(NoInputUtility::Echo)),
+        b"printf" => Some(TextUtility::Plain(NoInputUtility::Printf)),
+        b"head" => Some(TextUtility::Reading(InputUtility::Head)),
+        b"tail" => Some(TextUtility::Reading(InputUtility::Tail)),
+        b"wc" => Some(TextUtility::Reading(InputUtility::Wc)),
+        b"sort" => Some(TextUtility::Reading(InputUtility::Sort)),
+        b"uniq" => Some(TextUtility::Reading(InputUtility::Uniq)),
+        b"cmp" => Some(TextUtility::Reading(InputUtility::Cmp)),
+        b"grep" => Some(TextUtility::Reading(InputUtility::Grep)),
+        b"basename" => Some(TextUtility::Plain(NoInputUtility::Basename)),
+        b"dirname" => Some(TextUtility::Plain(NoInputUtility::Dirname)),
+        b"test" => Some(TextUtility::Test),
+        b"[" => Some(TextUtility::Bracket),
+        b"true" => Some(TextUtility::Plain(NoInputUtility::True)),
+        b"false" => Some(TextUtility::Plain(NoInputUtility::False)),
+        b":" => Some(TextUtility::Plain(NoInputUtility::True)),
         _ => None,
     }
 }
 
-pub(crate) fn name_of(reading: Reading) -> &'static [u8]
+pub(crate) fn name_of(reading: InputUtility) -> &'static [u8]
     ensures { result.now ≡ plans.name_of reading }
 {
     match reading {
-        Reading::Cat => b"cat",
-        Reading::Head => b"head",
-        Reading::Tail => b"tail",
-        Reading::Wc => b"wc",
-        Reading::Sort => b"sort",
-        Reading::Uniq => b"uniq",
-        Reading::Cmp => b"cmp",
-        Reading::Grep => b"grep",
+        InputUtility::Cat => b"cat",
+        InputUtility::Head => b"head",
+        InputUtility::Tail => b"tail",
+        InputUtility::Wc => b"wc",
+        InputUtility::Sort => b"sort",
+        InputUtility::Uniq => b"uniq",
+        InputUtility::Cmp => b"cmp",
+        InputUtility::Grep => b"grep",
     }
 }
 
 /// The letters of its options.
-pub(crate) fn letters_of(reading: Reading) -> &'static [u8]
+pub(crate) fn letters_of(reading: InputUtility) -> &'static [u8]
     ensures { result.now ≡ plans.letters_of reading }
 {
     match reading {
-        Reading::Cat => b"",
-        Reading::Head => b"n",
-        Reading::Tail => b"n",
-        Reading::Wc => b"lwc",
-        Reading::Sort => b"ru",
-        Reading::Uniq => b"c",
-        Reading::Cmp => b"s",
-        Reading::Grep => b"Fvcqx",
+        InputUtility::Cat => b"",
+        InputUtility::Head => b"n",
+        InputUtility::Tail => b"n",
+        InputUtility::Wc => b"lwc",
+        InputUtility::Sort => b"ru",
+        InputUtility::Uniq => b"c",
+        InputUtility::Cmp => b"s",
+        InputUtility::Grep => b"Fvcqx",
     }
 }
 
 /// Those of them that take a value.
-pub(crate) fn valued_of(reading: Reading) -> &'static [u8]
+pub(crate) fn valued_of(reading: InputUtility) -> &'static [u8]
     ensures { result.now ≡ plans.valued_of reading }
 {
     match reading {
-        Reading::Head => b"n",
-        Reading::Tail => b"n",
+        InputUtility::Head => b"n",
+        InputUtility::Tail => b"n",
         _ => b"",
     }
 }
 
 /// Whether an operand `-` is the input.
-pub(crate) fn is_dashed(reading: Reading) -> bool
+pub(crate) fn is_dashed(reading: InputUtility) -> bool
     ensures { result ≡ is_dashed reading }
 {
     match reading {
-        Reading::Cat => true,
+        InputUtility::Cat => true,
         _ => false,
     }
 }

@@ -3,7 +3,7 @@ ghost use Rattle.std.specs.Prelude.{◌≡◌, IfOk};
 ghost use Rattle.em_textutil.specs.Jobs as jobs;
 ghost use Rattle.em_textutil.specs.Jobs.{difference_line, compared, compared_by, muted, pair_done};
 
-use crate::source::{Found, Source};
+use crate::source::{OperandContent, ReadOperand};
 use crate::texts::faults_done;
 use em_base::{NoMemory, Seq, Text};
 use em_lineutil::{Comparison, compare};
@@ -69,20 +69,30 @@ fn failed(done: Done) -> Done
     done
 }
 
-fn compared_by(alloc: Global, s: &Source, t: &Source, faults: Done) -> Result<Done, NoMemory>
+fn compared_by(
+    alloc: Global,
+    s: &ReadOperand,
+    t: &ReadOperand,
+    faults: Done,
+) -> Result<Done, NoMemory>
     ensures { IfOk result
         (λ d. d ≡ compared_by s.now.name s.now.found t.now.name t.now.found faults) }
 {
     match &s.found {
-        Found::Bytes(x) => match &t.found {
-            Found::Bytes(y) => compared(alloc, &s.name, &t.name, compare(x.bytes(), y.bytes())),
-            Found::No(_) => Ok(failed(faults)),
+        OperandContent::Bytes(x) => match &t.found {
+            OperandContent::Bytes(y) => compared(
+                alloc,
+                &s.name,
+                &t.name,
+                compare(x.bytes(), y.bytes()),
+            ),
+            OperandContent::No(_) => Ok(failed(faults)),
         },
-        Found::No(_) => Ok(failed(faults)),
+        OperandContent::No(_) => Ok(failed(faults)),
     }
 }
 
-fn pair_done(alloc: Global, sources: &[Source]) -> Result<Done, NoMemory>
+fn pair_done(alloc: Global, sources: &[ReadOperand]) -> Result<Done, NoMemory>
     ensures { IfOk result (λ d. d ≡ pair_done sources.now) }
 {
     match sources {
@@ -106,7 +116,7 @@ pub(crate) fn muted(alloc: Global, silent: bool, done: Done) -> Done
 pub(crate) fn compare_done(
     alloc: Global,
     silent: bool,
-    sources: &[Source],
+    sources: &[ReadOperand],
 ) -> Result<Done, NoMemory>
     ensures { IfOk result (λ d. d ≡ muted silent (pair_done sources.now)) }
 {

@@ -7,7 +7,7 @@ ghost use Rattle.em_utility.specs.Options.{read_options};
 ghost use Rattle.em_textutil.specs.Plain as plain;
 ghost use Rattle.em_textutil.specs.Plain.{line, strange_words, print_words, base_words, dir_words, plain_done, of_operands, ok_base, ok_dir};
 
-use crate::name::Plain;
+use crate::name::NoInputUtility;
 use em_base::{Construct, NoMemory, Text};
 use em_lineutil::{FormatNo, base_name, dir_name, faults, format_of, printed, without_suffix};
 use em_utility::{Reason, begun, fail, read_options, write};
@@ -135,15 +135,19 @@ fn echo(alloc: Global, words: &[Text]) -> Result<Done, NoMemory>
 
 /// What the utility leaves, of the words behind its name.
 #[tactic(auto, unfolding(crate::specs::Plain::plain_done))]
-pub(crate) fn plain_done(alloc: Global, plain: Plain, words: &[Text]) -> Result<Done, ExecNo>
+pub(crate) fn plain_done(
+    alloc: Global,
+    plain: NoInputUtility,
+    words: &[Text],
+) -> Result<Done, ExecNo>
     ensures { is_free is_want result ≡ false → result ≡ plain_done plain words.now }
 {
     match plain {
-        Plain::Echo => Ok(echo(alloc, words)?),
-        Plain::Printf => print(alloc, words),
-        Plain::Basename => base(alloc, words),
-        Plain::Dirname => dir(alloc, words),
-        Plain::True => Ok(ended(alloc, 0)),
-        Plain::False => Ok(ended(alloc, 1)),
+        NoInputUtility::Echo => Ok(echo(alloc, words)?),
+        NoInputUtility::Printf => print(alloc, words),
+        NoInputUtility::Basename => base(alloc, words),
+        NoInputUtility::Dirname => dir(alloc, words),
+        NoInputUtility::True => Ok(ended(alloc, 0)),
+        NoInputUtility::False => Ok(ended(alloc, 1)),
     }
 }

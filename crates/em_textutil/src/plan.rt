@@ -5,8 +5,8 @@ ghost use Rattle.em_view.specs.Ends.{is_want};
 ghost use Rattle.em_textutil.specs.Plans as plans;
 ghost use Rattle.em_textutil.specs.Plans.{at_most_one, by_number, asked_of, pair_plan, grep_plan, files_of, given_options, is_silent};
 
-use crate::job::{Filter, Grep, Job};
-use crate::name::{Reading, letters_of, name_of, valued_of};
+use crate::job::{Filter, Grep, TextOperation};
+use crate::name::{InputUtility, letters_of, name_of, valued_of};
 use em_base::{Construct, NoMemory, Text, number};
 use em_lineutil::{Asked, Order, Search};
 use em_utility::{Options, Reason, read_options};
@@ -15,21 +15,21 @@ use std::alloc::Global;
 
 /// What the words of a utility ask for.
 #[derive(Debug, Drop, PartialEq, Eq)]
-pub enum Plan {
+pub enum ParsedArgs {
     /// The operands are read, and then this is done.
-    Read(Job),
+    Read(TextOperation),
     /// They are written wrongly: the word that is wrong, which may be empty, and why.
     Wrong(Text, Reason),
 }
 
 /// At most one file is read.
-fn at_most_one(alloc: Global, filter: Filter, operands: &[Text]) -> Plan
+fn at_most_one(alloc: Global, filter: Filter, operands: &[Text]) -> ParsedArgs
     ensures { result ≡ at_most_one filter operands.now }
 {
     if operands.len() > 1 {
-        Plan::Wrong(Text::new(alloc), Reason::ExtraOperand)
+        ParsedArgs::Wrong(Text::new(alloc), Reason::ExtraOperand)
     } else {
-        Plan::Read(Job::Each(filter))
+        ParsedArgs::Read(TextOperation::Each(filter))
     }
 }
 
@@ -43,13 +43,18 @@ fn lines_of(tail: bool, n: u64) -> Filter
     }
 }
 
-fn by_number(alloc: Global, tail: bool, word: &Text, operands: &[Text]) -> Result<Plan, NoMemory>
+fn by_number(
+    alloc: Global,
+    tail: bool,
+    word: &Text,
+    operands: &[Text],
+) -> Result<ParsedArgs, NoMemory>
     ensures { IfOk result
         (λ p. p ≡ by_number (plans.count_of word.now) tail word.now operands.now) }
 {
     match number(u64::MAX, word.bytes()) {
         Some(n) => Ok(at_most_one(alloc, lines_of(tail, n), operands)),
-        None => Ok(Plan::Wrong(word.copy(alloc)?, Reason::NotANumber)),
+        None => Ok(ParsedArgs::Wrong(word.copy(alloc)?, Reason::NotANumber)),
     }
 }
 
@@ -59,11 +64,11 @@ fn counted_plan(
     options: &Options,
     tail: bool,
     operands: &[Text],
-) -> Result<Plan, NoMemory>
+) -> Result<ParsedArgs, NoMemory>
     ensures { IfOk result (λ p. p ≡ plans.counted_plan options.now tail operands.now) }
 {
     if options.lacks {
-        return Ok(Plan::Wrong(Text::new(alloc), Reason::MissingOperand));
+        return Ok(ParsedArgs::Wrong(Text::new(alloc), Reason::MissingOperand));
     }
     match &options.value {
         Some(word) => by_number(alloc, tail, word, operands),
@@ -89,24 +94,24 @@ fn asked_of(options: &Options) -> Asked
     }
 }
 
-fn pair_plan(alloc: Global, options: &Options, operands: &[Text]) -> Plan
+fn pair_plan(alloc: Global, options: &Options, operands: &[Text]) -> ParsedArgs
     ensures { result ≡ pair_plan options.now operands.now }
 {
     if operands.len() < 2 {
-        Plan::Wrong(Text::new(alloc), Reason::MissingOperand)
+        ParsedArgs::Wrong(Text::new(alloc), Reason::MissingOperand)
     } else if operands.len() > 2 {
-        Plan::Wrong(Text::new(alloc), Reason::ExtraOperand)
+        ParsedArgs::Wrong(Text::new(alloc), Reason::ExtraOperand)
     } else {
-        Plan::Read(Job::Pair(options.has(b's')))
+        ParsedArgs::Read(TextOperation::Pair(options.has(b's')))
     }
 }
 
-fn grep_plan(alloc: Global, options: &Options, operands: &[Text]) -> Result<Plan, NoMemory>
+fn grep_plan(alloc: Global, options: &Options, operands: &[Text]) -> Result<ParsedArgs, NoMemory>
     ensures { IfOk result (λ p. p ≡ grep_plan options.now operands.now) }
 {
     match operands.split_first() {
-        None => Ok(Plan::Wrong(Text::new(alloc), Reason::MissingOperand)),
-        Some((pattern, files)) => Ok(Plan::Read(Job::Grep(Grep {
+        None => Ok(ParsedArgs::Wrong(Text::new(alloc), Reason::MissingOperand)),
+        Some((pattern, files)) => Ok(ParsedArgs::Read(TextOperation::Grep(Grep {
             search: Search {
                 whole: options.has(b'x'),
                 inverted: options.has(b'v'),
@@ -129,25 +134,25 @@ fn grep_refused(alloc: Global) -> Result<Construct, NoMemory>
 /// What the operands ask for, with these options.
 pub(crate) fn planned(
     alloc: Global,
-    reading: Reading,
+    reading: InputUtility,
     options: &Options,
     operands: &[Text],
-) -> Result<Plan, ExecNo>
+) -> Result<ParsedArgs, ExecNo>
     ensures { is_free is_want result ≡ false → result
         ≡ plans.planned reading options.now operands.now }
 {
     match reading {
-        Reading::Cat => Ok(Plan::Read(Job::Each(Filter::Cat))),
-        Reading::Head => Ok(counted_plan(alloc, options, false, operands)?),
-        Reading::Tail => Ok(counted_plan(alloc, options, true, operands)?),
-        Reading::Wc => Ok(at_most_one(alloc, Filter::Count(asked_of(options)), operands)),
-        Reading::Sort => Ok(Plan::Read(Job::Sort(Order {
+        InputUtility::Cat => Ok(ParsedArgs::Read(TextOperation::Each(Filter::Cat))),
+        InputUtility::Head => Ok(counted_plan(alloc, options, false, operands)?),
+        InputUtility::Tail => Ok(counted_plan(alloc, options, true, operands)?),
+        InputUtility::Wc => Ok(at_most_one(alloc, Filter::Count(asked_of(options)), operands)),
+        InputUtility::Sort => Ok(ParsedArgs::Read(TextOperation::Sort(Order {
             backwards: options.has(b'r'),
             unique: options.has(b'u'),
         }))),
-        Reading::Uniq => Ok(at_most_one(alloc, Filter::Uniq(options.has(b'c')), operands)),
-        Reading::Cmp => Ok(pair_plan(alloc, options, operands)),
-        Reading::Grep => {
+        InputUtility::Uniq => Ok(at_most_one(alloc, Filter::Uniq(options.has(b'c')), operands)),
+        InputUtility::Cmp => Ok(pair_plan(alloc, options, operands)),
+        InputUtility::Grep => {
             if options.has(b'F') {
                 Ok(grep_plan(alloc, options, operands)?)
             } else {
@@ -160,7 +165,7 @@ pub(crate) fn planned(
 /// The options of the utility's words.
 pub(crate) fn given_options(
     alloc: Global,
-    reading: Reading,
+    reading: InputUtility,
     words: &[Text],
 ) -> Result<Options, ExecNo>
     ensures { is_free is_want result ≡ false → result ≡ given_options reading words.now }
@@ -175,21 +180,21 @@ pub(crate) fn given_options(
 }
 
 /// The files among the operands.
-pub(crate) fn files_of<'a>(job: &Job, operands: &'a [Text]) -> &'a [Text]
+pub(crate) fn files_of<'a>(job: &TextOperation, operands: &'a [Text]) -> &'a [Text]
     ensures { result.now ≡ files_of job.now operands.now }
 {
     match job {
-        Job::Grep(_) => operands.get(1..).unwrap_or(&[]),
+        TextOperation::Grep(_) => operands.get(1..).unwrap_or(&[]),
         _ => operands,
     }
 }
 
 /// Whether not even what is wrong is written.
-pub(crate) fn is_silent(reading: Reading, options: &Options) -> bool
+pub(crate) fn is_silent(reading: InputUtility, options: &Options) -> bool
     ensures { result ≡ is_silent reading options.now }
 {
     match reading {
-        Reading::Cmp => options.has(b's'),
+        InputUtility::Cmp => options.has(b's'),
         _ => false,
     }
 }

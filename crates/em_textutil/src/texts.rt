@@ -6,7 +6,7 @@ ghost use Rattle.em_lineutil.specs.Sorting.{sort_text};
 ghost use Rattle.em_textutil.specs.Jobs.{names_of, shown_by, by_found, each_done, text_of, texts_of, with_fault, faults_done};
 
 use crate::job::Filter;
-use crate::source::{Found, Source};
+use crate::source::{OperandContent, ReadOperand};
 use em_base::{NoMemory, Text};
 use em_lineutil::{Order, count_line, head, sort_text, tail, uniq_text};
 use em_utility::{begun, fail, write};
@@ -42,18 +42,18 @@ fn write_found(
     alloc: Global,
     utility: &[u8],
     filter: &Filter,
-    source: &Source,
+    source: &ReadOperand,
     done: &mut Done,
 ) -> Result<(), NoMemory>
     ensures { OnOk result
         (done.new ≡ by_found utility.now filter.now source.now.name source.now.found done.old) }
 {
     match &source.found {
-        Found::Bytes(body) => {
+        OperandContent::Bytes(body) => {
             let text = shown_by(alloc, filter, &source.name, body.bytes())?;
             write(done, 1, text)
         }
-        Found::No(reason) => fail(alloc, done, utility, source.name.bytes(), *reason),
+        OperandContent::No(reason) => fail(alloc, done, utility, source.name.bytes(), *reason),
     }
 }
 
@@ -62,7 +62,7 @@ pub(crate) fn each_done(
     alloc: Global,
     utility: &[u8],
     filter: &Filter,
-    sources: &[Source],
+    sources: &[ReadOperand],
 ) -> Result<Done, NoMemory>
     ensures { IfOk result (λ d. d ≡ each_done utility.now filter.now sources.now nothing) }
 {
@@ -73,21 +73,21 @@ pub(crate) fn each_done(
     Ok(done)
 }
 
-fn push_text<'a>(texts: &mut Vec<&'a [u8]>, found: &'a Found) -> Result<(), NoMemory>
+fn push_text<'a>(texts: &mut Vec<&'a [u8]>, found: &'a OperandContent) -> Result<(), NoMemory>
     ensures { OnOk result
         (map (λ t. t.now) texts.new.items ≡ map (λ t. t.now) texts.old.items ++ text_of found.now) }
 {
     match found {
-        Found::Bytes(body) => {
+        OperandContent::Bytes(body) => {
             texts.push(body.bytes())?;
             Ok(())
         }
-        Found::No(_) => Ok(()),
+        OperandContent::No(_) => Ok(()),
     }
 }
 
 /// The texts that were found.
-fn texts_of(alloc: Global, sources: &[Source]) -> Result<Vec<&[u8]>, NoMemory>
+fn texts_of(alloc: Global, sources: &[ReadOperand]) -> Result<Vec<&[u8]>, NoMemory>
     ensures { IfOk result (λ v. map (λ t. t.now) v.items ≡ texts_of sources.now) }
 {
     let mut texts = Vec::new(alloc);
@@ -100,15 +100,15 @@ fn texts_of(alloc: Global, sources: &[Source]) -> Result<Vec<&[u8]>, NoMemory>
 fn write_fault(
     alloc: Global,
     utility: &[u8],
-    source: &Source,
+    source: &ReadOperand,
     done: &mut Done,
 ) -> Result<(), NoMemory>
     ensures { OnOk result
         (done.new ≡ with_fault utility.now source.now.name source.now.found done.old) }
 {
     match &source.found {
-        Found::Bytes(_) => Ok(()),
-        Found::No(reason) => fail(alloc, done, utility, source.name.bytes(), *reason),
+        OperandContent::Bytes(_) => Ok(()),
+        OperandContent::No(reason) => fail(alloc, done, utility, source.name.bytes(), *reason),
     }
 }
 
@@ -116,7 +116,7 @@ fn write_fault(
 pub(crate) fn faults_done(
     alloc: Global,
     utility: &[u8],
-    sources: &[Source],
+    sources: &[ReadOperand],
 ) -> Result<Done, NoMemory>
     ensures { IfOk result (λ d. d ≡ faults_done utility.now sources.now nothing) }
 {
@@ -132,7 +132,7 @@ pub(crate) fn sort_done(
     alloc: Global,
     utility: &[u8],
     order: &Order,
-    sources: &[Source],
+    sources: &[ReadOperand],
 ) -> Result<Done, NoMemory>
     ensures { IfOk result (λ d. d ≡ written 1 (sort_text order.now (texts_of sources.now))
         (faults_done utility.now sources.now nothing)) }

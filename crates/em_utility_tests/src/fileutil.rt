@@ -3,7 +3,7 @@
 //! behind the number of its stream; `-` for what is no file utility, `!` and the letter for an
 //! option that is refused, `!` and the name for a command that is, `$` for spent fuel; and then `;`.
 use super::shows::{add_all, show_done, words};
-use super::trees::{Item, state};
+use super::trees::{NodeRow, state};
 use em_base::{Construct, Fuel, NoMemory, Text};
 use em_fileutil::utility;
 use em_path::Path;
@@ -91,7 +91,7 @@ fn each_utility_does_as_posix_says(rt: HostRuntime) -> Result<(), Fail> {
 }
 
 /// A file `b` of two bytes, with the stamp 1, beside nothing.
-static BESIDE_B: [Item; 1] = [(b"/b", Some(b"x\n"), 1)];
+static BESIDE_B: [NodeRow; 1] = [(b"/b", Some(b"x\n"), 1)];
 
 fn question_letter(question: &Question) -> &'static [u8] {
     match question {
@@ -237,9 +237,9 @@ fn a_file_that_is_moved_keeps_its_stamp(rt: HostRuntime) -> Result<(), Fail> {
 }
 
 /// A directory `d` with `x` in it.
-static WITH_X: [Item; 2] = [(b"/d", None, 1), (b"/d/x", Some(b""), 1)];
+static WITH_X: [NodeRow; 2] = [(b"/d", None, 1), (b"/d/x", Some(b""), 1)];
 
-static WITHOUT_X: [Item; 1] = [(b"/d", None, 1)];
+static WITHOUT_X: [NodeRow; 1] = [(b"/d", None, 1)];
 
 /// `x` is there until `d` is listed, which is the fifth question, and is gone then.
 fn states(alloc: Global) -> Result<Vec<State>, Fail> {

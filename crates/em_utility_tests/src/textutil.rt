@@ -1,5 +1,5 @@
 use super::shows::{add_all, words};
-use super::trees::{Item, state};
+use super::trees::{NodeRow, state};
 use em_base::{Construct, Fuel, NoMemory, Text};
 use em_path::Path;
 use em_textutil::utility;
@@ -58,7 +58,7 @@ fn run<V: View>(
 
 /// `/f` holds lines, `/g` others and is newer, `/e` nothing, `/l` a line without a newline behind
 /// it; `/d` is a directory.
-static ITEMS: [Item; 5] = [
+static ITEMS: [NodeRow; 5] = [
     (b"/f", Some(b"b\na\na\n"), 2),
     (b"/g", Some(b"c d\n"), 3),
     (b"/e", Some(b""), 2),
@@ -67,9 +67,9 @@ static ITEMS: [Item; 5] = [
 ];
 
 /// A command, its input, and what it writes with its status behind.
-type Case = (&'static str, &'static str, &'static str);
+type CommandRow = (&'static str, &'static str, &'static str);
 
-static CASES: [Case; 83] = [
+static CASES: [CommandRow; 83] = [
     ("cat f e g", "", "b\na\na\nc d\n0"),
     ("cat", "in", "in0"),
     ("cat - g", "in", "inc d\n0"),
@@ -181,7 +181,7 @@ fn transcript(alloc: Global, words: &[Text], input: &[u8], fuel: u64) -> Result<
     Ok(log)
 }
 
-fn is_left(alloc: Global, case: &Case, fuel: u64) -> Result<bool, Fail> {
+fn is_left(alloc: Global, case: &CommandRow, fuel: u64) -> Result<bool, Fail> {
     let words = words(alloc, case.0)?;
     Ok(transcript(alloc, &words, case.1.as_bytes(), fuel)?.bytes() == case.2.as_bytes())
 }

@@ -20,9 +20,9 @@ use Rattle.em_word.specs.declared.turn.Mode.{Mode}
 use Rattle.em_word.specs.declared.turn.WordTurn.TheVariants as wordturn
 use Rattle.em_word.specs.declared.expander.Expander.{Expander}
 use Rattle.em_word.specs.declared.expander.Open.{Open}
-use Rattle.em_word.specs.declared.expander.Stage.TheVariants.{Ready, Waiting, Given}
-use Rattle.em_word.specs.declared.step.Step.{Step}
-use Rattle.em_word.specs.declared.step.Step.TheVariants as step
+use Rattle.em_word.specs.declared.expander.ExpanderState.TheVariants.{Ready, Waiting, Given}
+use Rattle.em_word.specs.declared.step.ExpansionStep.{ExpansionStep}
+use Rattle.em_word.specs.declared.step.ExpansionStep.TheVariants as step
 use Rattle.em_word.specs.Talk.{Ends, Pays, Looks, and_then}
 use Rattle.em_word.specs.Values.{Plan, charged, taken, text_of, close, unless_early, assigned, output_piece}
 use Rattle.em_word.specs.Words.{Around, Next, if_early, ended, taken_up, plan}
@@ -73,7 +73,7 @@ counted_first e p ps ss rest c is = c ∙ ap scripts_in rest ∙ is
 
 -- a step on what another one led to
 module _ {V : Type 0} {tells : V → Told} {mode : Mode} {shell : Shell} {a b : DeskState V} {whole mid : Plan Script} (c : DeskState V) (new : Expander) where
-  pub led : Leads tells mode shell a b whole mid → (r : Result Step WordFault) → MatchResult r (Stepped tells mode shell b c mid new) (Failed tells mode shell b c mid) → MatchResult r (Stepped tells mode shell a c whole new) (Failed tells mode shell a c whole)
+  pub led : Leads tells mode shell a b whole mid → (r : Result ExpansionStep WordFault) → MatchResult r (Stepped tells mode shell b c mid new) (Failed tells mode shell b c mid) → MatchResult r (Stepped tells mode shell a c whole new) (Failed tells mode shell a c whole)
   led l (Ok step.Goes) s = record { leads = on l s.leads; steady = s.steady }
   led l (Ok (step.Turn t)) s = record { turned = l.goes _ _ s.turned; stands = s.stands }
   led l (Ok step.Ended) s = record { leads = on l s.leads }

@@ -5,8 +5,8 @@ use Rattle.em_word.specs.declared.shell.Shell.{Shell}
 use Rattle.em_word.specs.declared.fault.WordFault.{WordFault}
 use Rattle.em_word.specs.declared.turn.WordTurn.{WordTurn}
 use Rattle.em_word.specs.declared.expander.Expander.{Expander}
-use Rattle.em_word.specs.declared.step.Step.{Step}
-use Rattle.em_word.specs.declared.step.Step.TheVariants as step
+use Rattle.em_word.specs.declared.step.ExpansionStep.{ExpansionStep}
+use Rattle.em_word.specs.declared.step.ExpansionStep.TheVariants as step
 use Rattle.em_word.specs.Talk.{Ends}
 use Rattle.em_word.specs.Ends.{is_want}
 use Rattle.em_word.specs.Turns.{Stop, turn}
@@ -38,7 +38,7 @@ pub record Turned {V : Type 0} (tells : V → Told) (mode : Mode) (shell : Shell
   pub turned : Performs is_want tells first here (Ok (seen_turn new t)) (turn mode whole shell)
   pub stands : StandsAfter new t
 
-abbrev pub Stepped : {V : Type 0} → (V → Told) → Mode → Shell → DeskState V → DeskState V → Plan Script → Expander → Step → Type 0
+abbrev pub Stepped : {V : Type 0} → (V → Told) → Mode → Shell → DeskState V → DeskState V → Plan Script → Expander → ExpansionStep → Type 0
 Stepped tells mode shell first here whole new step.Goes = GoesOn tells mode shell first here whole new
 Stepped tells mode shell first here whole new (step.Turn t) = Turned tells mode shell first here whole new t
 Stepped tells mode shell first here whole new step.Ended = Ended tells mode shell first here whole new

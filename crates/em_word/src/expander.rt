@@ -12,7 +12,7 @@ ghost use Rattle.em_word.specs.Words.{word_plan};
 use crate::fault::WordFault;
 use crate::names::names_of_each;
 use crate::shell::Shell;
-use crate::step::{Step, charge};
+use crate::step::{ExpansionStep, charge};
 use crate::turn::{Mode, WordTurn};
 use em_base::{NoMemory, Seq, Stack, Text};
 use em_fields::{Late, Part, add_bytes, bytes, fields, glyphs, without_newlines};
@@ -34,7 +34,7 @@ pub struct Expander<'a> {
     pub(crate) rest: &'a [WordPiece],
     /// The values whose arguments are open.
     pub(crate) outer: Stack<Open<'a>>,
-    pub(crate) stage: Stage<'a>,
+    pub(crate) stage: ExpanderState<'a>,
 }
 
 /// A value whose argument is being expanded.
@@ -49,7 +49,7 @@ pub(crate) struct Open<'a> {
 
 /// Whether the output of a command is needed.
 #[derive(Drop)]
-pub(crate) enum Stage<'a> {
+pub(crate) enum ExpanderState<'a> {
     Ready,
     /// That of this script is, and is quoted or not.
     Waiting(bool, &'a Script),
@@ -58,12 +58,14 @@ pub(crate) enum Stage<'a> {
 }
 
 /// The stage after an output was handed in.
-fn with_output<'a>(stage: &Stage<'a>, output: Text) -> Stage<'a>
+fn with_output<'a>(stage: &ExpanderState<'a>, output: Text) -> ExpanderState<'a>
     ensures { result ≡ given stage.now output }
 {
     match stage {
-        Stage::Ready => Stage::Given(false, output),
-        Stage::Waiting(quoted, _) | Stage::Given(quoted, _) => Stage::Given(*quoted, output),
+        ExpanderState::Ready => ExpanderState::Given(false, output),
+        ExpanderState::Waiting(quoted, _) | ExpanderState::Given(quoted, _) => ExpanderState::Given(
+            *quoted, output,
+        ),
     }
 }
 
@@ -81,7 +83,7 @@ impl<'a> Expander<'a> {
             parts: Seq::new(alloc),
             rest: &word.pieces,
             outer: Stack::new(alloc),
-            stage: Stage::Ready,
+            stage: ExpanderState::Ready,
         })
     }
 
@@ -91,8 +93,8 @@ impl<'a> Expander<'a> {
         ensures { option_map (λ s. s.now) result ≡ asked_of self.now }
     {
         match self.stage {
-            Stage::Waiting(_, script) => Some(script),
-            Stage::Ready | Stage::Given(..) => None,
+            ExpanderState::Waiting(_, script) => Some(script),
+            ExpanderState::Ready | ExpanderState::Given(..) => None,
         }
     }
 
@@ -137,9 +139,14 @@ impl<'a> Expander<'a> {
             (Failed V.tells (mode_of self.old) shell.now desk.old desk.new (plan_of self.old)) }
         ensures same { IsSame self.old self.new }
     {
-        match mem::replace(&mut self.stage, Stage::Ready) {
-            Stage::Given(quoted, output) => self.use_output(quoted, output.bytes(), shell, desk),
-            Stage::Ready | Stage::Waiting(..) => Ok(()),
+        match mem::replace(&mut self.stage, ExpanderState::Ready) {
+            ExpanderState::Given(quoted, output) => self.use_output(
+                quoted,
+                output.bytes(),
+                shell,
+                desk,
+            ),
+            ExpanderState::Ready | ExpanderState::Waiting(..) => Ok(()),
         }
     }
 
@@ -180,9 +187,9 @@ impl<'a> Expander<'a> {
     {
         for _ in 0..u64::MAX {
             match self.step(alloc, shell, desk)? {
-                Step::Goes => {}
-                Step::Turn(turn) => return Ok(turn),
-                Step::Ended => return self.finish(alloc, shell, desk),
+                ExpansionStep::Goes => {}
+                ExpansionStep::Turn(turn) => return Ok(turn),
+                ExpansionStep::Ended => return self.finish(alloc, shell, desk),
             }
         }
         Err(WordFault::NoMemory)

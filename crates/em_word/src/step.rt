@@ -12,11 +12,11 @@ ghost use Rattle.em_word.specs.Leads.{Stepped, Failed, IsSame, closed};
 ghost use Rattle.em_word.specs.Passing.{behind};
 ghost use Rattle.em_word.specs.Values as values;
 ghost use Rattle.em_word.specs.Values.{charged};
-ghost use Rattle.em_word.specs.declared.expander.Stage.TheVariants as stage;
-ghost use Rattle.em_word.specs.declared.step.Step.TheVariants as step;
+ghost use Rattle.em_word.specs.declared.expander.ExpanderState.TheVariants as stage;
+ghost use Rattle.em_word.specs.declared.step.ExpansionStep.TheVariants as step;
 ghost use Rattle.em_word.specs.declared.turn.WordTurn.TheVariants as turn;
 
-use crate::expander::{Expander, Open, Stage};
+use crate::expander::{Expander, ExpanderState, Open};
 use crate::fault::WordFault;
 use crate::passing::{behind_argument, sum};
 use crate::shell::Shell;
@@ -34,7 +34,7 @@ use std::mem;
 
 /// What a step came to.
 #[derive(Drop)]
-pub(crate) enum Step {
+pub(crate) enum ExpansionStep {
     /// The expansion goes on.
     Goes,
     /// A turn.
@@ -97,7 +97,7 @@ fn complaint(alloc: Global, name: &[u8], word: &[u8]) -> Result<Text, NoMemory>
 
 impl<'a> Expander<'a> {
     /// Asks for the output of the next substitution.
-    fn ask(&mut self, quoted: bool, script: &'a Script) -> Result<Step, NoMemory>
+    fn ask(&mut self, quoted: bool, script: &'a Script) -> Result<ExpansionStep, NoMemory>
         ensures turn { IfOk result (λ s. s ≡ step.Turn (turn.Output self.old.before)) }
         ensures new { IfOk result
             (λ s. self.new ≡ record self.old {
@@ -107,8 +107,8 @@ impl<'a> Expander<'a> {
     {
         let number = self.before;
         self.before = number.checked_add(1).ok_or(NoMemory)?;
-        self.stage = Stage::Waiting(quoted, script);
-        Ok(Step::Turn(WordTurn::Output(number)))
+        self.stage = ExpanderState::Waiting(quoted, script);
+        Ok(ExpansionStep::Turn(WordTurn::Output(number)))
     }
 
     /// Goes into the argument of a value.
@@ -153,7 +153,7 @@ impl<'a> Expander<'a> {
         text: &[u8],
         shell: &Shell,
         desk: &mut Desk<V>,
-    ) -> Result<Step, WordFault>
+    ) -> Result<ExpansionStep, WordFault>
         requires { IsSteady self.old }
         ensures steps { MatchResult result
             (Stepped V.tells (mode_of self.old) shell.now desk.old desk.new
@@ -164,7 +164,7 @@ impl<'a> Expander<'a> {
     {
         charge(desk, text.len())?;
         add_bytes(&mut self.parts, quoted, text)?;
-        Ok(Step::Goes)
+        Ok(ExpansionStep::Goes)
     }
 
     /// A value without an argument.
@@ -176,7 +176,7 @@ impl<'a> Expander<'a> {
         value: &Value,
         shell: &Shell,
         desk: &mut Desk<V>,
-    ) -> Result<Step, WordFault>
+    ) -> Result<ExpansionStep, WordFault>
         requires { IsSteady self.old }
         ensures steps { MatchResult result
             (Stepped V.tells (mode_of self.old) shell.now desk.old desk.new
@@ -220,7 +220,7 @@ impl<'a> Expander<'a> {
         value: &'a Value,
         shell: &Shell,
         desk: &mut Desk<V>,
-    ) -> Result<Step, WordFault>
+    ) -> Result<ExpansionStep, WordFault>
         requires { IsSteady self.old }
         ensures steps { MatchResult result
             (Stepped V.tells (mode_of self.old) shell.now desk.old desk.new
@@ -237,7 +237,7 @@ impl<'a> Expander<'a> {
         match early_value(form, text_of(shell, name), shell.status) {
             Early::Argument => {
                 self.enter(alloc, quoted, late_value(form), value)?;
-                Ok(Step::Goes)
+                Ok(ExpansionStep::Goes)
             }
             Early::Text(text) => {
                 self.pass_over()?;
@@ -259,7 +259,7 @@ impl<'a> Expander<'a> {
         value: &Closed,
         shell: &Shell,
         desk: &mut Desk<V>,
-    ) -> Result<Step, WordFault>
+    ) -> Result<ExpansionStep, WordFault>
         requires { IsSteady self.old }
         ensures steps { MatchResult result
             (Stepped V.tells (mode_of self.old) shell.now desk.old desk.new
@@ -274,13 +274,13 @@ impl<'a> Expander<'a> {
                 charge(desk, size(argument))?;
                 add_mark(&mut self.parts, value.quoted)?;
                 add_parts(&mut self.parts, argument)?;
-                Ok(Step::Goes)
+                Ok(ExpansionStep::Goes)
             }
             Late::Assign => {
                 let text = bytes(alloc, argument)?;
                 charge(desk, text.bytes().len())?;
                 add_bytes(&mut self.parts, value.quoted, text.bytes())?;
-                Ok(Step::Turn(WordTurn::Set(Text::from_slice(alloc, value.name)?, text)))
+                Ok(ExpansionStep::Turn(WordTurn::Set(Text::from_slice(alloc, value.name)?, text)))
             }
             Late::Complain => {
                 let text = bytes(alloc, argument)?;
@@ -291,7 +291,7 @@ impl<'a> Expander<'a> {
                 let text = cut_off(cut, pattern.items(), text_or_empty(shell, value.name));
                 charge(desk, text.len())?;
                 add_bytes(&mut self.parts, value.quoted, text)?;
-                Ok(Step::Goes)
+                Ok(ExpansionStep::Goes)
             }
         }
     }
@@ -303,7 +303,7 @@ impl<'a> Expander<'a> {
         alloc: Global,
         shell: &Shell,
         desk: &mut Desk<V>,
-    ) -> Result<Step, WordFault>
+    ) -> Result<ExpansionStep, WordFault>
         requires { IsSteady self.old }
         ensures steps { MatchResult result
             (Stepped V.tells (mode_of self.old) shell.now desk.old desk.new
@@ -312,7 +312,7 @@ impl<'a> Expander<'a> {
         ensures same { IfOk result (λ s. IsSame self.old self.new) }
     {
         let Some(open) = self.outer.pop() else {
-            return Ok(Step::Goes);
+            return Ok(ExpansionStep::Goes);
         };
         let Open {
             quoted,
@@ -337,7 +337,7 @@ impl<'a> Expander<'a> {
         alloc: Global,
         shell: &Shell,
         desk: &mut Desk<V>,
-    ) -> Result<Step, WordFault>
+    ) -> Result<ExpansionStep, WordFault>
         requires { IsSteady self.old }
         ensures steps { MatchResult result
             (Stepped V.tells (mode_of self.old) shell.now desk.old desk.new
@@ -346,13 +346,13 @@ impl<'a> Expander<'a> {
         ensures same { IfOk result (λ s. IsSame self.old self.new) }
     {
         let Some((piece, rest)) = self.rest.split_first() else {
-            return Ok(Step::Ended);
+            return Ok(ExpansionStep::Ended);
         };
         self.rest = rest;
         match &piece.what {
             WordWhat::Bytes(text) => {
                 add_bytes(&mut self.parts, piece.quoted, text.bytes())?;
-                Ok(Step::Goes)
+                Ok(ExpansionStep::Goes)
             }
             WordWhat::Output(script) => {
                 charge_unit(desk)?;

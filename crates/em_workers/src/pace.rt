@@ -12,6 +12,9 @@ const SHORT: u64 = 128;
 /// A job that took more counts as one that took so much.
 const MOST: u64 = 65_536;
 
+/// How many jobs the first board has for each worker, over those before the first look.
+const AHEAD: u64 = 2;
+
 /// Whether workers pay: it looks at the average of the fuel that the last jobs took, after the
 /// first sixteen jobs and then again after each sixteenth of the jobs of the build. It tells by
 /// what was committed alone.
@@ -26,6 +29,8 @@ pub(crate) struct Pace {
     /// How many jobs there are from one look to the next.
     every: u64,
     pays: bool,
+    /// The jobs below this one stand on the board.
+    board: u64,
 }
 
 impl Pace {
@@ -37,12 +42,31 @@ impl Pace {
             next: WINDOW,
             every: jobs as u64 / WINDOW + 1,
             pays: true,
+            board: 0,
         }
     }
 
     /// Whether workers pay for the jobs up to the next look.
     pub(crate) fn pays(&self) -> bool {
         self.pays
+    }
+
+    /// Whether they pay for the next job, and it stands on the board.
+    pub(crate) fn pays_on_board(&self) -> bool {
+        self.pays && self.seen < self.board
+    }
+
+    /// A board is made for a build of so many jobs with so many workers: how many of the jobs stand
+    /// on it. Before the first look these are few, since it may find that all that workers run
+    /// ahead of it is in vain.
+    pub(crate) fn begin(&mut self, jobs: usize, workers: u32) -> usize {
+        let all = jobs as u64;
+        self.board = if self.seen < WINDOW {
+            all.min(WINDOW + AHEAD * workers as u64)
+        } else {
+            all
+        };
+        self.board as usize
     }
 
     /// A job more was committed, which took so much fuel.

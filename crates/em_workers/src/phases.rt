@@ -25,11 +25,11 @@ use std::alloc::Global;
 use std::sync::Wait;
 use std::thread::{Threads, join_mut};
 
-/// How often workers are begun at most: there are seventeen looks at most, and each second change
-/// begins workers.
-const ROUNDS: u32 = 9;
+/// How often workers are begun at most: there are seventeen looks at most, of which each second
+/// change begins workers, and behind the first board's jobs they may begin again without one.
+const ROUNDS: u32 = 10;
 
-/// Commits the next job where workers pay. None also where they don't.
+/// Commits the next job where workers pay and it stands on the board. None also elsewhere.
 fn commit_if_long<S: Spec, L: Lender<S>, W: Work<S>, G: Gate, H: Host>(
     alloc: Global,
     lender: &mut L,
@@ -44,13 +44,13 @@ fn commit_if_long<S: Spec, L: Lender<S>, W: Work<S>, G: Gate, H: Host>(
         (L.told lender.old) (L.told lender.new) (H.told host.old) (H.told host.new) }
     ensures faults { H.faults host.new ≡ faults_after result (H.faults host.old) }
 {
-    if !pace.pays() {
+    if !pace.pays_on_board() {
         return Ok(None);
     }
     commit_next(alloc, lender, front, w, gate, host, pace)
 }
 
-/// Commits jobs in order while workers pay. Gives a note for each.
+/// Commits jobs of the board in order while workers pay. Gives a note for each.
 fn commit_while_long<S: Spec, L: Lender<S>, W: Work<S>, G: Gate, H: Host>(
     alloc: Global,
     lender: &mut L,
@@ -280,8 +280,19 @@ fn board_at<S: Spec>(
     Board::new(alloc, begun, waits)
 }
 
-/// A board for the jobs that are left: it begins at the front's state, and the jobs that are
-/// committed count as settled.
+/// The first lists, at most so many.
+fn first(waits: &[Seq<u32>], count: usize) -> &[Seq<u32>]
+    requires few { length waits.now < 2 ^ 32 }
+    requires lower { (j : ℕ) → All (λ k. k < j) (slice_index_or waits.now j []) }
+    ensures few { length result.now < 2 ^ 32 }
+    ensures lower { (j : ℕ) → All (λ k. k < j) (slice_index_or result.now j []) }
+{
+    let (first, _) = waits.split_at(count.min(waits.len()));
+    first
+}
+
+/// A board for the jobs that are left of those with these lists: it begins at the front's state,
+/// and the jobs that are committed count as settled.
 fn board_for_rest<R: Wait, S: Spec>(
     rt: &R,
     alloc: Global,
@@ -309,8 +320,8 @@ fn joined(notes: Seq<Note>, more: Seq<Note>) -> Result<Seq<Note>, NoMemory>
     Ok(all)
 }
 
-/// Commits jobs beside workers while jobs are long, and then alone while they are short. It does
-/// nothing where there is no next job.
+/// Commits jobs of a board beside workers while jobs are long, and then alone while they are short.
+/// It does nothing where there is no next job.
 fn commit_round<
     R: Threads + Wait + Sync,
     S: Spec + Send + Sync,
@@ -339,7 +350,8 @@ fn commit_round<
     if front.next().is_none() {
         return Ok(Seq::new(alloc));
     }
-    let shared = board_for_rest(rt, alloc, front, waits)?;
+    let count = pace.begin(waits.len(), workers);
+    let shared = board_for_rest(rt, alloc, front, first(waits, count))?;
     let counted = Counted::new(w);
     let notes = commit_with(
         rt, alloc, &shared, specs, workers, front, w, &counted, gate, host, pace,
@@ -355,7 +367,7 @@ fn commit_round<
 /// committed, so it is the same in each run. Gives a note for each job.
 ///
 /// Besides the turns and the calls on the host each begin of workers takes steps for each job, each
-/// of its waits and each node of the state; they begin nine times at most.
+/// of its waits and each node of the state; they begin ten times at most.
 pub(crate) fn commit_in_phases<
     R: Threads + Wait + Sync,
     S: Spec + Send + Sync,

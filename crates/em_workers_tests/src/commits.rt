@@ -9,7 +9,7 @@ use em_base::Seq;
 use em_engine::{Front, Note, Taken};
 use em_host::MemHost;
 use em_testing::{
-    Link, Linker, Plan, THREE, front_of, run_at_root, run_of, show_bytes, show_notes,
+    Link, LinkPlan, Linker, THREE, front_of, run_at_root, run_of, show_bytes, show_notes,
 };
 use em_workers::{BuildNo, OpenGate, ScriptLender, commit_all};
 use std::alloc::{AllocError, Global};
@@ -26,7 +26,7 @@ static FIVE: [(&str, &str); 5] = [
 ];
 
 /// A front that has committed so many jobs of the plan.
-fn front_behind(alloc: Global, plan: Plan<'_>, jobs: u32) -> Result<Front<Link>, Fail> {
+fn front_behind(alloc: Global, plan: LinkPlan<'_>, jobs: u32) -> Result<Front<Link>, Fail> {
     let mut front = front_of(alloc, plan)?;
     for _ in 0..jobs {
         rerun_one(alloc, &mut front, &OpenGate)?;
@@ -94,7 +94,7 @@ fn show_end(log: &mut String, end: Result<Seq<Note>, BuildNo>) -> Result<(), All
 
 fn commit_plan(
     alloc: Global,
-    plan: Plan<'_>,
+    plan: LinkPlan<'_>,
     lender: &mut ScriptLender<Link>,
     host: &mut MemHost,
     log: &mut String,
@@ -119,7 +119,7 @@ fn show_told(
 /// What comes of the plan's jobs, by this lender on this host.
 fn show_committed(
     alloc: Global,
-    plan: Plan<'_>,
+    plan: LinkPlan<'_>,
     lender: &mut ScriptLender<Link>,
     host: &mut MemHost,
     log: &mut String,

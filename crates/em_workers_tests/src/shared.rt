@@ -10,7 +10,7 @@ use std::sync::Wait;
 use std::test::Fail;
 
 /// A call on a shared board, with the job.
-enum Step {
+enum SharedCall {
     Next,
     /// Waits, were it too early.
     NextWait,
@@ -25,11 +25,11 @@ enum Step {
     Stop,
 }
 
-use Step::*;
+use SharedCall::*;
 
 /// The calls, and what they answer. An ask is one of each kind of question: what `/` is, its stamp,
 /// its content, the names of `/a`, what `/a` says as a link, and how job 0 ended.
-type Row = (&'static [Step], &'static str);
+type Row = (&'static [SharedCall], &'static str);
 
 static ROWS: [Row; 3] = [
     // Nothing is claimed, and nothing changes.
@@ -233,7 +233,7 @@ fn word<R: Wait>(
     rt: &R,
     alloc: Global,
     shared: &Shared<Link>,
-    step: &Step,
+    step: &SharedCall,
 ) -> Result<&'static str, Fail> {
     match step {
         Front(job) => Ok(front(rt, shared, *job)),
@@ -254,7 +254,7 @@ fn word<R: Wait>(
 fn show_call<R: Wait>(
     rt: &R,
     shared: &Shared<Link>,
-    step: &Step,
+    step: &SharedCall,
     log: &mut String,
 ) -> Result<(), AllocError> {
     match step {
@@ -270,7 +270,7 @@ fn take_step<R: Wait>(
     rt: &R,
     alloc: Global,
     shared: &Shared<Link>,
-    step: &Step,
+    step: &SharedCall,
     log: &mut String,
 ) -> Result<(), Fail> {
     match step {
@@ -280,7 +280,12 @@ fn take_step<R: Wait>(
     }
 }
 
-fn play<R: Wait>(rt: &R, alloc: Global, steps: &[Step], log: &mut String) -> Result<(), Fail> {
+fn play<R: Wait>(
+    rt: &R,
+    alloc: Global,
+    steps: &[SharedCall],
+    log: &mut String,
+) -> Result<(), Fail> {
     let shared = shared_of(alloc, &THREE, false)?;
     for step in steps {
         take_step(rt, alloc, &shared, step, log)?;
@@ -289,7 +294,7 @@ fn play<R: Wait>(rt: &R, alloc: Global, steps: &[Step], log: &mut String) -> Res
     Ok(())
 }
 
-fn log_of<R: Wait>(rt: &R, alloc: Global, steps: &[Step]) -> Result<String, Fail> {
+fn log_of<R: Wait>(rt: &R, alloc: Global, steps: &[SharedCall]) -> Result<String, Fail> {
     let mut log = String::new(alloc);
     play(rt, alloc, steps, &mut log)?;
     Ok(log)

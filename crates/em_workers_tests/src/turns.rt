@@ -6,7 +6,7 @@ use super::shows::show_committed;
 use em_base::NoMemory;
 use em_engine::{Front, Note, Taken};
 use em_run::Run;
-use em_testing::{Link, Linker, Plan, front_of, run_at_root, run_of, show_note};
+use em_testing::{Link, LinkPlan, Linker, front_of, run_at_root, run_of, show_note};
 use em_tree::{Entry, State, Usage};
 use em_workers::{Committed, OpenGate, turn};
 use std::alloc::{AllocError, Global};
@@ -89,7 +89,7 @@ fn stale(alloc: Global) -> Result<Option<Taken<Link>>, Fail>
 }
 
 /// The run of the first job over a root alone, with so many entries of its usage.
-fn agreeing(alloc: Global, plan: Plan<'_>, count: usize) -> Result<Option<Taken<Link>>, Fail>
+fn agreeing(alloc: Global, plan: LinkPlan<'_>, count: usize) -> Result<Option<Taken<Link>>, Fail>
     ensures { IfOk result (λ t. IfSome t IsLent) }
 {
     let run = run_at_root(alloc, plan, 0)?;

@@ -1,7 +1,7 @@
 //! The limits of what is written, each at its last value and one above.
 use super::*;
-use crate::nodes::{add, file};
 use em_base::NoMemory;
+use em_states::{add, file};
 use em_tree::Node;
 
 /// A file of so many bytes.

@@ -49,9 +49,9 @@ fn nested(alloc: Global, levels: usize, head: &[u8]) -> Text {
 }
 
 /// The head of a call, so many calls in one another, and what is given.
-type Level = (&'static [u8], usize, &'static [u8]);
+type NestRow = (&'static [u8], usize, &'static [u8]);
 
-static LEVELS: [Level; 6] = [
+static LEVELS: [NestRow; 6] = [
     (b"$(or ", 200, b"$"),
     (b"$(or ", 201, b"!too deep"),
     (b"$(foreach v,a,", 200, b"$"),
@@ -60,7 +60,7 @@ static LEVELS: [Level; 6] = [
     (b"$(call S,", 201, b"!too deep"),
 ];
 
-fn is_level(alloc: Global, vars: &Vars, state: &State, row: &Level) -> bool {
+fn is_level(alloc: Global, vars: &Vars, state: &State, row: &NestRow) -> bool {
     let text = nested(alloc, row.1, row.0);
     is_given(alloc, vars, state, text.bytes(), row.2)
 }

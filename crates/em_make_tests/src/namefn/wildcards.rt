@@ -107,11 +107,11 @@ fn names_that_match_are_given_in_byte_order(rt: HostRuntime) -> Result<(), Fail>
 }
 
 /// The states of a view, patterns, and what is expected.
-type Script = (&'static [&'static str], &'static str, &'static str);
+type WildcardRow = (&'static [&'static str], &'static str, &'static str);
 
 /// A directory that is listed and then is none, one that is there and then has no names, and one of
 /// which nothing is left.
-static SCRIPTS: [Script; 4] = [
+static SCRIPTS: [WildcardRow; 4] = [
     (
         &["d/d f/d/x", "d/d f/d/x", "d/d f/d/x", "d/d f/d/x", ""],
         "d/* d/*",
@@ -142,7 +142,7 @@ fn over_states(alloc: Global, states: Vec<State>, patterns: &str) -> Result<Text
     called(alloc, &Path::root(), patterns, desk)
 }
 
-fn is_script(alloc: Global, row: &Script) -> Result<bool, Fail> {
+fn is_script(alloc: Global, row: &WildcardRow) -> Result<bool, Fail> {
     let states = states(alloc, row.0)?;
     Ok(over_states(alloc, states, row.1)?.bytes() == row.2.as_bytes())
 }

@@ -2,9 +2,9 @@
 //! messages, which docs/FORMATS.md has.
 
 /// A script whose commands stand in a loop or not, and its transcript.
-type Case = (bool, &'static str, &'static str);
+type ScriptRow = (bool, &'static str, &'static str);
 
-pub(crate) static SCRIPTS: [Case; 85] = [
+pub(crate) static SCRIPTS: [ScriptRow; 85] = [
     (false, "exit 3", "3E;"),
     (false, "false;exit", "1;1E;"),
     (false, "exit 255", "255E;"),

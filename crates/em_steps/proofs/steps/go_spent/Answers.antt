@@ -4,7 +4,7 @@ use Rattle.em_view.proofs.Doing.{refused_s}
 use Rattle.em_script.specs.Strands.{over}
 use Rattle.em_script.proofs.Strands.{over_t}
 use Rattle.em_plan.proofs.Lists.{left_of, nothing_of}
-use Rattle.em_job.specs.declared.stop.Stop.TheVariants as stop
+use Rattle.em_job.specs.declared.stop.JobStop.TheVariants as stop
 use Rattle.em_steps.specs.Laps.{said}
 use Rattle.em_steps.proofs.Pausing.{halts, unpaused, lacking}
 use Rattle.em_steps.proofs.steps.go_spent.Goals as goal

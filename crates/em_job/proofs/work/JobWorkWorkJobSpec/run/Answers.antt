@@ -3,7 +3,7 @@ use Rattle.em_tree.specs.declared.state.State.{State}
 use Rattle.em_run.proofs.Running.{valid, told}
 use Rattle.em_job.specs.declared.prepare.Placed.{Placed}
 use Rattle.em_job.specs.declared.ready.Course.{Course}
-use Rattle.em_job.specs.declared.stop.Stop.{Stop}
+use Rattle.em_job.specs.declared.stop.JobStop.{JobStop}
 use Rattle.em_job.specs.Carrying.{AreRead, courses}
 use Rattle.em_job.specs.Effects.{no_end}
 use Rattle.em_job.proofs.Ended.{Carried, whole, onward, plain_before, closing, ended_plain, same_lines}
@@ -21,7 +21,7 @@ new-requires-2 g c =
     let p = c.prepare_job-prepared.result in
     let begun = rw (c.new.ensures, c.get-job.ensures.job) at c.new-desk.ensures in
     let prepared = rw (c.get-job.ensures.job, c.new-spoken.ensures) at c.prepare_job-prepared.ensures in
-    let carried : Carried g.V.View.tells mid new s t j r (courses reading.ready p) = subst (λ (x : Result Course Stop). Carried g.V.View.tells mid new s t j r x) reading.is (rw c.get-job.ensures.job at c.carry_out-ended.ensures.ok, c.carry_out-ended.ensures.err) in
+    let carried : Carried g.V.View.tells mid new s t j r (courses reading.ready p) = subst (λ (x : Result Course JobStop). Carried g.V.View.tells mid new s t j r x) reading.is (rw c.get-job.ensures.job at c.carry_out-ended.ensures.ok, c.carry_out-ended.ensures.err) in
     let ends = rw (c.bytes.ensures, c.get.ensures, c.get-job.ensures.job) at c.in_ok-output.ensures in
     let on = onward g.V.View.tells mid new s t r j reading.ready p carried in
     let plain = plain_before g.V.View.tells mid new s t r j reading.ready p carried (ended_plain t r (c.in_ok-output.outcome, c.in_ok-output.output) j.plan.target ends) in
@@ -46,5 +46,5 @@ returns-clause-told g c =
     let p = c.prepare_job-prepared.result in
     let begun = rw (c.new.ensures, c.get-job.ensures.job) at c.new-desk.ensures in
     let prepared = rw (c.get-job.ensures.job, c.new-spoken.ensures) at c.prepare_job-prepared.ensures in
-    let carried : Carried g.V.View.tells mid new s t j r (courses reading.ready p) = subst (λ (x : Result Course Stop). Carried g.V.View.tells mid new s t j r x) reading.is (rw c.get-job.ensures.job at c.carry_out-ended.ensures.ok, c.carry_out-ended.ensures.err) in
+    let carried : Carried g.V.View.tells mid new s t j r (courses reading.ready p) = subst (λ (x : Result Course JobStop). Carried g.V.View.tells mid new s t j r x) reading.is (rw c.get-job.ensures.job at c.carry_out-ended.ensures.ok, c.carry_out-ended.ensures.err) in
     rw (c.new-2.ensures, c.close-usage.ensures.usage) (told begun (whole j reading.ready p prepared carried).performs)
