@@ -4,7 +4,7 @@ crates/em_gram/specs/Same.antt.
 
 The steps of the folds stand in Same.antt. Here the fold is written for each type, with what it is
 on a tree in terms of the tree's parts; and for each enum that a value of it is one of its variants.
-Run it in the root of the repository. """
+Run it in the root of the repository."""
 import re
 
 from fold_files import TREE, write_folds

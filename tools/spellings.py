@@ -4,7 +4,7 @@ crates/em_gram/specs/Patterns.antt.
 
 Each tree is spelled by a fold whose steps stand in Patterns.antt. Here the fold is written for each
 type, and the equations that say what it is on a tree that was made of parts. Run it in the root of
-the repository. """
+the repository."""
 from fold_files import TREE, write_folds
 
 MODULE = "Rattle.em_gram."

@@ -166,8 +166,8 @@ impl Versions {
 
     /// The greatest job below the given one whose post named the path, of those that are merged the
     /// one that the path keeps; `None` exactly where there is none. It reads one job at least where
-    /// the path's chain has any, and at most about as many as the logarithm of how many it has; each
-    /// is one of the steps.
+    /// the path's chain has any, and at most about as many as the logarithm of how many it has;
+    /// each is one of the steps.
     pub fn last(&self, job: u32, p: &Path, steps: &mut Steps) -> Option<u32>
         requires { self.now.floor ≤ job }
         ensures last { result ≡ last_over self.now job p.now }

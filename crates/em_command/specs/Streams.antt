@@ -22,8 +22,8 @@ use Rattle.em_command.specs.declared.jump.Jump.TheVariants.{End}
 use Rattle.em_command.specs.declared.streams.Sink.{Sink}
 use Rattle.em_command.specs.declared.streams.Sink.TheVariants.{Output, Errors, Nowhere, File}
 use Rattle.em_command.specs.declared.streams.OpenedFile.{OpenedFile}
-use Rattle.em_command.specs.declared.streams.RedirectInput.{RedirectInput}
-use Rattle.em_command.specs.declared.streams.RedirectInput.TheVariants.{Null, Writes, Holds}
+use Rattle.em_command.specs.declared.streams.RedirectTarget.{RedirectTarget}
+use Rattle.em_command.specs.declared.streams.RedirectTarget.TheVariants.{Null, Writes, Holds}
 use Rattle.em_command.specs.declared.streams.Streams.{Streams}
 use Rattle.em_command.specs.Jumps.{Acts, Change, looked}
 use Rattle.em_command.specs.Heres.{complain}
@@ -42,30 +42,30 @@ input_of s input = or_else s.input input
 -- ---- what stands at the path
 
 -- `>`: an empty file
-unfoldable pub emptied : List ℕ → List ℕ → Action OperandNo RedirectInput
+unfoldable pub emptied : List ℕ → List ℕ → Action OperandNo RedirectTarget
 emptied word p = do
   u ← named word (put p [])
   done (Writes p)
 
 -- `>>`: an empty file where nothing is there
-abbrev pub added_by : List ℕ → List ℕ → Kind → Action OperandNo RedirectInput
+abbrev pub added_by : List ℕ → List ℕ → Kind → Action OperandNo RedirectTarget
 added_by word p kind.Absent = emptied word p
 added_by word p kind.File = done (Writes p)
 added_by word p kind.Link = done (Writes p)
 added_by word p kind.Dir = fail (operand.Fault word (reason.File file.IsDir))
 
-unfoldable pub added : List ℕ → List ℕ → Action OperandNo RedirectInput
+unfoldable pub added : List ℕ → List ℕ → Action OperandNo RedirectTarget
 added word p = do
   k ← named word (kind_at p)
   added_by word p k
 
 -- `<`: what a utility reads of an operand
-unfoldable pub held : List ℕ → List ℕ → Action OperandNo RedirectInput
+unfoldable pub held : List ℕ → List ℕ → Action OperandNo RedirectTarget
 held cwd word = do
   bytes ← read cwd word
   done (Holds bytes)
 
-abbrev pub open_file : List ℕ → RedirectKind → List ℕ → List ℕ → Action OperandNo RedirectInput
+abbrev pub open_file : List ℕ → RedirectKind → List ℕ → List ℕ → Action OperandNo RedirectTarget
 open_file cwd Write word p = emptied word p
 open_file cwd Append word p = added word p
 open_file cwd Read word p = held cwd word
@@ -74,10 +74,10 @@ open_file cwd Duplicate word p = done Null
 abbrev pub is_null : List ℕ → Bool
 is_null p = bytes_eq p (codes "/dev/null")
 
-abbrev pub open_at : List ℕ → RedirectKind → List ℕ → List ℕ → Action OperandNo RedirectInput
+abbrev pub open_at : List ℕ → RedirectKind → List ℕ → List ℕ → Action OperandNo RedirectTarget
 open_at cwd k word p = if is_null p then done Null else open_file cwd k word p
 
-unfoldable pub source_of : List ℕ → RedirectKind → List ℕ → Action OperandNo RedirectInput
+unfoldable pub source_of : List ℕ → RedirectKind → List ℕ → Action OperandNo RedirectTarget
 source_of cwd k word = do
   p ← gives (located cwd word)
   open_at cwd k word p
@@ -85,20 +85,20 @@ source_of cwd k word = do
 -- ---- where a stream goes
 
 -- what is read: a file that is written is empty
-abbrev pub content_of : RedirectInput → List ℕ
+abbrev pub content_of : RedirectTarget → List ℕ
 content_of (Holds bytes) = bytes
 content_of _ = []
 
 -- a file that is read swallows
-abbrev pub sink_for : RedirectInput → List OpenedFile → Sink
+abbrev pub sink_for : RedirectTarget → List OpenedFile → Sink
 sink_for (Writes p) fs = File (length fs)
 sink_for _ fs = Nowhere
 
-abbrev pub files_with : List ℕ → RedirectInput → List OpenedFile → List OpenedFile
+abbrev pub files_with : List ℕ → RedirectTarget → List OpenedFile → List OpenedFile
 files_with word (Writes p) fs = fs ++ record { word = word; path = p } ∷ []
 files_with word _ fs = fs
 
-abbrev pub attached : ℕ → List ℕ → RedirectInput → Streams → Streams
+abbrev pub attached : ℕ → List ℕ → RedirectTarget → Streams → Streams
 attached fd word source s =
     if fd == 0 then record s { input = Some (content_of source) }
     else if fd == 1 then record s { output = sink_for source s.files; files = files_with word source s.files }

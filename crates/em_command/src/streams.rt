@@ -50,7 +50,7 @@ pub struct Streams {
 
 /// What a redirection has found at its path.
 #[derive(Drop)]
-pub(crate) enum RedirectInput {
+pub(crate) enum RedirectTarget {
     /// `/dev/null`
     Null,
     /// A file that is written to.
@@ -106,11 +106,11 @@ fn emptied<V: View>(
     word: &[u8],
     path: Path,
     desk: &mut Desk<V>,
-) -> Result<RedirectInput, OperandNo>
+) -> Result<RedirectTarget, OperandNo>
     ensures { Performs is_free V.tells desk.old desk.new result (emptied word.now path) }
 {
     named(alloc, word, desk.put(&path, b""))?;
-    Ok(RedirectInput::Writes(path))
+    Ok(RedirectTarget::Writes(path))
 }
 
 /// `>>`: an empty file where nothing is there.
@@ -119,13 +119,13 @@ fn added<V: View>(
     word: &[u8],
     path: Path,
     desk: &mut Desk<V>,
-) -> Result<RedirectInput, OperandNo>
+) -> Result<RedirectTarget, OperandNo>
     ensures { Performs is_free V.tells desk.old desk.new result (added word.now path) }
 {
     match named(alloc, word, desk.kind(&path))? {
         Kind::Absent => emptied(alloc, word, path, desk),
-        Kind::File => Ok(RedirectInput::Writes(path)),
-        Kind::Link => Ok(RedirectInput::Writes(path)),
+        Kind::File => Ok(RedirectTarget::Writes(path)),
+        Kind::Link => Ok(RedirectTarget::Writes(path)),
         Kind::Dir => Err(fault(alloc, word, Reason::File(FileNo::IsDir))),
     }
 }
@@ -136,10 +136,10 @@ fn held<V: View>(
     cwd: &Path,
     word: &[u8],
     desk: &mut Desk<V>,
-) -> Result<RedirectInput, OperandNo>
+) -> Result<RedirectTarget, OperandNo>
     ensures { Performs is_free V.tells desk.old desk.new result (held cwd.now word.now) }
 {
-    Ok(RedirectInput::Holds(read(alloc, cwd, word, desk)?))
+    Ok(RedirectTarget::Holds(read(alloc, cwd, word, desk)?))
 }
 
 /// What a redirection finds at a path other than `/dev/null`.
@@ -150,7 +150,7 @@ fn open_file<V: View>(
     word: &[u8],
     path: Path,
     desk: &mut Desk<V>,
-) -> Result<RedirectInput, OperandNo>
+) -> Result<RedirectTarget, OperandNo>
     ensures { Performs is_free V.tells desk.old desk.new result
         (open_file cwd.now kind word.now path) }
 {
@@ -158,7 +158,7 @@ fn open_file<V: View>(
         RedirectKind::Write => emptied(alloc, word, path, desk),
         RedirectKind::Append => added(alloc, word, path, desk),
         RedirectKind::Read => held(alloc, cwd, word, desk),
-        RedirectKind::Duplicate => Ok(RedirectInput::Null),
+        RedirectKind::Duplicate => Ok(RedirectTarget::Null),
     }
 }
 
@@ -169,33 +169,33 @@ fn source_of<V: View>(
     kind: RedirectKind,
     word: &[u8],
     desk: &mut Desk<V>,
-) -> Result<RedirectInput, OperandNo>
+) -> Result<RedirectTarget, OperandNo>
     ensures { Performs is_free V.tells desk.old desk.new result (source_of cwd.now kind word.now) }
 {
     let path = located(alloc, cwd, word)?;
     if is_null(&path) {
-        return Ok(RedirectInput::Null);
+        return Ok(RedirectTarget::Null);
     }
     open_file(alloc, cwd, kind, word, path, desk)
 }
 
 /// What is read of a source: a file that is written is empty.
-fn content_of(alloc: Global, source: RedirectInput) -> Result<Body, NoMemory>
+fn content_of(alloc: Global, source: RedirectTarget) -> Result<Body, NoMemory>
     ensures { IfOk result (λ b. b ≡ content_of source) }
 {
     match source {
-        RedirectInput::Holds(body) => Ok(body),
-        RedirectInput::Null | RedirectInput::Writes(_) => Body::from_slice(alloc, b""),
+        RedirectTarget::Holds(body) => Ok(body),
+        RedirectTarget::Null | RedirectTarget::Writes(_) => Body::from_slice(alloc, b""),
     }
 }
 
 /// Where what is written to a source goes: a file that is read swallows.
-fn sink_for(source: &RedirectInput, files: &Seq<OpenedFile>) -> Sink
+fn sink_for(source: &RedirectTarget, files: &Seq<OpenedFile>) -> Sink
     ensures { result ≡ sink_for source.now files.now }
 {
     match source {
-        RedirectInput::Writes(_) => Sink::File(files.len()),
-        RedirectInput::Null | RedirectInput::Holds(_) => Sink::Nowhere,
+        RedirectTarget::Writes(_) => Sink::File(files.len()),
+        RedirectTarget::Null | RedirectTarget::Holds(_) => Sink::Nowhere,
     }
 }
 
@@ -203,12 +203,12 @@ fn sink_for(source: &RedirectInput, files: &Seq<OpenedFile>) -> Sink
 fn files_with(
     alloc: Global,
     word: &[u8],
-    source: RedirectInput,
+    source: RedirectTarget,
     files: Seq<OpenedFile>,
 ) -> Result<Seq<OpenedFile>, NoMemory>
     ensures { IfOk result (λ fs. fs ≡ streams.files_with word.now source files) }
 {
-    let RedirectInput::Writes(path) = source else {
+    let RedirectTarget::Writes(path) = source else {
         return Ok(files);
     };
     let mut files = files;
@@ -222,7 +222,7 @@ fn attached(
     alloc: Global,
     fd: u8,
     word: &[u8],
-    source: RedirectInput,
+    source: RedirectTarget,
     streams: Streams,
 ) -> Result<Streams, NoMemory>
     ensures { IfOk result (λ s. s ≡ attached fd word.now source streams) }

@@ -7,8 +7,8 @@ use Rattle.std.proofs.lemmas.Option.{slice_get_within, same_Some}
 use Rattle.em_tree.specs.declared.state.State.{State}
 use Rattle.em_engine.specs.declared.event.Event.{Event}
 use Rattle.em_engine.specs.declared.event.Event.TheVariants as event
-use Rattle.em_engine.specs.declared.ready.JobState.{JobState}
-use Rattle.em_engine.specs.declared.ready.JobState.TheVariants as stage
+use Rattle.em_engine.specs.declared.ready.JobStage.{JobStage}
+use Rattle.em_engine.specs.declared.ready.JobStage.TheVariants as stage
 use Rattle.em_engine.specs.Stages.{is_over}
 use Rattle.em_engine.specs.Journal.{Replay, first, after, May, replay, IsLegal}
 use Rattle.em_engine.specs.Laws.{ends, IsRunning, HasEnded, stops_in}
@@ -18,7 +18,7 @@ use Rattle.em_engine.proofs.Lawful.{may_there}
 -- ---- one stage written
 
 -- where job j is claimed afterwards, another stage than claimed was written for another job
-kept_claimed : (j k : ℕ) (stages : List JobState) (s : JobState) → k < length stages → (s ≡ stage.Claimed → ⊥) → slice_get (set stages k s) j ≡ Some stage.Claimed
+kept_claimed : (j k : ℕ) (stages : List JobStage) (s : JobStage) → k < length stages → (s ≡ stage.Claimed → ⊥) → slice_get (set stages k s) j ≡ Some stage.Claimed
     → (slice_get stages j ≡ Some stage.Claimed) × ((k == j) ≡ false)
 kept_claimed j k stages s lt not h = by_test (k == j) refl
   where
@@ -33,27 +33,27 @@ kept_claimed j k stages s lt not h = by_test (k == j) refl
         (sym (slice_get-set_other stages k j s ne) ∙ h, e)
 
 -- where job j is over afterwards, it was before, or its stage was written
-over_or_written : (j k : ℕ) (stages : List JobState) (s : JobState) → IsTrue (is_over (slice_get (set stages k s) j)) → IsTrue (is_over (slice_get stages j)) ⊎ ((k == j) ≡ true)
+over_or_written : (j k : ℕ) (stages : List JobStage) (s : JobStage) → IsTrue (is_over (slice_get (set stages k s) j)) → IsTrue (is_over (slice_get stages j)) ⊎ ((k == j) ≡ true)
 over_or_written j k stages s h = by_test (k == j) refl
   where
     by_test : (b : Bool) → (k == j) ≡ b → IsTrue (is_over (slice_get stages j)) ⊎ ((k == j) ≡ true)
     by_test true e = inr e
     by_test false e =
         let ne : k ≡ j → ⊥ = (λ same. let t : (k == j) ≡ true = eq-eqb k j same in absurd (cc)) in
-        inl (subst (λ (o : Option JobState). IsTrue (is_over o)) (slice_get-set_other stages k j s ne) h)
+        inl (subst (λ (o : Option JobStage). IsTrue (is_over o)) (slice_get-set_other stages k j s ne) h)
 
 -- where job j is over after a claim, it was before
-over_kept : (j k : ℕ) (stages : List JobState) → k < length stages → IsTrue (is_over (slice_get (set stages k stage.Claimed) j)) → IsTrue (is_over (slice_get stages j))
+over_kept : (j k : ℕ) (stages : List JobStage) → k < length stages → IsTrue (is_over (slice_get (set stages k stage.Claimed) j)) → IsTrue (is_over (slice_get stages j))
 over_kept j k stages lt h = by_test (k == j) refl
   where
     by_test : (b : Bool) → (k == j) ≡ b → IsTrue (is_over (slice_get stages j))
     by_test true e =
         let same : k ≡ j = eqb-true k j e in
         let there : slice_get (set stages k stage.Claimed) j ≡ Some stage.Claimed = ap (λ (i : ℕ). slice_get (set stages k stage.Claimed) i) (sym same) ∙ slice_get-set_same stages k stage.Claimed lt in
-        let no : false ≡ true = subst (λ (o : Option JobState). IsTrue (is_over o)) there h in absurd (cc)
+        let no : false ≡ true = subst (λ (o : Option JobStage). IsTrue (is_over o)) there h in absurd (cc)
     by_test false e =
         let ne : k ≡ j → ⊥ = (λ same. let t : (k == j) ≡ true = eq-eqb k j same in absurd (cc)) in
-        subst (λ (o : Option JobState). IsTrue (is_over o)) (slice_get-set_other stages k j stage.Claimed ne) h
+        subst (λ (o : Option JobStage). IsTrue (is_over o)) (slice_get-set_other stages k j stage.Claimed ne) h
 
 -- at first no job is claimed, and none is over
 never_claimed : (n j : ℕ) → slice_get (replicate n stage.Free) j ≡ Some stage.Claimed → ⊥

@@ -10,7 +10,7 @@ use Rattle.em_chain.specs.Posts.{Posts}
 use Rattle.em_chain.specs.Looking.{looked}
 use Rattle.em_engine.specs.declared.event.Event.{Event}
 use Rattle.em_engine.specs.declared.event.Event.TheVariants as event
-use Rattle.em_engine.specs.declared.ready.JobState.TheVariants as stage
+use Rattle.em_engine.specs.declared.ready.JobStage.TheVariants as stage
 use Rattle.em_engine.specs.Stages.{is_free}
 use Rattle.em_engine.specs.Journal.{Replay, first, after, May, replay, IsLegal}
 use Rattle.em_engine.specs.Laws.{claims_of, settled_in, posts_in}

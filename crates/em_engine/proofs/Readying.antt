@@ -9,31 +9,31 @@ use Rattle.std.proofs.lemmas.List.{length-map, get_or-set_same, get_or-set_other
 use Rattle.std.proofs.lemmas.List.Sums.{sum_by-set}
 use Rattle.std.proofs.lemmas.List.Folds.{sum_by-replicate}
 use Rattle.std.proofs.Math.ListN.{length-set, length-replicate}
-use Rattle.em_engine.specs.declared.ready.JobState.{JobState}
-use Rattle.em_engine.specs.declared.ready.JobState.TheVariants as stage
+use Rattle.em_engine.specs.declared.ready.JobStage.{JobStage}
+use Rattle.em_engine.specs.declared.ready.JobStage.TheVariants as stage
 use Rattle.em_engine.specs.Stages.{is_over, is_free}
 use Rattle.em_engine.specs.Waits.{times, pending, flag, IsMarked, Kept, IsReady}
 use Rattle.em_engine.proofs.Places.{slice_get-set_other, slice_get-set_same, get_or_any}
 use Rattle.em_engine.proofs.Counts.{times_left, times_more, pending-cons, at_set, pending_same, pending_less}
 
 -- 1 for a free job
-abbrev free_one : JobState → ℕ
+abbrev free_one : JobStage → ℕ
 free_one s = cond (is_free (Some s)) 1 0
 
-frees : (stages : List JobState) (j : ℕ) (was is : JobState) → slice_get stages j ≡ Some was
+frees : (stages : List JobStage) (j : ℕ) (was is : JobStage) → slice_get stages j ≡ Some was
     → count_by (λ s. is_free (Some s)) (set stages j is) + free_one was ≡ count_by (λ s. is_free (Some s)) stages + free_one is
 frees stages j was is at =
-    ap (λ (s : JobState). count_by (λ s. is_free (Some s)) (set stages j is) + free_one s) (sym (get_or_from_slice_get stages j was was at))
+    ap (λ (s : JobStage). count_by (λ s. is_free (Some s)) (set stages j is) + free_one s) (sym (get_or_from_slice_get stages j was was at))
     ∙ sum_by-set free_one stages j is was (slice_get_within stages j was at)
 
-pub over_not_free : (s : JobState) → is_over (Some s) ≡ true → is_free (Some s) ≡ false
+pub over_not_free : (s : JobStage) → is_over (Some s) ≡ true → is_free (Some s) ≡ false
 over_not_free stage.Free h = absurd (cc)
 over_not_free stage.Claimed h = absurd (cc)
 over_not_free stage.Ended h = refl
 over_not_free stage.Settled h = refl
 
 -- a job's flag is lowered when it is claimed
-lowered : (stages : List JobState) (left : List ℕ) (fs : List Bool) (j : ℕ) → j < length stages → j < length fs → IsMarked stages left fs
+lowered : (stages : List JobStage) (left : List ℕ) (fs : List Bool) (j : ℕ) → j < length stages → j < length fs → IsMarked stages left fs
     → IsMarked (set stages j stage.Claimed) left (set fs j false)
 lowered stages left fs j lt room marked k = by_test (k == j) refl
   where
@@ -41,11 +41,11 @@ lowered stages left fs j lt room marked k = by_test (k == j) refl
     by_test true e =
         let same : k ≡ j = eqb-true k j e in
         ap (flag (set fs j false)) same ∙ get_or-set_same fs j false false room
-        ∙ ap (λ (o : Option JobState). is_free o && (get_or left k 0 == 0)) (sym (ap (slice_get (set stages j stage.Claimed)) same ∙ slice_get-set_same stages j stage.Claimed lt))
+        ∙ ap (λ (o : Option JobStage). is_free o && (get_or left k 0 == 0)) (sym (ap (slice_get (set stages j stage.Claimed)) same ∙ slice_get-set_same stages j stage.Claimed lt))
     by_test false e =
         let ne : k ≢ j = (λ h. let t : (k == j) ≡ true = eq-eqb k j h in absurd (cc)) in
         get_or-set_other fs j k false false ne ∙ marked k
-        ∙ ap (λ (o : Option JobState). is_free o && (get_or left k 0 == 0)) (sym (slice_get-set_other stages j k stage.Claimed (λ h. ne (sym h))))
+        ∙ ap (λ (o : Option JobStage). is_free o && (get_or left k 0 == 0)) (sym (slice_get-set_other stages j k stage.Claimed (λ h. ne (sym h))))
 
 pub some_are_free : (r : Kept) (j : ℕ) → IsReady r → slice_get r.stages j ≡ Some stage.Free → 1 ≤ r.free
 some_are_free r j k at = let f = frees r.stages j stage.Free stage.Claimed at in omega (arith, f, k.free_is)
@@ -84,10 +84,10 @@ settled r j k at =
 
 -- ---- a claimed job ends
 
-pub still_marked : (r : Kept) (j : ℕ) (end : JobState) → IsReady r → slice_get r.stages j ≡ Some stage.Claimed → is_over (Some end) ≡ true → IsMarked (set r.stages j end) r.left r.flagged
+pub still_marked : (r : Kept) (j : ℕ) (end : JobStage) → IsReady r → slice_get r.stages j ≡ Some stage.Claimed → is_over (Some end) ≡ true → IsMarked (set r.stages j end) r.left r.flagged
 still_marked r j end k at over i = k.flagged_is i ∙ ap (λ (b : Bool). b && (get_or r.left i 0 == 0)) (sym (at_set is_free r.stages j stage.Claimed end at (over_not_free end over) i))
 
-pub enough : (r : Kept) (j : ℕ) (end : JobState) → IsReady r → slice_get r.stages j ≡ Some stage.Claimed → is_over (Some end) ≡ true
+pub enough : (r : Kept) (j : ℕ) (end : JobStage) → IsReady r → slice_get r.stages j ≡ Some stage.Claimed → is_over (Some end) ≡ true
     → (i : ℕ) → times i (get_or r.waiters j []) ≤ get_or r.left i 0
 enough r j end k at over i =
     let less = pending_less r.stages j end at over (get_or r.waits i []) in
@@ -106,7 +106,7 @@ waiters_within r j k i d lt =
     let within = waits_there r.waits x j (omega (arith, there, once)) in
     omega (arith, within, k.left_len)
 
-pub finished : (r : Kept) (j : ℕ) (end : JobState) (left' : List ℕ) (flagged' : List Bool) → IsReady r → slice_get r.stages j ≡ Some stage.Claimed → is_over (Some end) ≡ true
+pub finished : (r : Kept) (j : ℕ) (end : JobStage) (left' : List ℕ) (flagged' : List Bool) → IsReady r → slice_get r.stages j ≡ Some stage.Claimed → is_over (Some end) ≡ true
     → ((i : ℕ) → get_or left' i 0 + times i (get_or r.waiters j []) ≡ get_or r.left i 0) → length left' ≡ length r.left → length flagged' ≡ length r.flagged
     → IsMarked (set r.stages j end) left' flagged'
     → IsReady (record r { stages = set r.stages j end; left = left'; flagged = flagged' })
@@ -152,7 +152,7 @@ released init left jobs i d lt within some less j = by_test (get_or jobs i d == 
         omega (arith, less j, none, more, now)
 
 -- a job's flag is put by what is left now
-pub reflagged : (stages : List JobState) (left : List ℕ) (fs : List Bool) (j n : ℕ) (b : Bool) → j < length left → j < length fs → IsMarked stages left fs
+pub reflagged : (stages : List JobStage) (left : List ℕ) (fs : List Bool) (j n : ℕ) (b : Bool) → j < length left → j < length fs → IsMarked stages left fs
     → b ≡ (is_free (slice_get stages j) && (get_or (set left j n) j 0 == 0)) → IsMarked stages (set left j n) (set fs j b)
 reflagged stages left fs j n b lt room marked is k = by_test (k == j) refl
   where
@@ -219,7 +219,7 @@ first_marked n left fs len flags j = elim (cases_lt j n) as (λ _. flag fs j ≡
   | inr ge ↦ flags j ∙ ap (λ (k : ℕ). k == 0) (get_or_past left j 1 (omega (arith, ge, len))) ∙ ap (λ (b : Bool). b && (get_or left j 0 == 0)) (sym (free_past n j ge))
 ]
 
-pub begins : (waits : List (List ℕ)) (stages : List JobState) (left : List ℕ) (waiters : List (List ℕ)) (fs : List Bool) → length waits < 2 ^ 32
+pub begins : (waits : List (List ℕ)) (stages : List JobStage) (left : List ℕ) (waiters : List (List ℕ)) (fs : List Bool) → length waits < 2 ^ 32
     → stages ≡ replicate (length waits) stage.Free → left ≡ map length waits → length waiters ≡ length waits
     → ((j k : ℕ) → times j (get_or waiters k []) ≡ times k (get_or waits j [])) → length waits ≤ length fs
     → ((j : ℕ) → flag fs j ≡ (get_or left j 1 == 0))
@@ -232,9 +232,9 @@ begins waits stages left waiters fs small free is count each room flags =
       left_len = len;
       waiters_len = count;
       room = room;
-      left_is = λ j. ap (λ (ns : List ℕ). get_or ns j 0) is ∙ get_or-map_lengths waits j ∙ sym (ap (λ (ss : List JobState). pending ss (get_or waits j [])) free ∙ not_begun (length waits) (get_or waits j []));
+      left_is = λ j. ap (λ (ns : List ℕ). get_or ns j 0) is ∙ get_or-map_lengths waits j ∙ sym (ap (λ (ss : List JobStage). pending ss (get_or waits j [])) free ∙ not_begun (length waits) (get_or waits j []));
       waiters_are = each;
-      flagged_is = subst (λ (ss : List JobState). IsMarked ss left fs) (sym free) (first_marked (length waits) left fs len flags);
+      flagged_is = subst (λ (ss : List JobStage). IsMarked ss left fs) (sym free) (first_marked (length waits) left fs len flags);
       free_is = sym (ap (count_by (λ s. is_free (Some s))) free ∙ all_free (length waits));
     }
   where

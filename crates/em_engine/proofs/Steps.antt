@@ -29,8 +29,8 @@ use Rattle.em_engine.specs.declared.event.Event.{Event}
 use Rattle.em_engine.specs.declared.event.Event.TheVariants as event
 use Rattle.em_engine.specs.declared.event.Phase.{Phase}
 use Rattle.em_engine.specs.declared.event.Phase.TheVariants as phase
-use Rattle.em_engine.specs.declared.ready.JobState.{JobState}
-use Rattle.em_engine.specs.declared.ready.JobState.TheVariants as stage
+use Rattle.em_engine.specs.declared.ready.JobStage.{JobStage}
+use Rattle.em_engine.specs.declared.ready.JobStage.TheVariants as stage
 use Rattle.em_engine.specs.declared.ready.Claim.{Claim}
 use Rattle.em_engine.specs.declared.ready.Claim.TheVariants as claim
 use Rattle.em_engine.specs.Stages.{CanClaim, is_over, Finds}
@@ -69,24 +69,24 @@ weighs xs j p q at =
     let here = stage_at xs j p at in
     let lt = slice_get_within (map stage_of xs) j (stage_of p) here in
     let was = get_or_from_slice_get (map stage_of xs) j (stage_of p) (stage_of p) here in
-    ap (λ (ys : List JobState). sum_by weight_of ys + weight_of (stage_of p)) (map-set stage_of xs j q)
-    ∙ ap (λ (d : JobState). sum_by weight_of (set (map stage_of xs) j (stage_of q)) + weight_of d) (sym was)
+    ap (λ (ys : List JobStage). sum_by weight_of ys + weight_of (stage_of p)) (map-set stage_of xs j q)
+    ∙ ap (λ (d : JobStage). sum_by weight_of (set (map stage_of xs) j (stage_of q)) + weight_of d) (sym was)
     ∙ sum_by-set weight_of (map stage_of xs) j (stage_of q) (stage_of p) lt
 
 -- what the journal says of a job, the phase says too
-pub found : {S : _} (xs : List (Phase S)) (j : ℕ) (s : JobState) → slice_get (map stage_of xs) j ≡ Some s → (p : Phase S) × (slice_get xs j ≡ Some p) × (stage_of p ≡ s)
+pub found : {S : _} (xs : List (Phase S)) (j : ℕ) (s : JobStage) → slice_get (map stage_of xs) j ≡ Some s → (p : Phase S) × (slice_get xs j ≡ Some p) × (stage_of p ≡ s)
 found [] j s h = absurd (cc)
 found (x ∷ xs) zero s h = (x, refl, same_Some (stage_of x) s h)
 found (x ∷ xs) (suc j) s h = found xs j s h
 
 -- a replay, with its own posts
-pub replayed_now : (r : Replay) (es : List Event) (ss : List JobState) (ps : Posts) (n : ℕ) (b : Bool) → replay r es ≡ record { stages = ss; posts = ps; settled = n; stopped = b }
+pub replayed_now : (r : Replay) (es : List Event) (ss : List JobStage) (ps : Posts) (n : ℕ) (b : Bool) → replay r es ≡ record { stages = ss; posts = ps; settled = n; stopped = b }
     → replay r es ≡ record { stages = ss; posts = (replay r es).posts; settled = n; stopped = b }
 replayed_now r es ss ps n b e = e ∙ ap (λ (qs : Posts). record { stages = ss; posts = qs; settled = n; stopped = b }) (sym (ap (λ (t : Replay). t.posts) e))
 
 -- ---- one event more, for a job whose phase changes with it
 
-pub moves : {S : _} (h : Held S) (e : Event) (j : ℕ) (p q : Phase S) (s : JobState) (posts' : Posts) (v : Floored) (settled' owed' len' : ℕ)
+pub moves : {S : _} (h : Held S) (e : Event) (j : ℕ) (p q : Phase S) (s : JobStage) (posts' : Posts) (v : Floored) (settled' owed' len' : ℕ)
     → IsBoard h
     → IsAt (record { start = h.start; posts = posts' }) settled' v
     → slice_get h.phases j ≡ Some p
@@ -103,7 +103,7 @@ pub moves : {S : _} (h : Held S) (e : Event) (j : ℕ) (p q : Phase S) (s : JobS
 moves h e j p q s posts' v settled' owed' len' b there at may goes is kept quiet below weights one less =
     let r : Replay = first (length h.waits) in
     let P : Replay → Type 0 = λ t. May h.start h.waits t e in
-    let with_stages : List JobState → Replay = λ x. record { stages = x; posts = posts'; settled = settled'; stopped = h.stopped } in
+    let with_stages : List JobStage → Replay = λ x. record { stages = x; posts = posts'; settled = settled'; stopped = h.stopped } in
     let put : set (map stage_of h.phases) j s ≡ map stage_of (set h.phases j q) = ap (set (map stage_of h.phases) j) (sym is) ∙ sym (map-set stage_of h.phases j q) in
     let wq : weight_of (stage_of q) ≡ weight_of s = ap weight_of is in
     let comes = replay-append r h.journal e ∙ ap (λ t. after t e) b.replayed ∙ goes ∙ ap with_stages put in
@@ -111,7 +111,7 @@ moves h e j p q s posts' v settled' owed' len' b there at may goes is kept quiet
       replayed = replayed_now r (h.journal ++ e ∷ []) (map stage_of (set h.phases j q)) posts' settled' h.stopped comes;
       versions = subst (λ (ps : Posts). IsAt (record { start = h.start; posts = ps }) settled' v) (sym (ap (λ (t : Replay). t.posts) comes)) there;
       legal = legal-append h.start h.waits r h.journal e b.legal (subst P (sym b.replayed) may);
-      staged = ap (λ (ss : List JobState). set ss j s) b.staged ∙ put;
+      staged = ap (λ (ss : List JobStage). set ss j s) b.staged ∙ put;
       owed_is = omega (arith, weighs h.phases j p q at, b.owed_is, wq, weights);
       room = omega (arith, b.room, one, less);
       small = b.small;
@@ -135,11 +135,11 @@ within : {S : _} (h : Held S) (j : ℕ) (p : Phase S) → slice_get h.phases j �
 within h j p at = slice_get_within h.phases j p at
 
 pub staged_within : {S : _} (h : Held S) → IsBoard h → (j : ℕ) (p : Phase S) → slice_get h.phases j ≡ Some p → j < length h.stages
-staged_within h b j p at = subst (λ (ss : List JobState). j < length ss) (sym b.staged) (slice_get_within (map stage_of h.phases) j (stage_of p) (stage_at h.phases j p at))
+staged_within h b j p at = subst (λ (ss : List JobStage). j < length ss) (sym b.staged) (slice_get_within (map stage_of h.phases) j (stage_of p) (stage_at h.phases j p at))
 
 -- what the stage of a job is, by its phase
-pub staged_at : {S : _} (h : Held S) → IsBoard h → (j : ℕ) (p : Phase S) (s : JobState) → slice_get h.phases j ≡ Some p → stage_of p ≡ s → slice_get h.stages j ≡ Some s
-staged_at h b j p s at is = ap (λ (ss : List JobState). slice_get ss j) b.staged ∙ stage_at h.phases j p at ∙ ap (λ (x : JobState). Some x) is
+pub staged_at : {S : _} (h : Held S) → IsBoard h → (j : ℕ) (p : Phase S) (s : JobStage) → slice_get h.phases j ≡ Some p → stage_of p ≡ s → slice_get h.stages j ≡ Some s
+staged_at h b j p s at is = ap (λ (ss : List JobStage). slice_get ss j) b.staged ∙ stage_at h.phases j p at ∙ ap (λ (x : JobStage). Some x) is
 
 kept_free : {S : _} (p : Phase S) → stage_of p ≡ stage.Free → is_kept (Some p) ≡ true
 kept_free phase.Free _ = refl
@@ -211,11 +211,11 @@ fronts_stage : {S : _} (xs : List (Phase S)) (j : ℕ) (f : Fronts xs j) → (sl
 fronts_stage xs j f = by_stage f.stage
   where
     by_stage : (stage_of f.phase ≡ stage.Claimed) ⊎ (stage_of f.phase ≡ stage.Ended) → (slice_get (map stage_of xs) j ≡ Some stage.Claimed) ⊎ (slice_get (map stage_of xs) j ≡ Some stage.Ended)
-    by_stage (inl e) = inl (stage_at xs j f.phase f.at ∙ ap (λ (x : JobState). Some x) e)
-    by_stage (inr e) = inr (stage_at xs j f.phase f.at ∙ ap (λ (x : JobState). Some x) e)
+    by_stage (inl e) = inl (stage_at xs j f.phase f.at ∙ ap (λ (x : JobStage). Some x) e)
+    by_stage (inr e) = inr (stage_at xs j f.phase f.at ∙ ap (λ (x : JobStage). Some x) e)
 
 pub fronts_staged : {S : _} (h : Held S) → IsBoard h → (j : ℕ) → Fronts h.phases j → (slice_get h.stages j ≡ Some stage.Claimed) ⊎ (slice_get h.stages j ≡ Some stage.Ended)
-fronts_staged h b j f = subst (λ (ss : List JobState). (slice_get ss j ≡ Some stage.Claimed) ⊎ (slice_get ss j ≡ Some stage.Ended)) (sym b.staged) (fronts_stage h.phases j f)
+fronts_staged h b j f = subst (λ (ss : List JobStage). (slice_get ss j ≡ Some stage.Claimed) ⊎ (slice_get ss j ≡ Some stage.Ended)) (sym b.staged) (fronts_stage h.phases j f)
 
 one_more : {S : _} (xs : List (Phase S)) (n : ℕ) → n < length xs → ((k : ℕ) → k < n → slice_get xs k ≡ Some phase.Settled) → (k : ℕ) → k < n + 1 → slice_get (set xs n phase.Settled) k ≡ Some phase.Settled
 one_more xs n lt below k less = by_test (k == n) refl
@@ -362,14 +362,14 @@ no_usage zero k = refl
 no_usage (suc n) zero = refl
 no_usage (suc n) (suc k) = no_usage n k
 
-pub starts : {S : _} (start : State) (versions : Floored) (waits : List (List ℕ)) (stages : List JobState) (phases : List (Phase S)) (asked : List (List Entry)) (n cap : ℕ)
+pub starts : {S : _} (start : State) (versions : Floored) (waits : List (List ℕ)) (stages : List JobStage) (phases : List (Phase S)) (asked : List (List Entry)) (n cap : ℕ)
     → versions ≡ record { start = start; floor = 0; merged = empty; posts = empty } → stages ≡ replicate (length waits) stage.Free → phases ≡ replicate n phase.Free → asked ≡ replicate n [] → n ≡ length waits → n < 2 ^ 32 → ((j : ℕ) → All (λ k. k < j) (slice_index_or waits j [])) → 3 * n + 1 ≤ cap
     → IsBoard (record { start = start; versions = versions; waits = waits; stages = stages; phases = phases; asked = asked; settled = 0; stopped = false; owed = 3 * n + 1; journal = []; len = 0; cap = cap })
 starts start versions waits ss phases asked n cap none free is empty_lists len small lower room =
     let all_free : map stage_of phases ≡ replicate n stage.Free = ap (map stage_of) is ∙ map-replicate stage_of n phase.Free in
-    let at : List JobState → Posts → Replay = λ x y. record { stages = x; posts = y; settled = 0; stopped = false } in
+    let at : List JobStage → Posts → Replay = λ x y. record { stages = x; posts = y; settled = 0; stopped = false } in
     record {
-      replayed = ap first (sym len) ∙ ap (λ (x : List JobState). at x empty) (sym all_free);
+      replayed = ap first (sym len) ∙ ap (λ (x : List JobStage). at x empty) (sym all_free);
       versions = subst (λ (v : Floored). IsAt (record { start = start; posts = empty }) 0 v) (sym none) (at_first start);
       legal = tt;
       staged = free ∙ ap (λ (k : ℕ). replicate k stage.Free) (sym len) ∙ sym all_free;
@@ -405,7 +405,7 @@ pub takes : {S : _} (h : Held S) (j : ℕ) (p : Phase S)
 takes h j p b is ends =
     let was : get_or h.phases j p ≡ p = get_or_from_slice_get h.phases j p p is in
     let same : map stage_of (set h.phases j phase.Taken) ≡ map stage_of h.phases = map-set_same stage_of h.phases j phase.Taken p (sym ends ∙ ap stage_of (sym was)) in
-    let at : List JobState → Replay = λ x. record { stages = x; posts = posted h; settled = h.settled; stopped = h.stopped } in
+    let at : List JobStage → Replay = λ x. record { stages = x; posts = posted h; settled = h.settled; stopped = h.stopped } in
     record {
       replayed = b.replayed ∙ ap at (sym same);
       versions = b.versions;

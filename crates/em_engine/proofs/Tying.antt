@@ -15,7 +15,7 @@ use Rattle.em_engine.specs.declared.event.Event.{Event}
 use Rattle.em_engine.specs.declared.event.Event.TheVariants as event
 use Rattle.em_engine.specs.declared.event.Phase.{Phase}
 use Rattle.em_engine.specs.declared.event.Phase.TheVariants as phase
-use Rattle.em_engine.specs.declared.ready.JobState.TheVariants as stage
+use Rattle.em_engine.specs.declared.ready.JobStage.TheVariants as stage
 use Rattle.em_engine.specs.Journal.{Replay, first, after, replay}
 use Rattle.em_engine.specs.Boards.{IsTied, AreTied, stage_of}
 use Rattle.em_engine.proofs.Places.{slice_get-set_other, slice_get-set_same}

@@ -15,11 +15,11 @@ use Rattle.em_run.specs.declared.run.Parts.{Parts}
 use Rattle.em_engine.specs.declared.event.Event.{Event}
 use Rattle.em_engine.specs.declared.event.Phase.{Phase}
 use Rattle.em_engine.specs.declared.event.Phase.TheVariants as phase
-use Rattle.em_engine.specs.declared.ready.JobState.{JobState}
-use Rattle.em_engine.specs.declared.ready.JobState.TheVariants as stage
+use Rattle.em_engine.specs.declared.ready.JobStage.{JobStage}
+use Rattle.em_engine.specs.declared.ready.JobStage.TheVariants as stage
 use Rattle.em_engine.specs.Journal.{Replay, first, replay, IsLegal, owed_of, asked_of}
 
-abbrev pub stage_of : {S : _} → Phase S → JobState
+abbrev pub stage_of : {S : _} → Phase S → JobStage
 stage_of phase.Free = stage.Free
 stage_of phase.Claimed = stage.Claimed
 stage_of phase.Fronted = stage.Claimed
@@ -48,7 +48,7 @@ pub record Seen (S : Type 0) : Type 0 where
 abbrev pub told : {S : _} → Seen S → Replay
 told b = replay (first (length b.waits)) b.journal
 
-abbrev pub stages : {S : _} → Seen S → List JobState
+abbrev pub stages : {S : _} → Seen S → List JobStage
 stages b = map stage_of b.phases
 
 pub record IsTied {S : Type 0} (job_of : S → ℕ) (ps : Posts) (j : ℕ) (r : Parts S) : Type 0 where
@@ -62,7 +62,7 @@ pub record Held (S : Type 0) : Type 0 where
   pub start : State
   pub versions : Floored
   pub waits : List (List ℕ)
-  pub stages : List JobState
+  pub stages : List JobStage
   pub phases : List (Phase S)
   pub asked : List (List Entry)
   pub settled : ℕ

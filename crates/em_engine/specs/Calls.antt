@@ -13,7 +13,7 @@ use Rattle.em_engine.specs.declared.ready.Claim.TheVariants as found
 use Rattle.em_engine.specs.declared.event.Taken.{Taken}
 use Rattle.em_engine.specs.declared.event.Taken.TheVariants as taken
 use Rattle.em_engine.specs.Stages.{IsLeast, IsHeld}
-use Rattle.em_engine.specs.declared.ready.JobState.TheVariants as stage
+use Rattle.em_engine.specs.declared.ready.JobStage.TheVariants as stage
 use Rattle.em_engine.specs.Journal.{asked_of}
 use Rattle.em_engine.specs.Boards.{Seen, told, stages}
 

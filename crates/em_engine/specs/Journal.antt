@@ -15,12 +15,12 @@ use Rattle.em_chain.specs.Posts.{Posts}
 use Rattle.em_chain.specs.Looking.{looked}
 use Rattle.em_engine.specs.declared.event.Event.{Event}
 use Rattle.em_engine.specs.declared.event.Event.TheVariants as event
-use Rattle.em_engine.specs.declared.ready.JobState.{JobState}
-use Rattle.em_engine.specs.declared.ready.JobState.TheVariants as stage
+use Rattle.em_engine.specs.declared.ready.JobStage.{JobStage}
+use Rattle.em_engine.specs.declared.ready.JobStage.TheVariants as stage
 use Rattle.em_engine.specs.Stages.{CanClaim}
 
 pub record Replay : Type 0 where
-  pub stages : List JobState
+  pub stages : List JobStage
   pub posts : Posts
   pub settled : ℕ
   pub stopped : Bool
@@ -71,7 +71,7 @@ asked_of j [] = []
 asked_of j (e ∷ es) = asked_in j e ++ asked_of j es
 
 -- a claim, an end, a settlement
-abbrev pub weight_of : JobState → ℕ
+abbrev pub weight_of : JobStage → ℕ
 weight_of stage.Free = 3
 weight_of stage.Claimed = 2
 weight_of stage.Ended = 1

@@ -5,28 +5,28 @@
 use Rattle.std.specs.Prelude.{◌≡◌, ◌≢◌, ◌<◌, ℕ, List, [], Option, Some, None, Bool, true, false, IsTrue, All, slice_get, slice_index_or}
 use Rattle.em_engine.specs.declared.ready.Claim.{Claim}
 use Rattle.em_engine.specs.declared.ready.Claim.TheVariants as found
-use Rattle.em_engine.specs.declared.ready.JobState.{JobState}
-use Rattle.em_engine.specs.declared.ready.JobState.TheVariants as stage
+use Rattle.em_engine.specs.declared.ready.JobStage.{JobStage}
+use Rattle.em_engine.specs.declared.ready.JobStage.TheVariants as stage
 
 pub record Waiting : Type 0 where
   pub waits : List (List ℕ)
-  pub stages : List JobState
+  pub stages : List JobStage
 
-abbrev pub is_over : Option JobState → Bool
+abbrev pub is_over : Option JobStage → Bool
 is_over None = false
 is_over (Some stage.Free) = false
 is_over (Some stage.Claimed) = false
 is_over (Some stage.Ended) = true
 is_over (Some stage.Settled) = true
 
-abbrev pub is_free : Option JobState → Bool
+abbrev pub is_free : Option JobStage → Bool
 is_free None = false
 is_free (Some stage.Free) = true
 is_free (Some stage.Claimed) = false
 is_free (Some stage.Ended) = false
 is_free (Some stage.Settled) = false
 
-abbrev pub CanClaim : List (List ℕ) → List JobState → ℕ → Type 0
+abbrev pub CanClaim : List (List ℕ) → List JobStage → ℕ → Type 0
 CanClaim waits stages j = (slice_get stages j ≡ Some stage.Free) × All (λ k. IsTrue (is_over (slice_get stages k))) (slice_index_or waits j [])
 
 -- the least of the jobs that can be claimed

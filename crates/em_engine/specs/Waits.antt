@@ -6,24 +6,24 @@
 --     Kept, IsReady         the fields, and what holds of them
 use Rattle.std.specs.Prelude.{◌≡◌, ◌<◌, ◌≤◌, ◌^◌, ◌==◌, ◌&&◌, ℕ, List, [], Bool, false, not, Some, length, slice_get, slice_index_or}
 use Rattle.std.specs.List.{count_by}
-use Rattle.em_engine.specs.declared.ready.JobState.{JobState}
+use Rattle.em_engine.specs.declared.ready.JobStage.{JobStage}
 use Rattle.em_engine.specs.Stages.{is_over, is_free}
 
 abbrev pub times : ℕ → List ℕ → ℕ
 times k ks = count_by (λ i. i == k) ks
 
-abbrev pub pending : List JobState → List ℕ → ℕ
+abbrev pub pending : List JobStage → List ℕ → ℕ
 pending stages ks = count_by (λ k. not (is_over (slice_get stages k))) ks
 
 abbrev pub flag : List Bool → ℕ → Bool
 flag fs j = slice_index_or fs j false
 
-abbrev pub IsMarked : List JobState → List ℕ → List Bool → Type 0
+abbrev pub IsMarked : List JobStage → List ℕ → List Bool → Type 0
 IsMarked stages left flagged = (j : ℕ) → flag flagged j ≡ (is_free (slice_get stages j) && (slice_index_or left j 0 == 0))
 
 pub record Kept : Type 0 where
   pub waits : List (List ℕ)
-  pub stages : List JobState
+  pub stages : List JobStage
   pub left : List ℕ
   pub waiters : List (List ℕ)
   pub flagged : List Bool

@@ -2,14 +2,14 @@
 ghost use Rattle.std.specs.Prelude.{◌≡◌, ◌↔◌, ◌<◌, ◌^◌, ℕ, [], Some, All, IsTrue, IfOk, IfErr, OnOk, OnErr, MatchBool, length, map, replicate, slice_get, slice_index_or, true};
 ghost use Rattle.em_engine.specs.declared.event.Event.TheVariants as event;
 ghost use Rattle.em_engine.specs.declared.event.Phase.TheVariants as phase;
-ghost use Rattle.em_engine.specs.declared.ready.JobState.TheVariants as stage;
+ghost use Rattle.em_engine.specs.declared.ready.JobStage.TheVariants as stage;
 ghost use Rattle.em_engine.specs.Stages.{CanClaim};
 ghost use Rattle.em_engine.specs.Journal.{IsLegal, first, weight_of, asked_of};
 ghost use Rattle.em_engine.specs.Boards.{Seen, AreTied, stage_of, told, stages, is_kept};
 ghost use Rattle.em_engine.specs.Calls.{entry, noted, moved, put, answer_now, can_take, can_settle, left_by, Claims, Takes};
 
 use crate::event::{Event, Phase, Taken};
-use crate::ready::{Claim, ReadyQueue};
+use crate::ready::{Claim, WaitingJobs};
 use em_base::{NoMemory, Seq};
 use em_chain::{Post, Versions};
 use em_run::{Run, Spec};
@@ -19,15 +19,15 @@ use std::marker::Model;
 use std::mem;
 
 /// Jobs, what was posted of them, and the journal of all that happened. Its type keeps that the
-/// journal is legal, that what is posted and the phases are its replay, but for what was taken, that
-/// each run that was posted is one of its job and what it makes is posted, and that there is room
-/// for the events of all later calls but asks. So claims, `give_up`, `take` and `stop` take no
+/// journal is legal, that what is posted and the phases are its replay, but for what was taken,
+/// that each run that was posted is one of its job and what it makes is posted, and that there is
+/// room for the events of all later calls but asks. So claims, `give_up`, `take` and `stop` take no
 /// memory. What the settled jobs have posted is merged: no claimed job is one of them.
 #[derive(Drop)]
 pub struct Board<S: Spec> {
     alloc: Global,
     versions: Versions,
-    ready: ReadyQueue,
+    ready: WaitingJobs,
     phases: Vec<Phase<S>>,
     asked: Vec<Usage>,
     settled: u32,
@@ -93,7 +93,7 @@ impl<S: Spec> Board<S> {
         let phases = free_phases(alloc, count)?;
         let asked = no_entries(alloc, count)?;
         let versions = Versions::new(alloc, start)?;
-        let ready = ReadyQueue::new(alloc, waits)?;
+        let ready = WaitingJobs::new(alloc, waits)?;
         Ok(Board {
             alloc,
             versions,

@@ -1,4 +1,4 @@
-//! FlagTree, the first raised one of which is found at once.
+//! Flags, the first raised one of which is found at once.
 ghost use Rattle.std.specs.Prelude.{◌≡◌, ◌≢◌, ℕ, ◌<◌, ◌≤◌, ◌^◌, Some, IfOk, MatchOption, true, length, slice_get, slice_set};
 ghost use Rattle.em_engine.specs.Flags.{IsFirst};
 
@@ -6,7 +6,7 @@ use em_base::NoMemory;
 use std::alloc::Global;
 use std::marker::Model;
 
-/// FlagTree in a row, seen as a list. The first raised one is found, and a flag is put, in steps for
+/// Flags in a row, seen as a list. The first raised one is found, and a flag is put, in steps for
 /// the logarithm of how many there are, and both take no memory.
 ///
 /// `any` is a full binary tree in a row: node `k` tells whether a flag below it is raised, its

@@ -16,4 +16,4 @@ pub use event::{Event, Phase, Taken};
 pub use front::Front;
 pub use laws::{law_answered, law_claimed_once, law_settled_in_order};
 pub use note::{Cause, Note, Verdict};
-pub use ready::{Claim, JobState};
+pub use ready::{Claim, JobStage};

@@ -1,6 +1,6 @@
 //! Which jobs may be claimed.
 ghost use Rattle.std.specs.Prelude.{◌≡◌, ◌↔◌, ◌==◌, ◌+◌, ℕ, ◌<◌, ◌≤◌, ◌^◌, ◌⊎◌, [], true, false, not, IsTrue, IfOk, OnOk, All, length, map, replicate, slice_get, slice_set, slice_index_or, Some, if◌then◌else◌};
-ghost use Rattle.em_engine.specs.declared.ready.JobState.TheVariants as stage;
+ghost use Rattle.em_engine.specs.declared.ready.JobStage.TheVariants as stage;
 ghost use Rattle.em_engine.specs.Stages.{is_over, is_free, Finds};
 ghost use Rattle.em_engine.specs.Waits.{times, flag, IsMarked};
 
@@ -11,7 +11,7 @@ use std::marker::Model;
 
 /// What the journal says of a job.
 #[derive(Clone, Copy, Debug, PartialEq, Eq)]
-pub enum JobState {
+pub enum JobStage {
     Free,
     Claimed,
     Ended,
@@ -33,9 +33,9 @@ pub enum Claim {
 /// of those that wait for it, and the jobs that can be claimed are flagged, so that the least of
 /// them is found without a look at the others. All but `new` take no memory.
 #[derive(Drop)]
-pub struct ReadyQueue {
+pub struct WaitingJobs {
     waits: Seq<Seq<u32>>,
-    stages: Vec<JobState>,
+    stages: Vec<JobStage>,
     /// For each job how many of its waits haven't ended.
     left: Vec<usize>,
     /// For each job those that wait for it, each as often as it does.
@@ -46,7 +46,7 @@ pub struct ReadyQueue {
     free: usize,
 }
 
-impl Model for ReadyQueue {
+impl Model for WaitingJobs {
     ghost use Rattle.em_engine.specs.Stages.{Waiting};
     ghost use Rattle.em_engine.specs.Waits.{IsReady};
 
@@ -64,21 +64,21 @@ impl Model for ReadyQueue {
     }) };
 }
 
-impl ReadyQueue {
+impl WaitingJobs {
     /// All jobs are free. Steps for each job and each of its waits.
-    pub fn new(alloc: Global, waits: Seq<Seq<u32>>) -> Result<ReadyQueue, NoMemory>
+    pub fn new(alloc: Global, waits: Seq<Seq<u32>>) -> Result<WaitingJobs, NoMemory>
         requires small { length waits < 2 ^ 32 }
         requires lower { (j : ℕ) → All (λ k. k < j) (slice_index_or waits j []) }
         ensures { IfOk result (λ r. r
             ≡ record { waits = waits; stages = replicate (length waits) stage.Free }) }
     {
-        let stages = vec![in alloc; JobState::Free; waits.len()]?;
+        let stages = vec![in alloc; JobStage::Free; waits.len()]?;
         let left = counts_of(alloc, waits.items())?;
         let waiters = waiters_of(alloc, waits.items())?;
         let mut flagged = FlagTree::new(alloc, waits.len())?;
         raise_all(&mut flagged, left.as_slice());
         let free = waits.len();
-        Ok(ReadyQueue {
+        Ok(WaitingJobs {
             waits,
             stages,
             left,
@@ -111,7 +111,7 @@ impl ReadyQueue {
         ensures { self.new
             ≡ record self.old { stages = slice_set self.old.stages job stage.Claimed } }
     {
-        self.stages[job as usize] = JobState::Claimed;
+        self.stages[job as usize] = JobStage::Claimed;
         self.flagged.put(job as usize, false);
         self.free -= 1;
     }
@@ -122,7 +122,7 @@ impl ReadyQueue {
         ensures { self.new
             ≡ record self.old { stages = slice_set self.old.stages job stage.Ended } }
     {
-        self.finish(job, JobState::Ended);
+        self.finish(job, JobStage::Ended);
     }
 
     /// A job that is claimed or has ended is settled; where it is claimed it ends so, in steps for
@@ -134,7 +134,7 @@ impl ReadyQueue {
             ≡ record self.old { stages = slice_set self.old.stages job stage.Settled } }
     {
         if self.is_claimed(job) {
-            self.finish(job, JobState::Settled);
+            self.finish(job, JobStage::Settled);
         } else {
             self.close(job);
         }
@@ -144,7 +144,7 @@ impl ReadyQueue {
         ensures { IsTrue result ↔ (slice_get self.now.stages job ≡ Some stage.Claimed) }
     {
         match self.stages.get(job as usize) {
-            Some(JobState::Claimed) => true,
+            Some(JobStage::Claimed) => true,
             _ => false,
         }
     }
@@ -155,11 +155,11 @@ impl ReadyQueue {
         ensures { self.new
             ≡ record self.old { stages = slice_set self.old.stages job stage.Settled } }
     {
-        self.stages[job as usize] = JobState::Settled;
+        self.stages[job as usize] = JobStage::Settled;
     }
 
     /// A claimed job comes to its end: it is taken off the waits of the jobs that wait for it.
-    fn finish(&mut self, job: u32, end: JobState)
+    fn finish(&mut self, job: u32, end: JobStage)
         requires running { slice_get self.old.stages job ≡ Some stage.Claimed }
         requires over { is_over (Some end) ≡ true }
         ensures { self.new ≡ record self.old { stages = slice_set self.old.stages job end } }
@@ -235,7 +235,7 @@ fn raise_all(flagged: &mut FlagTree, left: &[usize])
 }
 
 /// One job less is waited for by each of these; those that may be claimed now are flagged.
-fn release(jobs: &[u32], stages: &[JobState], left: &mut [usize], flagged: &mut FlagTree)
+fn release(jobs: &[u32], stages: &[JobStage], left: &mut [usize], flagged: &mut FlagTree)
     requires within { All (λ j. j < length left.old) jobs.now }
     requires room { length left.old ≤ length flagged.old }
     requires enough { (j : ℕ) → times j jobs.now ≤ slice_index_or left.old j 0 }
@@ -255,11 +255,11 @@ fn release(jobs: &[u32], stages: &[JobState], left: &mut [usize], flagged: &mut 
 }
 
 /// Whether the job is free.
-fn is_free(stages: &[JobState], job: usize) -> bool
+fn is_free(stages: &[JobStage], job: usize) -> bool
     ensures { result ≡ is_free (slice_get stages.now job) }
 {
     match stages.get(job) {
-        Some(JobState::Free) => true,
+        Some(JobStage::Free) => true,
         _ => false,
     }
 }

@@ -13,7 +13,7 @@ mod walk;
 type StampRow = (&'static str, u64);
 
 /// A call, with the job.
-enum JobCall {
+enum PostCall {
     /// Posts the changes of a job that made something.
     Post(u32, &'static [StampRow]),
     /// The same of a job that was up to date.
@@ -30,10 +30,10 @@ enum JobCall {
     Walk,
 }
 
-use JobCall::*;
+use PostCall::*;
 
 /// The calls over a root with stamp 1, and what they say.
-type Row = (&'static [JobCall], &'static str);
+type Row = (&'static [PostCall], &'static str);
 
 static ROWS: [Row; 6] = [
     // A post is seen above its job until it is withdrawn.
@@ -318,8 +318,8 @@ fn count(v: &Versions, log: &mut String) -> Result<(), AllocError> {
 fn take_step(
     alloc: Global,
     v: &mut Versions,
-    done: &[JobCall],
-    step: &JobCall,
+    done: &[PostCall],
+    step: &PostCall,
     log: &mut String,
 ) -> Result<(), NoMemory> {
     match step {
@@ -337,7 +337,7 @@ fn take_step(
 fn take_all(
     alloc: Global,
     v: &mut Versions,
-    steps: &[JobCall],
+    steps: &[PostCall],
     log: &mut String,
 ) -> Result<(), NoMemory> {
     for i in 0..steps.len() {
@@ -346,12 +346,12 @@ fn take_all(
     Ok(())
 }
 
-fn play(alloc: Global, steps: &[JobCall], log: &mut String) -> Result<(), NoMemory> {
+fn play(alloc: Global, steps: &[PostCall], log: &mut String) -> Result<(), NoMemory> {
     let mut v = start(alloc)?;
     take_all(alloc, &mut v, steps, log)
 }
 
-fn log_of(alloc: Global, steps: &[JobCall]) -> Result<String, NoMemory> {
+fn log_of(alloc: Global, steps: &[PostCall]) -> Result<String, NoMemory> {
     let mut log = String::new(alloc);
     play(alloc, steps, &mut log)?;
     Ok(log)

@@ -154,9 +154,9 @@ pub struct Fault {
 }
 
 impl Fault {
-    /// `NAME: REASON`, as a program says it, in one line: NAME is the file's, a control character by
-    /// its escape, or `standard output`, and REASON is the system's where the system gave it. Linear
-    /// in its length.
+    /// `NAME: REASON`, as a program says it, in one line: NAME is the file's, a control character
+    /// by its escape, or `standard output`, and REASON is the system's where the system gave it.
+    /// Linear in its length.
     pub fn words(&self, alloc: Global) -> Result<String, NoMemory> {
         let reason = self.reason.words(alloc)?;
         let name = match &self.name {

@@ -30,8 +30,8 @@ pub enum Which {
 /// place 0.
 #[derive(Clone, Copy, Debug, PartialEq, Eq, Error)]
 pub enum ImageNo {
-    /// A fixed byte isn't there, a byte can't stand in the text of a link, or the end comes where the
-    /// first line says that there is a link and none came. The place is that byte.
+    /// A fixed byte isn't there, a byte can't stand in the text of a link, or the end comes where
+    /// the first line says that there is a link and none came. The place is that byte.
     #[error("Form at byte {at}")]
     Form { at: u32 },
     /// A number has no digit or a leading zero. The place is that of its first digit.

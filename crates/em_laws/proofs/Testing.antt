@@ -30,8 +30,8 @@ use Rattle.em_lineutil.specs.declared.test.Relation.{Relation}
 use Rattle.em_lineutil.specs.declared.test.Relation.TheVariants as relation
 use Rattle.em_lineutil.specs.Formats.{number_of}
 use Rattle.em_lineutil.specs.Tests.{binary_of, is_negated, stripped, form_of, by_order}
-use Rattle.em_textutil.specs.declared.expression.TestResult.{TestResult}
-use Rattle.em_textutil.specs.declared.expression.TestResult.TheVariants.{Is, Strange, Syntax}
+use Rattle.em_textutil.specs.declared.expression.ExpressionResult.{ExpressionResult}
+use Rattle.em_textutil.specs.declared.expression.ExpressionResult.TheVariants.{Is, Strange, Syntax}
 use Rattle.em_textutil.specs.Expressions.{path_by, path_of, kind_by, stamp_by, content_by, link_by, is_of, is_filled, has_bytes, is_above, is_newest, says_kind, says_bytes, says_link, says_stamps, numbers_say, says, truth, answer, test_words}
 use Rattle.em_textutil.specs.Utilities.{lacks_end, bracketed}
 use Rattle.em_laws.specs.Tested.{yes, no, Leaves, Compare, Finds, opposite, opposite_by, IsNoComparison}
@@ -50,7 +50,7 @@ says_so : (ws : List (List ℕ)) (b : Bool) → stripped false ws ≡ (false, ws
 unfolding test_words done ◌>>=◌
 says_so ws b plain h cwd o w =
     ap (λ (q : Bool × List (List ℕ)). go_on (says cwd (form_of q.1) q.1 o w).0 (says cwd (form_of q.1) q.1 o w).1 (λ v. done (answer q.0 v)) o) plain
-    ∙ ap (λ (m : Action ExecNo TestResult). go_on (m o w).0 (m o w).1 (λ v. done (answer false v)) o) (h cwd)
+    ∙ ap (λ (m : Action ExecNo ExpressionResult). go_on (m o w).0 (m o w).1 (λ v. done (answer false v)) o) (h cwd)
 
 filled : (b : ℕ) (bs : List ℕ) → is_filled (b ∷ bs) ≡ true
 filled b bs = lt-ltb 0 (suc (length bs)) (omega arith)
@@ -169,7 +169,7 @@ module _ (s : State) (d : Changes) where
     gives_says_stamps : NoLinks s d → (first : Bool) (a b : List ℕ) → read_fault cwd a ≡ None → read_fault cwd b ≡ None → GivesE (says_stamps cwd first a b) (λ v. v ≡ Is (is_newest first (stamp_of (there a)) (stamp_of (there b))))
     unfolding says_stamps
     gives_says_stamps none first a b e f =
-        let Q = λ (v : TestResult). v ≡ Is (is_newest first (stamp_of (there a)) (stamp_of (there b))) in
+        let Q = λ (v : ExpressionResult). v ≡ Is (is_newest first (stamp_of (there a)) (stamp_of (there b))) in
         e_then (stamp_by (path_of cwd a)) (λ t. t ≡ stamp_of (there a)) (λ t. stamp_by (path_of cwd b) >>= (λ u. done (Is (is_newest first t u)))) Q (gives_stamp_by none a e) (λ t is.
         e_then (stamp_by (path_of cwd b)) (λ u. u ≡ stamp_of (there b)) (λ u. done (Is (is_newest first t u))) Q (gives_stamp_by none b f) (λ u was.
         e_done Q (Is (is_newest first t u)) (ap (λ (z : Option ℕ). Is (is_newest first z u)) is ∙ ap (λ (z : Option ℕ). Is (is_newest first (stamp_of (there a)) z)) was)))
@@ -300,7 +300,7 @@ test_link s w cwd name fine clear =
 
 -- ---- negation
 
-turned : (n : Bool) (v : TestResult) → answer (not n) v ≡ opposite (answer n v)
+turned : (n : Bool) (v : ExpressionResult) → answer (not n) v ≡ opposite (answer n v)
 turned true (Is true) = refl
 turned true (Is false) = refl
 turned false (Is true) = refl
@@ -308,7 +308,7 @@ turned false (Is false) = refl
 turned n (Strange word) = refl
 turned n Syntax = refl
 
-turned_run : (n : Bool) (r : Result TestResult ExecNo) (w : Workspace) (o : Oracle) → go_on r w (λ v. done (answer (not n) v)) o ≡ (opposite_by (go_on r w (λ v. done (answer n v)) o).0, (go_on r w (λ v. done (answer n v)) o).1)
+turned_run : (n : Bool) (r : Result ExpressionResult ExecNo) (w : Workspace) (o : Oracle) → go_on r w (λ v. done (answer (not n) v)) o ≡ (opposite_by (go_on r w (λ v. done (answer n v)) o).0, (go_on r w (λ v. done (answer n v)) o).1)
 unfolding done
 turned_run n (Ok v) w o = ap (λ (d : Done). (let z : Result Done ExecNo × Workspace = (Ok d, w) in z)) (turned n v)
 turned_run n (Err e) w o = refl

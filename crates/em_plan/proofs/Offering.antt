@@ -11,7 +11,7 @@ use Rattle.em_view.specs.declared.no.DeskNo.TheVariants as desk
 use Rattle.em_implicit.specs.Asking.{Asking, Had, Asks, Follows, Here, Stops, Lacks}
 use Rattle.em_implicit.proofs.Following.{first, leave_asked}
 use Rattle.em_plan.specs.declared.making.Making.{Making}
-use Rattle.em_plan.specs.declared.making.RuleView.{RuleView}
+use Rattle.em_plan.specs.declared.making.RuleContext.{RuleContext}
 use Rattle.em_plan.specs.Makings.{double_unit}
 use Rattle.em_plan.specs.Walking.{single, unit_asking, asks_for, Offers}
 use Rattle.em_plan.proofs.Sought.{next_double, next_none, next_single}
@@ -24,7 +24,7 @@ module _ {T : Type 0} (asks : Asks T) where
   pub offers_want : (a : T) (x : Asking (List Making)) (r : Result (Option Making) DeskNo) → IsErrAnd r (λ e. e ≡ desk.NoMemory) → Offers asks a a r x
   offers_want a x r is = offers_stop r desk.NoMemory is (Lacks a x)
 
-  module _ (m : RuleView) (known : List ℕ → Bool) (n : List ℕ) (place : ℕ) where
+  module _ (m : RuleContext) (known : List ℕ → Bool) (n : List ℕ) (place : ℕ) where
     double_offers : is_double m.book.now.rules n ≡ true → (a : T) (o : Option Making) → o ≡ option_map (double_unit m.book.now.rules n) (slice_get (rules_of m.book.now.rules n) place) → Offers asks a a (Ok o) (asks_for m known n place)
     unfolding asks_for
     double_offers e a o is =

@@ -17,7 +17,7 @@ use Rattle.em_implicit.specs.Seeking.{stands, seeking}
 use Rattle.em_implicit.specs.Implicit.{found}
 use Rattle.em_implicit.proofs.Told.{told_then, told_found}
 use Rattle.em_plan.specs.declared.making.Making.{Making}
-use Rattle.em_plan.specs.declared.making.RuleView.{RuleView}
+use Rattle.em_plan.specs.declared.making.RuleContext.{RuleContext}
 use Rattle.em_plan.specs.Makings.{double_unit, found_for, making_of, unit_by as unit_by_tree, unit_of}
 use Rattle.em_plan.specs.Walking.{single, found_asking, unruled_by, unit_by, unit_asking, single_from, double_from, asking, asks_for}
 use Rattle.em_plan.proofs.Leaves.{Each, each_any, each_then}
@@ -141,10 +141,10 @@ module _ (rules patterns : List Rule) (cwd : List ℕ) where
         by true = refl
         by false = single_told known n place
 
-pub makefile_units : (m : RuleView) → AreUnits (asks_for m)
+pub makefile_units : (m : RuleContext) → AreUnits (asks_for m)
 unfolding asks_for
 makefile_units m = asking_units m.book.now.rules m.book.now.patterns m.cwd.now
 
-pub makefile_few : (m : RuleView) (known : List ℕ → Bool) (n : List ℕ) (place : ℕ) → Each (λ (ms : List Making). 0 < length ms → place < most m.book.now.rules n) (asks_for m known n place)
+pub makefile_few : (m : RuleContext) (known : List ℕ → Bool) (n : List ℕ) (place : ℕ) → Each (λ (ms : List Making). 0 < length ms → place < most m.book.now.rules n) (asks_for m known n place)
 unfolding asks_for
 makefile_few m known n place = asking_few m.book.now.rules m.book.now.patterns m.cwd.now known n place

@@ -24,7 +24,7 @@ use Rattle.em_implicit.specs.Asking.{Asking, Had, and_then, Asks, Follows, Here,
 use Rattle.em_implicit.proofs.Following.{on, first, stopped, leave_asked}
 use Rattle.em_plan.specs.declared.making.Need.{Need}
 use Rattle.em_plan.specs.declared.making.Making.{Making}
-use Rattle.em_plan.specs.declared.making.RuleView.{RuleView}
+use Rattle.em_plan.specs.declared.making.RuleContext.{RuleContext}
 use Rattle.em_plan.specs.declared.planned.PlanJob.{PlanJob}
 use Rattle.em_plan.specs.declared.walk.WalkFrame.{WalkFrame}
 use Rattle.em_plan.specs.declared.marks.VisitMark.{VisitMark}
@@ -494,7 +494,7 @@ module _ {T : Type 0} (asks : Asks T) (a b c : T) where
       → Follows asks a c (visiting units limit [] walk.walked n) (visiting units limit [] v n)
   goal_turn units facts walk n marked v m ms h unit = (goal_again units walk.walked n facts v m ms (goal_passed asks a b units walk n marked (m ∷ ms) h) unit).0
 
-  pub goal_less : (m : RuleView) (walk : Walk) (n : List ℕ) → AreMarked walk.marks [] walk.walked.jobs → (v : Walked) (u : Making) (us : List Making)
+  pub goal_less : (m : RuleContext) (walk : Walk) (n : List ℕ) → AreMarked walk.marks [] walk.walked.jobs → (v : Walked) (u : Making) (us : List Making)
       → Follows asks a b (asks_for m (known_in walk.marks) n (length (numbers_in walk.marks n))) (Had (u ∷ us)) → Follows asks b c (after (asks_for m) [] n (u ∷ []) walk.walked) (Had (Ok v))
       → most m.book.now.rules n - length (numbers_of v.jobs n) < most m.book.now.rules n - length (numbers_of walk.walked.jobs n)
   goal_less m walk n marked v u us h unit =

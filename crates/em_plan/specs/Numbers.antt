@@ -1,8 +1,8 @@
 -- The numbers of one name's jobs.
 use Rattle.std.specs.Prelude.{ℕ, List, [], ◌∷◌}
-use Rattle.em_plan.specs.declared.numbers.NumberSet.{NumberSet}
-use Rattle.em_plan.specs.declared.numbers.NumberSet.TheVariants.{One, Many}
+use Rattle.em_plan.specs.declared.numbers.NumberList.{NumberList}
+use Rattle.em_plan.specs.declared.numbers.NumberList.TheVariants.{One, Many}
 
-abbrev pub held_numbers : NumberSet → List ℕ
+abbrev pub held_numbers : NumberList → List ℕ
 held_numbers (One n) = n ∷ []
 held_numbers (Many ns) = ns.items

@@ -23,7 +23,7 @@ use Rattle.em_implicit.specs.Asking.{Asking, Had, and_then, acted, Asks, Follows
 use Rattle.em_implicit.specs.Seeking.{seeking}
 use Rattle.em_plan.specs.declared.making.Need.{Need}
 use Rattle.em_plan.specs.declared.making.Making.{Making}
-use Rattle.em_plan.specs.declared.making.RuleView.{RuleView}
+use Rattle.em_plan.specs.declared.making.RuleContext.{RuleContext}
 use Rattle.em_plan.specs.declared.planned.Plan.{Plan}
 use Rattle.em_plan.specs.declared.walk.Walked.{Walked}
 use Rattle.em_plan.specs.declared.no.PlanNo.{PlanNo}
@@ -69,7 +69,7 @@ module _ (rules patterns : List Rule) (cwd : List ℕ) where
   unfoldable pub asking : Units
   asking known name place = if is_double rules name then double_from known name place else single_from known name place
 
-unfoldable pub asks_for : RuleView → Units
+unfoldable pub asks_for : RuleContext → Units
 asks_for m = asking m.book.now.rules m.book.now.patterns m.cwd.now
 
 -- ---- the walk

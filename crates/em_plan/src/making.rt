@@ -209,12 +209,12 @@ fn pattern_unit(
 
 /// What makefiles say, and the working directory against which names are read.
 #[derive(Clone, Copy)]
-pub(crate) struct RuleView<'a> {
+pub(crate) struct RuleContext<'a> {
     pub book: &'a Book,
     pub cwd: &'a Path,
 }
 
-impl RuleView<'_> {
+impl RuleContext<'_> {
     /// The pattern rule that is chosen for a name without a recipe, unless it is phony.
     fn found_for<T: There>(
         &self,

@@ -10,7 +10,7 @@ use std::slice;
 
 /// One number in its place, others in a list.
 #[derive(Debug, Drop)]
-enum NumberSet {
+enum NumberList {
     One(u32),
     Many(Vec<u32>),
 }
@@ -19,7 +19,7 @@ enum NumberSet {
 /// double-colon rules are several; one number alone takes no memory of its own.
 #[derive(Debug, Drop)]
 pub struct Numbers {
-    held: NumberSet,
+    held: NumberList,
 }
 
 impl Model for Numbers {
@@ -46,7 +46,7 @@ impl Numbers {
         ensures { result ≡ [] }
     {
         Numbers {
-            held: NumberSet::Many(Vec::new(alloc)),
+            held: NumberList::Many(Vec::new(alloc)),
         }
     }
 
@@ -55,7 +55,7 @@ impl Numbers {
         ensures { result ≡ number ∷ [] }
     {
         Numbers {
-            held: NumberSet::One(number),
+            held: NumberList::One(number),
         }
     }
 
@@ -64,8 +64,8 @@ impl Numbers {
         ensures { result.now ≡ self.now }
     {
         match &self.held {
-            NumberSet::One(number) => slice::from_ref(number),
-            NumberSet::Many(numbers) => numbers.as_slice(),
+            NumberList::One(number) => slice::from_ref(number),
+            NumberList::Many(numbers) => numbers.as_slice(),
         }
     }
 
@@ -91,12 +91,12 @@ impl Numbers {
             return Ok(Numbers::one(number));
         }
         let mut numbers = match self.held {
-            NumberSet::One(first) => alone(alloc, first)?,
-            NumberSet::Many(numbers) => numbers,
+            NumberList::One(first) => alone(alloc, first)?,
+            NumberList::Many(numbers) => numbers,
         };
         numbers.push(number)?;
         Ok(Numbers {
-            held: NumberSet::Many(numbers),
+            held: NumberList::Many(numbers),
         })
     }
 
@@ -105,8 +105,8 @@ impl Numbers {
         ensures { IfOk result (λ n. n ≡ self.now) }
     {
         let held = match &self.held {
-            NumberSet::One(number) => NumberSet::One(*number),
-            NumberSet::Many(numbers) => NumberSet::Many(Vec::from_slice(
+            NumberList::One(number) => NumberList::One(*number),
+            NumberList::Many(numbers) => NumberList::Many(Vec::from_slice(
                 alloc,
                 numbers.as_slice(),
             )?),

@@ -6,7 +6,7 @@ ghost use Rattle.em_plan.specs.Plans.{plan_of};
 ghost use Rattle.em_plan.specs.Walking.{is_want, plan_asking, planned_through, Comes};
 
 use crate::goals::{asked, each_once, numbers};
-use crate::making::RuleView;
+use crate::making::RuleContext;
 use crate::no::PlanNo;
 use crate::planned::Plan;
 use crate::walk::{Walk, walk_all};
@@ -41,7 +41,7 @@ fn plan_by<T: There>(
         begun: _,
         marks,
         walked,
-    } = walk_all(alloc, RuleView { book, cwd }, names.items(), there)?;
+    } = walk_all(alloc, RuleContext { book, cwd }, names.items(), there)?;
     let goals = numbers(alloc, &marks, names.items())?;
     Ok(Plan {
         jobs: walked.jobs,

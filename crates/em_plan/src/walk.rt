@@ -9,7 +9,7 @@ ghost use Rattle.em_plan.specs.Resuming.{after, closing, numbers_in, open_by, op
 ghost use Rattle.em_plan.specs.Walking.{asks_for, visiting, visiting_all, Fails};
 
 use crate::job::job;
-use crate::making::{Making, RuleView};
+use crate::making::{Making, RuleContext};
 use crate::marks::{VisitMark, close_all, next_place, open_all};
 use crate::no::PlanNo;
 use crate::shared::SharedJob;
@@ -202,7 +202,7 @@ fn close(alloc: Global, walk: &mut Walk, frame: WalkFrame) -> Result<(), PlanNo>
 /// One step at the innermost unit.
 fn step<T: There>(
     alloc: Global,
-    makefile: RuleView,
+    makefile: RuleContext,
     walk: &mut Walk,
     frame: WalkFrame,
     there: &mut T,
@@ -231,7 +231,7 @@ fn step<T: There>(
 /// The walk from a goal's next unit, which is this.
 fn walk_unit<T: There>(
     alloc: Global,
-    makefile: RuleView,
+    makefile: RuleContext,
     walk: &mut Walk,
     goal: &Text,
     making: Making,
@@ -258,7 +258,7 @@ fn walk_unit<T: There>(
 /// The walk from a goal: from each of its units in turn.
 fn walk_from<T: There>(
     alloc: Global,
-    makefile: RuleView,
+    makefile: RuleContext,
     walk: &mut Walk,
     goal: &Text,
     there: &mut T,
@@ -282,7 +282,7 @@ fn walk_from<T: There>(
 /// The walk from each of these names in turn: it ends with nothing open.
 pub(crate) fn walk_all<T: There>(
     alloc: Global,
-    makefile: RuleView,
+    makefile: RuleContext,
     goals: &[Text],
     there: &mut T,
 ) -> Result<Walk, PlanNo>

@@ -27,8 +27,8 @@ use Rattle.em_workers.specs.Notes.{AreNotes, IsNoteOf}
 use Rattle.em_workers.proofs.Saying.{said_says}
 use Rattle.em_program.specs.declared.build.JobsDone.{JobsDone}
 use Rattle.em_program.specs.declared.project.Project.{Project}
-use Rattle.em_program.specs.declared.stop.RunEnd.{RunEnd}
-use Rattle.em_program.specs.declared.stop.RunEnd.TheVariants.{End, NoMemory}
+use Rattle.em_program.specs.declared.stop.ProgramEnd.{ProgramEnd}
+use Rattle.em_program.specs.declared.stop.ProgramEnd.TheVariants.{End, NoMemory}
 use Rattle.em_program.specs.declared.verdict.BuildStatus.{BuildStatus}
 use Rattle.em_program.specs.Statuses.{has_ended}
 use Rattle.em_program.specs.Course.{Follows, say_all, stop_of_build}
@@ -95,7 +95,7 @@ clean_once : (job : ℕ) (made : List Made) → All IsOnce (clean job made)
 clean_once job [] = All-nil IsOnce
 clean_once job (m ∷ ms) = All-cons IsOnce (clean_note job) (clean (suc job) ms) refl (clean_once (suc job) ms)
 
-no_end : {s e : RunEnd} → s ≡ e → ((verdict : BuildStatus) → e ≡ End verdict → ⊥) → (verdict : BuildStatus) → (let x : Result JobsDone RunEnd = Err s in let y : Result JobsDone RunEnd = Err (End verdict) in x ≡ y) → ⊥
+no_end : {s e : ProgramEnd} → s ≡ e → ((verdict : BuildStatus) → e ≡ End verdict → ⊥) → (verdict : BuildStatus) → (let x : Result JobsDone ProgramEnd = Err s in let y : Result JobsDone ProgramEnd = Err (End verdict) in x ≡ y) → ⊥
 no_end is other verdict e = other verdict (sym is ∙ err_is e)
   where
     err_is : {A E : Type 0} {d e : E} → (let x : Result A E = Err d in let y : Result A E = Err e in x ≡ y) → d ≡ e
@@ -106,24 +106,24 @@ not_end build_no.Host verdict e = absurd cc
 not_end build_no.NoMemory verdict e = absurd cc
 
 -- on the way
-pub breaks : (p : Project) {no : BuildNo} {r : Result JobsDone RunEnd} {x y : Option Outside} → IsErrAnd r (λ s. s ≡ stop_of_build no) → Builds MakesAll ends p.start p.specs p.terms.order.workers (Err no) x y → IsRan p r x y
+pub breaks : (p : Project) {no : BuildNo} {r : Result JobsDone ProgramEnd} {x y : Option Outside} → IsErrAnd r (λ s. s ≡ stop_of_build no) → Builds MakesAll ends p.start p.specs p.terms.order.workers (Err no) x y → IsRan p r x y
 breaks p {r = Ok d} is b = absurd is
 breaks p {no} {r = Err s} {x} {y} is b = record {
   build = record { made = b.made; notes = clean 0 b.made };
   has = record { ran = b.ran; noted = clean_noted p.start [] b.made; alone = λ one. clean_once 0 b.made };
   whole = tt;
   short = no_end is (not_end no);
-  follows = subst (λ (t : RunEnd). Follows (say_all (outputs_of b.made)) (Err t) x y) (sym is)
+  follows = subst (λ (t : ProgramEnd). Follows (say_all (outputs_of b.made)) (Err t) x y) (sym is)
       (not_said_all (outputs_of b.made) Built no (Tells-weaken x y (λ u v h. said_says {A = Built} (outputs_of b.made) (Err no) u v h) b.printed));
 }
 
 -- before the first job
-pub breaks_early : (p : Project) {r : Result JobsDone RunEnd} {x : Option Outside} → IsErrAnd r (λ s. s ≡ NoMemory) → IsRan p r x x
+pub breaks_early : (p : Project) {r : Result JobsDone ProgramEnd} {x : Option Outside} → IsErrAnd r (λ s. s ≡ NoMemory) → IsRan p r x x
 breaks_early p {r = Ok d} is = absurd is
 breaks_early p {r = Err s} {x} is = record {
   build = record { made = []; notes = [] };
   has = record { ran = tt; noted = tt; alone = λ one. All-nil IsOnce };
   whole = tt;
   short = no_end is (λ verdict e. absurd cc);
-  follows = subst (λ (t : RunEnd). Follows (say_all []) (Err t) x x) (sym is) out;
+  follows = subst (λ (t : ProgramEnd). Follows (say_all []) (Err t) x x) (sym is) out;
 }

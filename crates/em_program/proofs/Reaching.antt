@@ -14,12 +14,12 @@ use Rattle.em_host.proofs.Telling.{Tells-then, Tells-weaken, Tells-same, makes_n
 use Rattle.em_engine.specs.declared.note.Note.{Note}
 use Rattle.em_workers.specs.Printing.{RunsOut}
 use Rattle.em_program.specs.declared.build.Finished.{Finished}
-use Rattle.em_program.specs.declared.rounds.NextBuild.{NextBuild}
+use Rattle.em_program.specs.declared.rounds.BuildStep.{BuildStep}
 use Rattle.em_program.specs.declared.site.Site.{Site}
 use Rattle.em_program.specs.declared.verdict.BuildStatus.{BuildStatus}
 use Rattle.em_program.specs.declared.verdict.BuildStatus.TheVariants.{Done, Outdated, Faulty, Refused, Spent}
-use Rattle.em_program.specs.declared.stop.RunEnd.{RunEnd}
-use Rattle.em_program.specs.declared.stop.RunEnd.TheVariants.{End, Failed, NoMemory}
+use Rattle.em_program.specs.declared.stop.ProgramEnd.{ProgramEnd}
+use Rattle.em_program.specs.declared.stop.ProgramEnd.TheVariants.{End, Failed, NoMemory}
 use Rattle.em_program.specs.Statuses.{code_of}
 use Rattle.em_program.specs.Course.{Trace, go_on, ◌>>=◌, done, Ends, Meets, Follows}
 use Rattle.em_program.specs.Projects.{site}
@@ -32,12 +32,12 @@ use Rattle.em_program.proofs.Working.{same_end, if_ok}
 -- ---- the site was found
 
 -- the verdict alone
-told_verdict : (steps : Trace Tally) (r : Result Finished RunEnd) (y z : Outside) → Meets steps (tally_in r) y z → Meets (go_on steps.calls steps.end (λ t. done t.verdict) y.files) (verdict_in r) y z
+told_verdict : (steps : Trace Tally) (r : Result Finished ProgramEnd) (y z : Outside) → Meets steps (tally_in r) y z → Meets (go_on steps.calls steps.end (λ t. done t.verdict) y.files) (verdict_in r) y z
 unfolding done
 told_verdict steps (Ok f) y z h = then_does (λ t. done t.verdict) steps (record { verdict = f.verdict; jobs = f.jobs; nodes = f.nodes; whole = true }) (Ok f.verdict) y z z h (record { same = refl; made = makes_none z })
 told_verdict steps (Err e) y z h = leave_does (λ t. done t.verdict) steps e y z h
 
-module _ (words : List (List ℕ)) (s : Site) (r : Result Finished RunEnd) (new : s.earlier.notes ≡ []) (a b c : Option Outside) where
+module _ (words : List (List ℕ)) (s : Site) (r : Result Finished ProgramEnd) (new : s.earlier.notes ≡ []) (a b c : Option Outside) where
   -- what is so of the builds of the site is so of those of the words
   found_so : (builds : List Build) (x z : Outside) → (site words x.files).end ≡ Ok s → AreSo s builds r → Meets (ended words builds x.files) (verdict_in r) x z → Reaches words r x z
   found_so builds x z at so meets =
@@ -45,7 +45,7 @@ module _ (words : List (List ℕ)) (s : Site) (r : Result Finished RunEnd) (new 
       let res : Reaches words r x z = record {
         builds = builds;
         run = λ st e. so.run st (sym same ∙ e);
-        all = λ over. subst (λ (end : Result NextBuild BuildStatus). AllAt builds end (AreAll builds)) (sym same) (so.all over);
+        all = λ over. subst (λ (end : Result BuildStep BuildStatus). AllAt builds end (AreAll builds)) (sym same) (so.all over);
         notes = if_ok r (λ f is. is ∙ ap (λ (ns : List Note). ns ++ notes_of builds) new) so.notes;
         meets = meets;
       } in res
@@ -72,7 +72,7 @@ no_first : (words : List (List ℕ)) (files : Files) (verdict : BuildStatus) →
 unfolding ◌>>=◌
 no_first words files verdict e = ap (λ (x : Result Site BuildStatus). (go_on (site words files).calls x first files).end) e
 
-none_found : (words : List (List ℕ)) (e : RunEnd) (x y : Outside) → (IsOver (Err e) → AllAt [] (first_in words x.files) (AreAll [])) → Meets (ended words [] x.files) (Err e) x y → Reaches words (Err e) x y
+none_found : (words : List (List ℕ)) (e : ProgramEnd) (x y : Outside) → (IsOver (Err e) → AllAt [] (first_in words x.files) (AreAll [])) → Meets (ended words [] x.files) (Err e) x y → Reaches words (Err e) x y
 none_found words e x y all meets =
     let res : Reaches words (Err e) x y = record {
       builds = [];
@@ -82,15 +82,15 @@ none_found words e x y all meets =
       meets = meets;
     } in res
 
-all_none : (words : List (List ℕ)) (e : RunEnd) (x y : Outside) → Meets (site words x.files) (Err e) x y → IsOver (Err e) → AllAt [] (first_in words x.files) (AreAll [])
-all_none words (End verdict) x y h over = subst (λ (end : Result NextBuild BuildStatus). AllAt [] end (AreAll [])) (sym (no_first words x.files verdict h.same)) refl
+all_none : (words : List (List ℕ)) (e : ProgramEnd) (x y : Outside) → Meets (site words x.files) (Err e) x y → IsOver (Err e) → AllAt [] (first_in words x.files) (AreAll [])
+all_none words (End verdict) x y h over = subst (λ (end : Result BuildStep BuildStatus). AllAt [] end (AreAll [])) (sym (no_first words x.files verdict h.same)) refl
 all_none words Failed x y h over = absurd over
 all_none words NoMemory x y h over = absurd over
 
-pub stops : (words : List (List ℕ)) (r : Result Finished RunEnd) {e : RunEnd} {a b : Option Outside} → IsErrAnd r (λ s. s ≡ e) → Follows (site words) (Err e) a b → Tells (Reaches words r) a b
+pub stops : (words : List (List ℕ)) (r : Result Finished ProgramEnd) {e : ProgramEnd} {a b : Option Outside} → IsErrAnd r (λ s. s ≡ e) → Follows (site words) (Err e) a b → Tells (Reaches words r) a b
 unfolding ◌>>=◌
 stops words (Ok f) is given = absurd is
-stops words (Err s) {e} {a} {b} is given = subst (λ (t : RunEnd). Tells (Reaches words (Err t)) a b) (sym is) (Tells-weaken a b
+stops words (Err s) {e} {a} {b} is given = subst (λ (t : ProgramEnd). Tells (Reaches words (Err t)) a b) (sym is) (Tells-weaken a b
     (λ x y h. none_found words e x y (all_none words e x y h) (leave_does (ended_at []) (site words x.files) e x y h))
     given.told)
 
@@ -147,31 +147,31 @@ comes_short steps x y p = record {
   cut = λ e. cut_short steps.calls x y p;
 }
 
-comes : (words : List (List ℕ)) (builds : List Build) (r : Result BuildStatus RunEnd) (x y : Outside) → Meets (ended words builds x.files) r x y → Comes (ended words builds x.files) (exit_status r) x y
+comes : (words : List (List ℕ)) (builds : List Build) (r : Result BuildStatus ProgramEnd) (x y : Outside) → Meets (ended words builds x.files) r x y → Comes (ended words builds x.files) (exit_status r) x y
 comes words builds (Ok verdict) x y p = comes_whole (ended words builds x.files) (Ok verdict) x y p
 comes words builds (Err (End verdict)) x y p = comes_whole (ended words builds x.files) (Err verdict) x y p
 comes words builds (Err Failed) x y p = comes_failed (ended words builds x.files) x y p
 comes words builds (Err NoMemory) x y p = comes_short (ended words builds x.files) x y p
 
 -- at a status other than 3 and 7 all that follows was built, and its notes are told
-over_at : (r : Result Finished RunEnd) → exit_status (verdict_in r) ≢ 3 → exit_status (verdict_in r) ≢ 7 → IsOver r
+over_at : (r : Result Finished ProgramEnd) → exit_status (verdict_in r) ≢ 3 → exit_status (verdict_in r) ≢ 7 → IsOver r
 over_at (Ok f) a b = tt
 over_at (Err (End verdict)) a b = tt
 over_at (Err Failed) a b = absurd (a refl)
 over_at (Err NoMemory) a b = absurd (b refl)
 
-notes_at : (words : List (List ℕ)) (r : Result Finished RunEnd) (x y : Outside) (p : Reaches words r x y) → exit_status (verdict_in r) ≢ 3 → exit_status (verdict_in r) ≢ 7
+notes_at : (words : List (List ℕ)) (r : Result Finished ProgramEnd) (x y : Outside) (p : Reaches words r x y) → exit_status (verdict_in r) ≢ 3 → exit_status (verdict_in r) ≢ 7
     → notes_in r ≡ told_of p.builds (ended words p.builds x.files).end
 notes_at words (Ok f) x y p a b = p.notes ∙ sym (ap (told_of p.builds) p.meets.same)
 notes_at words (Err (End verdict)) x y p a b = sym (ap (told_of p.builds) p.meets.same)
 notes_at words (Err Failed) x y p a b = absurd (a refl)
 notes_at words (Err NoMemory) x y p a b = absurd (b refl)
 
-pub none_at : (r : Result Finished RunEnd) → (exit_status (verdict_in r) ≡ 3) ⊎ (exit_status (verdict_in r) ≡ 7) → notes_in r ≡ []
+pub none_at : (r : Result Finished ProgramEnd) → (exit_status (verdict_in r) ≡ 3) ⊎ (exit_status (verdict_in r) ≡ 7) → notes_in r ≡ []
 none_at (Ok f) e = absurd (⊎_elim (not_3 f.verdict) (not_7 f.verdict) e)
 none_at (Err s) e = refl
 
-pub headline : (words : List (List ℕ)) (r : Result Finished RunEnd) (a b : Option Outside) → Tells (Reaches words r) a b → Tells (Headline words (exit_status (verdict_in r)) (notes_in r)) a b
+pub headline : (words : List (List ℕ)) (r : Result Finished ProgramEnd) (a b : Option Outside) → Tells (Reaches words r) a b → Tells (Headline words (exit_status (verdict_in r)) (notes_in r)) a b
 headline words r a b p = Tells-weaken a b
     (λ x y h. let res : Headline words (exit_status (verdict_in r)) (notes_in r) x y = record {
       builds = h.builds;

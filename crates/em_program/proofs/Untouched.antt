@@ -17,7 +17,7 @@ use Rattle.em_reader.specs.declared.makefiles.Round.{Round}
 use Rattle.em_remake.specs.Remaking.{goals_of, changed}
 use Rattle.em_program.specs.declared.project.Project.{Project}
 use Rattle.em_program.specs.declared.rounds.Remaking.{Remaking}
-use Rattle.em_program.specs.declared.rounds.NextBuild.{NextBuild}
+use Rattle.em_program.specs.declared.rounds.BuildStep.{BuildStep}
 use Rattle.em_program.specs.declared.site.Site.{Site}
 use Rattle.em_program.specs.declared.verdict.BuildStatus.{BuildStatus}
 use Rattle.em_program.specs.Alike.{AreSites, AreProjects, AreSteps, EndAlike, IsSame}
@@ -96,7 +96,7 @@ module _ (old : List Pair) (past : Earlier) where
   goals left s cwd r [] f = finals s cwd r f
   goals left s cwd r (g ∷ gs) f = remades left s cwd r (g ∷ gs) f
 
-  same_step : (c : Trace NextBuild) → SameBy AreSteps c c
+  same_step : (c : Trace BuildStep) → SameBy AreSteps c c
   same_step c = record { calls = refl; end = same_end AreSteps (λ u. record { project = record { order = refl; outcomes = refl; plan = refl; goals = refl; start = refl; specs = refl }; remaking = refl }) c.end }
 
   rounds : (left : ℕ) (s : Site) (cwd : List ℕ) (f : Files) → SameBy AreSteps (round left s cwd f) (round left (other s) cwd f)
@@ -116,13 +116,13 @@ module _ (old : List Pair) (past : Earlier) where
 is_other : (s t : Site) → AreSites s t → other t.old t.earlier s ≡ t
 is_other s t same = λ i. record { order = same.order i; start = same.start i; old = t.old; earlier = record { notes = t.earlier.notes; outcomes = same.outcomes i; shown = t.earlier.shown } }
 
-alike : (x y : Result NextBuild BuildStatus) → EndBy AreSteps x y → EndAlike x y
+alike : (x y : Result BuildStep BuildStatus) → EndBy AreSteps x y → EndAlike x y
 alike (Ok u) (Ok v) e = e
 alike (Ok u) (Err w) e = absurd e
 alike (Err v) (Ok w) e = absurd e
 alike (Err v) (Err w) e = e
 
-to_same : (c d : Course NextBuild) (f : Files) → SameBy AreSteps (c f) (d f) → IsSame c d f
+to_same : (c d : Course BuildStep) (f : Files) → SameBy AreSteps (c f) (d f) → IsSame c d f
 to_same c d f p = record { calls = p.calls; end = alike (c f).end (d f).end p.end }
 
 pub firsts : (s t : Site) (f : Files) → AreSites s t → IsSame (first s) (first t) f

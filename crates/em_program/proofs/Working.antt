@@ -13,12 +13,12 @@ use Rattle.em_host.specs.Calls.{files_after, printed_by}
 use Rattle.em_host.proofs.Telling.{Tells-then, Tells-weaken, Tells-same, front_none}
 use Rattle.em_engine.specs.declared.note.Note.{Note}
 use Rattle.em_program.specs.declared.build.Finished.{Finished}
-use Rattle.em_program.specs.declared.rounds.NextBuild.{NextBuild}
+use Rattle.em_program.specs.declared.rounds.BuildStep.{BuildStep}
 use Rattle.em_program.specs.declared.site.Earlier.{Earlier}
 use Rattle.em_program.specs.declared.site.Site.{Site}
 use Rattle.em_program.specs.declared.verdict.BuildStatus.{BuildStatus}
-use Rattle.em_program.specs.declared.stop.RunEnd.{RunEnd}
-use Rattle.em_program.specs.declared.stop.RunEnd.TheVariants.{End, Failed, NoMemory}
+use Rattle.em_program.specs.declared.stop.ProgramEnd.{ProgramEnd}
+use Rattle.em_program.specs.declared.stop.ProgramEnd.TheVariants.{End, Failed, NoMemory}
 use Rattle.em_program.specs.Statuses.{code_of}
 use Rattle.em_program.specs.Course.{Trace, Course, go_on, ◌>>=◌, done, quit, say, stop, Ends, Meets, Follows}
 use Rattle.em_program.specs.Messages.{summary}
@@ -44,18 +44,18 @@ if_ok (Err e) f h = tt
 
 -- ---- the builds behind the first step
 
-module _ (s : Site) (st : NextBuild) (y : Files) (at : (first s y).end ≡ Ok st) where
+module _ (s : Site) (st : BuildStep) (y : Files) (at : (first s y).end ≡ Ok st) where
   leads : (first s empty).end ≡ Ok st
   leads = steady_first s empty y ∙ at
 
-  so_by : (r : Result Finished RunEnd) (builds : List Build) → st.project.terms.earlier ≡ s.earlier → AreRun builds st → (IsOver r → AreAll builds st) → IfOk r (λ f. f.notes ≡ st.project.terms.earlier.notes ++ notes_of builds) → AreSo s builds r
+  so_by : (r : Result Finished ProgramEnd) (builds : List Build) → st.project.terms.earlier ≡ s.earlier → AreRun builds st → (IsOver r → AreAll builds st) → IfOk r (λ f. f.notes ≡ st.project.terms.earlier.notes ++ notes_of builds) → AreSo s builds r
   so_by r builds earlier run all notes = record {
     run = λ n e. subst (AreRun builds) (ok_same (sym leads ∙ e)) run;
-    all = λ over. subst (λ (end : Result NextBuild BuildStatus). AllAt builds end (AreAll builds)) (sym leads) (all over);
+    all = λ over. subst (λ (end : Result BuildStep BuildStatus). AllAt builds end (AreAll builds)) (sym leads) (all over);
     notes = if_ok r (λ f is. is ∙ ap (λ (x : Earlier). x.notes ++ notes_of builds) earlier) notes;
   }
 
-pub worked : (s : Site) (st : NextBuild) (r : Result Finished RunEnd) {left : ℕ} (a b c : Option Outside) → IsNext s.earlier left st → Follows (first s) (Ok st) a b → Tells (IsRun st r) b c → Tells (IsWork s r) a c
+pub worked : (s : Site) (st : BuildStep) (r : Result Finished ProgramEnd) {left : ℕ} (a b c : Option Outside) → IsNext s.earlier left st → Follows (first s) (Ok st) a b → Tells (IsRun st r) b c → Tells (IsWork s r) a c
 unfolding ◌>>=◌
 worked s st r a b c is given run = Tells-then a b c
     (λ x y z h i. let res : IsWork s r x z = record {
@@ -66,12 +66,12 @@ worked s st r a b c is given run = Tells-then a b c
     given.told run
 
 -- nothing was built
-none_at : (s : Site) (e : RunEnd) (x y : Outside) → Meets (first s x.files) (Err e) x y → IsOver (Err e) → AllAt [] (first s empty).end (AreAll [])
-none_at s (End verdict) x y h over = subst (λ (end : Result NextBuild BuildStatus). AllAt [] end (AreAll [])) (sym (steady_first s empty x.files ∙ h.same)) refl
+none_at : (s : Site) (e : ProgramEnd) (x y : Outside) → Meets (first s x.files) (Err e) x y → IsOver (Err e) → AllAt [] (first s empty).end (AreAll [])
+none_at s (End verdict) x y h over = subst (λ (end : Result BuildStep BuildStatus). AllAt [] end (AreAll [])) (sym (steady_first s empty x.files ∙ h.same)) refl
 none_at s Failed x y h over = absurd over
 none_at s NoMemory x y h over = absurd over
 
-unworked : (s : Site) (e : RunEnd) (a b : Option Outside) → Follows (first s) (Err e) a b → Tells (IsWork s (Err e)) a b
+unworked : (s : Site) (e : ProgramEnd) (a b : Option Outside) → Follows (first s) (Err e) a b → Tells (IsWork s (Err e)) a b
 unfolding ◌>>=◌
 unworked s e a b given = Tells-weaken a b
     (λ x y h. let res : IsWork s (Err e) x y = record {
@@ -81,8 +81,8 @@ unworked s e a b given = Tells-weaken a b
     } in res)
     given.told
 
-pub not_worked : (s : Site) (r : Result Finished RunEnd) (e : RunEnd) (a b : Option Outside) → IsErrAnd r (λ t. t ≡ e) → Follows (first s) (Err e) a b → Tells (IsWork s r) a b
-not_worked s r e a b is given = subst (λ (t : Result Finished RunEnd). Tells (IsWork s t) a b) (sym (err_to is)) (unworked s e a b given)
+pub not_worked : (s : Site) (r : Result Finished ProgramEnd) (e : ProgramEnd) (a b : Option Outside) → IsErrAnd r (λ t. t ≡ e) → Follows (first s) (Err e) a b → Tells (IsWork s r) a b
+not_worked s r e a b is given = subst (λ (t : Result Finished ProgramEnd). Tells (IsWork s t) a b) (sym (err_to is)) (unworked s e a b given)
 
 -- ---- beside the host
 
@@ -95,21 +95,21 @@ pub bare_new : {m : Memory} → m ≡ nothing → IsBare m.outside
 bare_new is = subst (λ (m : Memory). IsBare m.outside) (sym is) (record { files = refl; printed = refl })
 
 module _ (s : Site) where
-  less_so : (builds : List Build) (ri : Result Finished RunEnd) (e : RunEnd) → ((verdict : BuildStatus) → e ≢ End verdict) → AreSo s builds ri → AreSo s builds (Err e)
+  less_so : (builds : List Build) (ri : Result Finished ProgramEnd) (e : ProgramEnd) → ((verdict : BuildStatus) → e ≢ End verdict) → AreSo s builds ri → AreSo s builds (Err e)
   less_so builds ri e other so = record { run = so.run; all = λ over. absurd (never e other over); notes = tt }
     where
-      never : (e : RunEnd) → ((verdict : BuildStatus) → e ≢ End verdict) → IsOver (Err e) → ⊥
+      never : (e : ProgramEnd) → ((verdict : BuildStatus) → e ≢ End verdict) → IsOver (Err e) → ⊥
       never (End verdict) other over = other verdict refl
       never Failed other over = over
       never NoMemory other over = over
 
-  module _ (ri : Result Finished RunEnd) (x y : Outside) (bare : IsBare x) (w : IsWork s ri x y) where
+  module _ (ri : Result Finished ProgramEnd) (x y : Outside) (bare : IsBare x) (w : IsWork s ri x y) where
     meets_there : Meets (working w.builds s empty) (tally_in ri) x y
     meets_there = subst (λ (f : Files). Meets (working w.builds s f) (tally_in ri) x y) bare.files w.meets
 
     -- want of memory, whatever came of the build
-    pub count_short : (r : Result Finished RunEnd) (a : Option Outside) → IsErrAnd r (λ t. t ≡ NoMemory) → Tells (IsCount s r) a a
-    count_short r a is = subst (λ (t : Result Finished RunEnd). Tells (IsCount s t) a a) (sym (err_to is)) (Tells-same (IsCount s (Err NoMemory)) a
+    pub count_short : (r : Result Finished ProgramEnd) (a : Option Outside) → IsErrAnd r (λ t. t ≡ NoMemory) → Tells (IsCount s r) a a
+    count_short r a is = subst (λ (t : Result Finished ProgramEnd). Tells (IsCount s t) a a) (sym (err_to is)) (Tells-same (IsCount s (Err NoMemory)) a
         (λ u. let res : IsCount s (Err NoMemory) u u = record {
           builds = w.builds;
           so = less_so w.builds ri NoMemory (λ verdict e. cc) w.so;
@@ -122,7 +122,7 @@ module _ (s : Site) where
     abbrev steps_there : Trace Tally
     steps_there = working w.builds s empty
 
-    to_count : (r : Result Finished RunEnd) → AreSo s w.builds r → {a b : Option Outside} → Follows (counted steps_there) (verdict_in r) a b → Tells (IsCount s r) a b
+    to_count : (r : Result Finished ProgramEnd) → AreSo s w.builds r → {a b : Option Outside} → Follows (counted steps_there) (verdict_in r) a b → Tells (IsCount s r) a b
     to_count r so {a} {b} h = Tells-weaken a b (λ u v i. let res : IsCount s r u v = record { builds = w.builds; so = so; meets = i } in res) h.told
 
 module _ (s : Site) (f : Finished) (x y : Outside) (bare : IsBare x) (w : IsWork s (Ok f) x y) where
@@ -141,24 +141,24 @@ module _ (s : Site) (f : Finished) (x y : Outside) (bare : IsBare x) (w : IsWork
   count_said a b said = to_count s (Ok f) x y bare w (Ok f) w.so
       (subst (λ (m : Course BuildStatus). Follows m (Ok f.verdict) a b) (sym counts) (then _ said stays))
 
-  leave_at : (e : RunEnd) (u v : Outside) → Meets (say line_for u.files) (Err e) u v → Meets ((say line_for >>= (λ (t : Unit {0}). done f.verdict)) u.files) (Err e) u v
+  leave_at : (e : ProgramEnd) (u v : Outside) → Meets (say line_for u.files) (Err e) u v → Meets ((say line_for >>= (λ (t : Unit {0}). done f.verdict)) u.files) (Err e) u v
   unfolding ◌>>=◌
   leave_at e u v i = leave_does (λ (t : Unit {0}). done f.verdict) (say line_for u.files) e u v i
 
-  pub count_unsaid : (r : Result Finished RunEnd) (e : RunEnd) (a b : Option Outside) → IsErrAnd r (λ t. t ≡ e) → Follows (say line_for) (Err e) a b → Tells (IsCount s r) a b
+  pub count_unsaid : (r : Result Finished ProgramEnd) (e : ProgramEnd) (a b : Option Outside) → IsErrAnd r (λ t. t ≡ e) → Follows (say line_for) (Err e) a b → Tells (IsCount s r) a b
   unfolding say
   count_unsaid r e a b is unsaid =
-      subst (λ (t : Result Finished RunEnd). Tells (IsCount s t) a b) (sym (err_to is))
+      subst (λ (t : Result Finished ProgramEnd). Tells (IsCount s t) a b) (sym (err_to is))
       (Tells-weaken a b
       (λ u v i. let res : IsCount s (Err e) u v = record {
         builds = w.builds;
-        so = less_so s w.builds (Ok f) e (λ verdict is_end. ok_err (subst (λ (t : RunEnd). Meets (say line_for u.files) (Err t) u v) is_end i).same) w.so;
+        so = less_so s w.builds (Ok f) e (λ verdict is_end. ok_err (subst (λ (t : ProgramEnd). Meets (say line_for u.files) (Err t) u v) is_end i).same) w.so;
         meets = subst (λ (m : Course BuildStatus). Meets (m u.files) (Err e) u v) (sym counts) (leave_at e u v i);
       } in res)
       unsaid.told)
 
 -- a refusal is said where nothing else was
-stop_as : (text : List ℕ) (verdict : BuildStatus) (r : Result Finished RunEnd) (u v : Outside) → IsErr r → Meets (stop {A = Finished} text verdict u.files) r u v → Meets (stop {A = BuildStatus} text verdict u.files) (verdict_in r) u v
+stop_as : (text : List ℕ) (verdict : BuildStatus) (r : Result Finished ProgramEnd) (u v : Outside) → IsErr r → Meets (stop {A = Finished} text verdict u.files) r u v → Meets (stop {A = BuildStatus} text verdict u.files) (verdict_in r) u v
 unfolding ◌>>=◌ quit say
 stop_as text verdict (Ok f) u v err h = absurd (false≢true err)
 stop_as text verdict (Err (End other)) u v err h = record { same = err_same h.same; made = h.made }
@@ -173,11 +173,11 @@ module _ (s : Site) (verdict : BuildStatus) (x y : Outside) (bare : IsBare x) (w
       ap (counted_as steps.calls) there.same
       ∙ ap (λ (t : List ℕ). stop t verdict) (sym (printed_there s (Err (End verdict)) x y bare w steps _ there))
 
-  refused_so : (r : Result Finished RunEnd) → IsErr r → AreSo s w.builds r
+  refused_so : (r : Result Finished ProgramEnd) → IsErr r → AreSo s w.builds r
   refused_so (Ok f) err = absurd (false≢true err)
   refused_so (Err e) err = record { run = w.so.run; all = λ over. w.so.all tt; notes = tt }
 
-  pub count_refused : (r : Result Finished RunEnd) (a b : Option Outside) → IsErr r → Follows (stop y.printed verdict) r a b → Tells (IsCount s r) a b
+  pub count_refused : (r : Result Finished ProgramEnd) (a b : Option Outside) → IsErr r → Follows (stop y.printed verdict) r a b → Tells (IsCount s r) a b
   count_refused r a b err stopped = Tells-weaken a b
       (λ u v i. let res : IsCount s r u v = record {
         builds = w.builds;

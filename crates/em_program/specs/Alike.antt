@@ -7,7 +7,7 @@
 use Rattle.std.specs.Prelude.{◌≡◌, Result, Ok, Err}
 use Rattle.em_host.specs.Outside.{Files}
 use Rattle.em_program.specs.declared.project.Project.{Project}
-use Rattle.em_program.specs.declared.rounds.NextBuild.{NextBuild}
+use Rattle.em_program.specs.declared.rounds.BuildStep.{BuildStep}
 use Rattle.em_program.specs.declared.site.Site.{Site}
 use Rattle.em_program.specs.declared.verdict.BuildStatus.{BuildStatus}
 use Rattle.em_program.specs.Course.{Course}
@@ -25,15 +25,15 @@ pub record AreProjects (p q : Project) : Type 0 where
   pub start : p.start ≡ q.start
   pub specs : p.specs ≡ q.specs
 
-pub record AreSteps (u v : NextBuild) : Type 0 where
+pub record AreSteps (u v : BuildStep) : Type 0 where
   pub project : AreProjects u.project v.project
   pub remaking : u.remaking ≡ v.remaking
 
-abbrev pub EndAlike : Result NextBuild BuildStatus → Result NextBuild BuildStatus → Type 0
+abbrev pub EndAlike : Result BuildStep BuildStatus → Result BuildStep BuildStatus → Type 0
 EndAlike (Ok u) (Ok v) = AreSteps u v
 EndAlike (Err d) (Err e) = d ≡ e
 EndAlike _ _ = ⊥
 
-pub record IsSame (c d : Course NextBuild) (files : Files) : Type 0 where
+pub record IsSame (c d : Course BuildStep) (files : Files) : Type 0 where
   pub calls : (c files).calls ≡ (d files).calls
   pub end : EndAlike (c files).end (d files).end

@@ -19,8 +19,8 @@ use Rattle.em_workers.specs.declared.no.BuildNo.{BuildNo}
 use Rattle.em_workers.specs.declared.no.BuildNo.TheVariants as build_no
 use Rattle.em_workers.specs.Printing.{print, prints, RunsOut}
 use Rattle.em_program.specs.declared.verdict.BuildStatus.{BuildStatus}
-use Rattle.em_program.specs.declared.stop.RunEnd.{RunEnd}
-use Rattle.em_program.specs.declared.stop.RunEnd.TheVariants.{End, Failed, NoMemory}
+use Rattle.em_program.specs.declared.stop.ProgramEnd.{ProgramEnd}
+use Rattle.em_program.specs.declared.stop.ProgramEnd.TheVariants.{End, Failed, NoMemory}
 
 -- calls that end with a value, or end the run with a status
 pub record Trace (A : Type 0) : Type 0 where
@@ -73,27 +73,27 @@ pub record Ends {A : Type 0} (steps : Trace A) (end : Result A BuildStatus) (bef
   pub same : steps.end ≡ end
   pub made : Makes steps.calls before after
 
-abbrev pub Meets : {A : Type 0} → Trace A → Result A RunEnd → Outside → Outside → Type 0
+abbrev pub Meets : {A : Type 0} → Trace A → Result A ProgramEnd → Outside → Outside → Type 0
 Meets steps (Ok a) before after = Ends steps (Ok a) before after
 Meets steps (Err (End verdict)) before after = Ends steps (Err verdict) before after
 Meets steps (Err Failed) before after = FailsIn true steps.calls before after
 Meets steps (Err NoMemory) before after = RunsOut steps.calls before after
 
 -- told: what the host told before and after
-pub record Follows {A : Type 0} (course : Course A) (result : Result A RunEnd) (before after : Option Outside) : Type 0 where
+pub record Follows {A : Type 0} (course : Course A) (result : Result A ProgramEnd) (before after : Option Outside) : Type 0 where
   pub told : Tells (λ x y. Meets (course x.files) result x y) before after
 
 -- the count of the host's faults after a function that answered so
-abbrev pub faults_after : {A : Type 0} → Result A RunEnd → ℕ → ℕ
+abbrev pub faults_after : {A : Type 0} → Result A ProgramEnd → ℕ → ℕ
 faults_after (Ok a) n = n
 faults_after (Err Failed) n = next_count n
 faults_after (Err (End verdict)) n = n
 faults_after (Err NoMemory) n = n
 
-abbrev pub stop_of : HostNo → RunEnd
+abbrev pub stop_of : HostNo → ProgramEnd
 stop_of no.Failed = Failed
 stop_of no.NoMemory = NoMemory
 
-abbrev pub stop_of_build : BuildNo → RunEnd
+abbrev pub stop_of_build : BuildNo → ProgramEnd
 stop_of_build build_no.Host = Failed
 stop_of_build build_no.NoMemory = NoMemory

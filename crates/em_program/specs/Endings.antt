@@ -31,10 +31,10 @@ use Rattle.em_program.specs.declared.build.JobsDone.{JobsDone}
 use Rattle.em_program.specs.declared.project.Project.{Project}
 use Rattle.em_program.specs.declared.project.Terms.{Terms}
 use Rattle.em_program.specs.declared.rounds.Remaking.{Remaking}
-use Rattle.em_program.specs.declared.rounds.NextBuild.{NextBuild}
+use Rattle.em_program.specs.declared.rounds.BuildStep.{BuildStep}
 use Rattle.em_program.specs.declared.site.Site.{Site}
-use Rattle.em_program.specs.declared.stop.RunEnd.{RunEnd}
-use Rattle.em_program.specs.declared.stop.RunEnd.TheVariants.{End, Failed, NoMemory}
+use Rattle.em_program.specs.declared.stop.ProgramEnd.{ProgramEnd}
+use Rattle.em_program.specs.declared.stop.ProgramEnd.TheVariants.{End, Failed, NoMemory}
 use Rattle.em_program.specs.declared.verdict.BuildStatus.{BuildStatus}
 use Rattle.em_program.specs.declared.verdict.BuildStatus.TheVariants.{Faulty}
 use Rattle.em_closing.specs.Closing.{closing}
@@ -121,7 +121,7 @@ abbrev pub asked_by : Order → Option Remaking → Bool
 asked_by order None = order.question
 asked_by order (Some m) = m.order.question
 
-abbrev pub is_asked : NextBuild → Bool
+abbrev pub is_asked : BuildStep → Bool
 is_asked st = asked_by st.project.terms.order st.remaking
 
 -- the end, behind the last build
@@ -133,18 +133,18 @@ last_by t notes asked fuel early s = do
   verdict ← finish t notes asked fuel early s
   done (tally_of t s verdict)
 
-abbrev pub last_of : NextBuild → Build → Course Tally
+abbrev pub last_of : BuildStep → Build → Course Tally
 last_of st b = last_by st.project.terms b.notes (is_asked st) (fuel_of b.made) (is_early st.project b) (left_by st.project b)
 
-abbrev pub next_or_last : (NextBuild → Course Tally) → NextBuild → Build → Option (Course NextBuild) → Course Tally
+abbrev pub next_or_last : (BuildStep → Course Tally) → BuildStep → Build → Option (Course BuildStep) → Course Tally
 next_or_last later st b None = last_of st b
 next_or_last later st b (Some next) = next >>= later
 
-abbrev pub after_jobs : (NextBuild → Course Tally) → NextBuild → Build → Course Tally
+abbrev pub after_jobs : (BuildStep → Course Tally) → BuildStep → Build → Course Tally
 after_jobs later st b = if is_whole st.project b then next_or_last later st b (goes_on st b) else broken_off
 
 -- what the jobs of each build say, in order, and what follows them
-unfoldable pub run_from : List Build → NextBuild → Course Tally
+unfoldable pub run_from : List Build → BuildStep → Course Tally
 run_from [] st = broken_off
 run_from (b ∷ bs) st = do
   u ← say_all (outputs_of b.made)
@@ -161,28 +161,28 @@ pub record HasRun (p : Project) (b : Build) : Type 0 where
 
 -- a fact of a step, where nothing is refused on the way to it. What is refused doesn't hang on the
 -- host's files
-abbrev pub Given : Course NextBuild → (NextBuild → Type 0) → Type 0
-Given next P = (st : NextBuild) → (next empty).end ≡ Ok st → P st
+abbrev pub Given : Course BuildStep → (BuildStep → Type 0) → Type 0
+Given next P = (st : BuildStep) → (next empty).end ≡ Ok st → P st
 
 -- a fact of what follows a build
-abbrev pub Behind : Option (Course NextBuild) → (NextBuild → Type 0) → Type 0
+abbrev pub Behind : Option (Course BuildStep) → (BuildStep → Type 0) → Type 0
 Behind None P = Unit {0}
 Behind (Some next) P = Given next P
 
-abbrev pub AreRun : List Build → NextBuild → Type 0
+abbrev pub AreRun : List Build → BuildStep → Type 0
 AreRun [] st = Unit {0}
 AreRun (b ∷ bs) st = HasRun st.project b × Behind (goes_on st b) (AreRun bs)
 
 -- each of them is all of its serial run, and none is missing
-abbrev pub AllAt : List Build → Result NextBuild BuildStatus → (NextBuild → Type 0) → Type 0
+abbrev pub AllAt : List Build → Result BuildStep BuildStatus → (BuildStep → Type 0) → Type 0
 AllAt bs (Ok st) P = P st
 AllAt bs (Err verdict) P = bs ≡ []
 
-abbrev pub AllBehind : List Build → Option (Course NextBuild) → (NextBuild → Type 0) → Type 0
+abbrev pub AllBehind : List Build → Option (Course BuildStep) → (BuildStep → Type 0) → Type 0
 AllBehind bs None P = bs ≡ []
 AllBehind bs (Some next) P = AllAt bs (next empty).end P
 
-abbrev pub AreAll : List Build → NextBuild → Type 0
+abbrev pub AreAll : List Build → BuildStep → Type 0
 AreAll [] st = ⊥
 AreAll (b ∷ bs) st = IsSerial MakesAll ends st.project.start st.project.specs b.made × AllBehind bs (goes_on st b) (AreAll bs)
 
@@ -191,27 +191,27 @@ notes_of builds = flat_map (λ b. b.notes) builds
 
 -- ---- what the parts of a run answer
 
-abbrev pub verdict_in : Result Finished RunEnd → Result BuildStatus RunEnd
+abbrev pub verdict_in : Result Finished ProgramEnd → Result BuildStatus ProgramEnd
 verdict_in (Ok f) = Ok f.verdict
 verdict_in (Err e) = Err e
 
 -- none of a run that broke off, or that was refused
-abbrev pub notes_in : Result Finished RunEnd → List Note
+abbrev pub notes_in : Result Finished ProgramEnd → List Note
 notes_in (Ok f) = f.notes
 notes_in (Err e) = []
 
-abbrev pub tally_in : Result Finished RunEnd → Result Tally RunEnd
+abbrev pub tally_in : Result Finished ProgramEnd → Result Tally ProgramEnd
 tally_in (Ok f) = Ok (record { verdict = f.verdict; jobs = f.jobs; nodes = f.nodes; whole = true })
 tally_in (Err e) = Err e
 
 -- the run came to its end, or to a refusal
-abbrev pub IsOver : Result Finished RunEnd → Type 0
+abbrev pub IsOver : Result Finished ProgramEnd → Type 0
 IsOver (Ok f) = Unit {0}
 IsOver (Err (End verdict)) = Unit {0}
 IsOver (Err Failed) = ⊥
 IsOver (Err NoMemory) = ⊥
 
-abbrev pub unit_in : Result JobsDone RunEnd → Result (Unit {0}) RunEnd
+abbrev pub unit_in : Result JobsDone ProgramEnd → Result (Unit {0}) ProgramEnd
 unit_in (Ok d) = Ok tt
 unit_in (Err e) = Err e
 
@@ -225,14 +225,14 @@ pub record IsDone (p : Project) (b : Build) (d : JobsDone) : Type 0 where
 
 -- the jobs that were run have run so in the serial run; unless the run broke off, they are all of
 -- it. They are never refused
-pub record IsRan (p : Project) (result : Result JobsDone RunEnd) (before after : Option Outside) : Type 0 where
+pub record IsRan (p : Project) (result : Result JobsDone ProgramEnd) (before after : Option Outside) : Type 0 where
   pub build : Build
   pub has : HasRun p build
   pub whole : IfOk result (IsDone p build)
   pub short : (verdict : BuildStatus) → result ≡ Err (End verdict) → ⊥
   pub follows : Follows (say_all (outputs_of build.made)) (unit_in result) before after
 
-pub record IsRun (st : NextBuild) (result : Result Finished RunEnd) (before after : Outside) : Type 0 where
+pub record IsRun (st : BuildStep) (result : Result Finished ProgramEnd) (before after : Outside) : Type 0 where
   pub builds : List Build
   pub run : AreRun builds st
   pub all : IsOver result → AreAll builds st
@@ -244,12 +244,12 @@ pub record IsRun (st : NextBuild) (result : Result Finished RunEnd) (before afte
 abbrev pub working : List Build → Site → Course Tally
 working builds s = first s >>= run_from builds
 
-pub record AreSo (s : Site) (builds : List Build) (result : Result Finished RunEnd) : Type 0 where
+pub record AreSo (s : Site) (builds : List Build) (result : Result Finished ProgramEnd) : Type 0 where
   pub run : Given (first s) (AreRun builds)
   pub all : IsOver result → AllAt builds (first s empty).end (AreAll builds)
   pub notes : IfOk result (λ f. f.notes ≡ s.earlier.notes ++ notes_of builds)
 
-pub record IsWork (s : Site) (result : Result Finished RunEnd) (before after : Outside) : Type 0 where
+pub record IsWork (s : Site) (result : Result Finished ProgramEnd) (before after : Outside) : Type 0 where
   pub builds : List Build
   pub so : AreSo s builds result
   pub meets : Meets (working builds s before.files) (tally_in result) before after
@@ -271,7 +271,7 @@ abbrev pub counted : Trace Tally → Course BuildStatus
 counted steps = counted_as steps.calls steps.end
 
 -- a generated project is built beside the host, without a file of it
-pub record IsCount (s : Site) (result : Result Finished RunEnd) (before after : Outside) : Type 0 where
+pub record IsCount (s : Site) (result : Result Finished ProgramEnd) (before after : Outside) : Type 0 where
   pub builds : List Build
   pub so : AreSo s builds result
   pub meets : Meets (counted (working builds s empty) before.files) (verdict_in result) before after

@@ -10,10 +10,10 @@ use Rattle.em_host.specs.Calls.{printed_by, files_after, Makes, FailsIn}
 use Rattle.em_engine.specs.declared.note.Note.{Note}
 use Rattle.em_workers.specs.Printing.{RunsOut}
 use Rattle.em_program.specs.declared.build.Finished.{Finished}
-use Rattle.em_program.specs.declared.rounds.NextBuild.{NextBuild}
+use Rattle.em_program.specs.declared.rounds.BuildStep.{BuildStep}
 use Rattle.em_program.specs.declared.verdict.BuildStatus.{BuildStatus}
-use Rattle.em_program.specs.declared.stop.RunEnd.{RunEnd}
-use Rattle.em_program.specs.declared.stop.RunEnd.TheVariants.{End, Failed, NoMemory}
+use Rattle.em_program.specs.declared.stop.ProgramEnd.{ProgramEnd}
+use Rattle.em_program.specs.declared.stop.ProgramEnd.TheVariants.{End, Failed, NoMemory}
 use Rattle.em_program.specs.Statuses.{code_of}
 use Rattle.em_program.specs.Course.{Trace, ◌>>=◌, Meets}
 use Rattle.em_program.specs.Endings.{ended, verdict_in, notes_of, AllAt, AreAll, AreRun, IsOver}
@@ -25,7 +25,7 @@ verdict_of (Ok verdict) = verdict
 verdict_of (Err verdict) = verdict
 
 -- the status of a run that answered so
-abbrev pub exit_status : Result BuildStatus RunEnd → ℕ
+abbrev pub exit_status : Result BuildStatus ProgramEnd → ℕ
 exit_status (Ok verdict) = code_of verdict
 exit_status (Err (End verdict)) = code_of verdict
 exit_status (Err Failed) = 3
@@ -48,12 +48,12 @@ pub record Comes (ending : Trace BuildStatus) (code : ℕ) (before after : Outsi
   pub cut : (code ≡ 3) ⊎ (code ≡ 7) → IsCut ending.calls before after
 
 -- the first build of the words, or why there is none
-abbrev pub first_in : List (List ℕ) → Files → Result NextBuild BuildStatus
+abbrev pub first_in : List (List ℕ) → Files → Result BuildStep BuildStatus
 first_in words files = ((site words >>= first) files).end
 
 -- a fact of it, where nothing is refused before it
-abbrev pub Built : List (List ℕ) → Files → (NextBuild → Type 0) → Type 0
-Built words files P = (st : NextBuild) → first_in words files ≡ Ok st → P st
+abbrev pub Built : List (List ℕ) → Files → (BuildStep → Type 0) → Type 0
+Built words files P = (st : BuildStep) → first_in words files ≡ Ok st → P st
 
 -- the notes of all builds, unless the run was refused
 abbrev pub told_of : List Build → Result BuildStatus BuildStatus → List Note
@@ -61,7 +61,7 @@ told_of builds (Ok verdict) = notes_of builds
 told_of builds (Err verdict) = []
 
 -- the same of what a run answered
-pub record Reaches (words : List (List ℕ)) (result : Result Finished RunEnd) (before after : Outside) : Type 0 where
+pub record Reaches (words : List (List ℕ)) (result : Result Finished ProgramEnd) (before after : Outside) : Type 0 where
   pub builds : List Build
   pub run : Built words before.files (AreRun builds)
   pub all : IsOver result → AllAt builds (first_in words before.files) (AreAll builds)

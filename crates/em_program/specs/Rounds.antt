@@ -34,7 +34,7 @@ use Rattle.em_nesting.specs.Nested.{MakesAll}
 use Rattle.em_program.specs.declared.project.Project.{Project}
 use Rattle.em_program.specs.declared.project.Terms.{Terms}
 use Rattle.em_program.specs.declared.rounds.Remaking.{Remaking}
-use Rattle.em_program.specs.declared.rounds.NextBuild.{NextBuild}
+use Rattle.em_program.specs.declared.rounds.BuildStep.{BuildStep}
 use Rattle.em_program.specs.declared.site.Earlier.{Earlier}
 use Rattle.em_program.specs.declared.site.Site.{Site}
 use Rattle.em_program.specs.declared.verdict.BuildStatus.TheVariants.{Faulty}
@@ -77,7 +77,7 @@ round_order o goals = record o { goals = goals; dry = false; question = false; a
 -- ---- the builds
 
 -- the build of the goals
-abbrev pub final : Site → List ℕ → Round → Course NextBuild
+abbrev pub final : Site → List ℕ → Round → Course BuildStep
 final s cwd r = do
   u ← all_there s.start.tree cwd r.missing
   v ← based s.start.tree
@@ -85,17 +85,17 @@ final s cwd r = do
   done (record { project = p; remaking = None })
 
 -- the build of makefiles
-abbrev pub remade : ℕ → Site → List ℕ → Round → List (List ℕ) → Course NextBuild
+abbrev pub remade : ℕ → Site → List ℕ → Round → List (List ℕ) → Course BuildStep
 remade left s cwd r goals = do
   p ← project_at (record s { order = round_order s.order goals }) r.book cwd
   done (record { project = p; remaking = Some (record { order = s.order; cwd = cwd; round = r; goals = goals; before = s.start.tree; left = left }) })
 
-abbrev pub by_goals : ℕ → Site → List ℕ → Round → List (List ℕ) → Course NextBuild
+abbrev pub by_goals : ℕ → Site → List ℕ → Round → List (List ℕ) → Course BuildStep
 by_goals left s cwd r [] = final s cwd r
 by_goals left s cwd r (g ∷ gs) = remade left s cwd r (g ∷ gs)
 
 -- a reading, and what is built behind it
-unfoldable pub round : ℕ → Site → List ℕ → Course NextBuild
+unfoldable pub round : ℕ → Site → List ℕ → Course BuildStep
 round zero s cwd = stop still_changing Faulty
 round (suc left) s cwd = do
   u ← based s.start.tree
@@ -103,7 +103,7 @@ round (suc left) s cwd = do
   by_goals left s cwd r (goals_of r s.start.tree cwd)
 
 -- there are at most eight rounds
-abbrev pub first : Site → Course NextBuild
+abbrev pub first : Site → Course BuildStep
 first s = do
   cwd ← entered s.start.tree s.order.dir
   round 8 s cwd
@@ -142,15 +142,15 @@ moved order t s notes = record {
 }
 
 -- a makefile's stamp is another one: the next round; else the build of the goals
-abbrev pub following : Remaking → Site → Course NextBuild
+abbrev pub following : Remaking → Site → Course BuildStep
 following m s = if changed m.before s.start.tree m.goals m.cwd then round m.left s m.cwd else final s m.cwd m.round
 
-abbrev pub goes_by : Option Remaking → Project → Build → Option (Course NextBuild)
+abbrev pub goes_by : Option Remaking → Project → Build → Option (Course BuildStep)
 goes_by None p b = None
 goes_by (Some m) p b = if is_early p b then None else Some (following m (moved m.order p.terms (left_by p b) b.notes))
 
 -- nothing behind the goals, nor behind a job that ended the run
-abbrev pub goes_on : NextBuild → Build → Option (Course NextBuild)
+abbrev pub goes_on : BuildStep → Build → Option (Course BuildStep)
 goes_on st b = goes_by st.remaking st.project b
 
 -- ---- what a step is made of
@@ -163,13 +163,13 @@ rank_of (Some m) = suc m.left
 abbrev pub IsOrder : Order → Type 0
 IsOrder order = HasRanges order × (read_fault root_text order.dir ≡ None)
 
-pub record IsStep (st : NextBuild) : Type 0 where
+pub record IsStep (st : BuildStep) : Type 0 where
   pub ready : IsReady st.project
   -- the words' order, of which a directory is a path
   pub order : IfSome st.remaking (λ m. IsOrder m.order)
 
 -- behind builds that have done this, with so many rounds that may begin
-pub record IsNext (past : Earlier) (most : ℕ) (st : NextBuild) : Type 0 where
+pub record IsNext (past : Earlier) (most : ℕ) (st : BuildStep) : Type 0 where
   pub step : IsStep st
   pub earlier : st.project.terms.earlier ≡ past
   pub left : rank_of st.remaking ≤ most

@@ -9,10 +9,10 @@ ghost use Rattle.em_program.specs.Rounds.{IsStep};
 
 use crate::ending::finish;
 use crate::project::{Project, Terms};
-use crate::rounds::{NextBuild, behind, joined};
+use crate::rounds::{BuildStep, behind, joined};
 use crate::site::Earlier;
 use crate::status::has_ended;
-use crate::stop::RunEnd;
+use crate::stop::ProgramEnd;
 use crate::verdict::BuildStatus;
 use em_base::{NoMemory, Seq};
 use em_engine::Note;
@@ -62,7 +62,7 @@ fn ran<R: Threads + Wait + Sync, W: Work<MakeSpec> + Sync, G: Gate + Sync, H: Ho
     w: &W,
     gate: &G,
     host: &mut H,
-) -> Result<JobsDone, RunEnd>
+) -> Result<JobsDone, ProgramEnd>
     requires { IsReady project }
     ensures ran { IsRan project result (H.told host.old) (H.told host.new) }
     ensures faults { H.faults host.new ≡ faults_after result (H.faults host.old) }
@@ -85,7 +85,7 @@ fn ended<H: Host>(
     early: bool,
     done: JobsDone,
     host: &mut H,
-) -> Result<Finished, RunEnd>
+) -> Result<Finished, ProgramEnd>
     ensures told { Follows
         (endings.last_by done.terms done.built.notes asked done.built.fuel early done.built.state)
         (tally_in result) (H.told host.old) (H.told host.new) }
@@ -137,14 +137,14 @@ fn ended<H: Host>(
 pub fn run_from<R: Threads + Wait + Sync, H: Host>(
     rt: &R,
     alloc: Global,
-    step: NextBuild,
+    step: BuildStep,
     host: &mut H,
-) -> Result<Finished, RunEnd>
+) -> Result<Finished, ProgramEnd>
     requires { IsStep step }
     ensures told { Tells (IsRun step result) (H.told host.old) (H.told host.new) }
     ensures faults { H.faults host.new ≡ faults_after result (H.faults host.old) }
 {
-    let NextBuild { project, remaking } = step;
+    let BuildStep { project, remaking } = step;
     let work = MakeWork::new();
     let done = ran(rt, alloc, project, &work, &OpenGate, host)?;
     let early = has_ended(&done.terms.order, done.built.state.outcomes.items());

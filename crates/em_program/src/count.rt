@@ -11,7 +11,7 @@ use crate::build::{Finished, run_from};
 use crate::rounds::first;
 use crate::say::{say, stop};
 use crate::site::Site;
-use crate::stop::RunEnd;
+use crate::stop::ProgramEnd;
 use em_base::{NoMemory, Text};
 use em_host::{Host, MemHost};
 use itoa::Buffer;
@@ -45,7 +45,7 @@ pub fn work<R: Threads + Wait + Sync, H: Host>(
     alloc: Global,
     site: Site,
     host: &mut H,
-) -> Result<Finished, RunEnd>
+) -> Result<Finished, ProgramEnd>
     requires { IsSite site }
     ensures told { Tells (IsWork site result) (H.told host.old) (H.told host.new) }
     ensures faults { H.faults host.new ≡ faults_after result (H.faults host.old) }
@@ -61,7 +61,7 @@ pub fn count<R: Threads + Wait + Sync, H: Host>(
     alloc: Global,
     site: Site,
     host: &mut H,
-) -> Result<Finished, RunEnd>
+) -> Result<Finished, ProgramEnd>
     requires { IsSite site }
     ensures told { Tells (IsCount site result) (H.told host.old) (H.told host.new) }
     ensures faults { H.faults host.new ≡ faults_after result (H.faults host.old) }
@@ -73,7 +73,7 @@ pub fn count<R: Threads + Wait + Sync, H: Host>(
             say(host, line.bytes())?;
             Ok(finished)
         }
-        Err(RunEnd::End(verdict)) => stop(host, quiet.printed(), verdict),
-        Err(_) => Err(RunEnd::NoMemory),
+        Err(ProgramEnd::End(verdict)) => stop(host, quiet.printed(), verdict),
+        Err(_) => Err(ProgramEnd::NoMemory),
     }
 }

@@ -11,7 +11,7 @@ use crate::project::Terms;
 use crate::rounds::shown_by;
 use crate::say::{keep, say};
 use crate::status::status_of;
-use crate::stop::RunEnd;
+use crate::stop::ProgramEnd;
 use crate::verdict::BuildStatus;
 use em_base::{NoMemory, Seq, Text};
 use em_closing::closing_text;
@@ -41,7 +41,7 @@ fn close<H: Host>(
     earlier: &[Outcome],
     state: &State,
     host: &mut H,
-) -> Result<BuildStatus, RunEnd>
+) -> Result<BuildStatus, ProgramEnd>
     ensures told { Follows
         (endings.closed image.now text earlier.now state.now (endings.written state.now))
         result (H.told host.old) (H.told host.new) }
@@ -55,7 +55,7 @@ fn close<H: Host>(
             Ok(status_of(false, false, earlier, outcomes))
         }
         Err(no) => match no {
-            ImageNo::NoMemory => Err(RunEnd::NoMemory),
+            ImageNo::NoMemory => Err(ProgramEnd::NoMemory),
             _ => {
                 let last = refused_closing(alloc, text, no)?;
                 say(host, last.bytes())?;
@@ -80,7 +80,7 @@ fn keep_known<H: Host>(
     terms: &Terms,
     notes: &Seq<Note>,
     host: &mut H,
-) -> Result<(), RunEnd>
+) -> Result<(), ProgramEnd>
     ensures told { Follows
         (endings.kept terms.now.order.history (endings.history_text terms.now notes.now))
         result (H.told host.old) (H.told host.new) }
@@ -101,7 +101,7 @@ fn keep_history<H: Host>(
     terms: &Terms,
     notes: &Seq<Note>,
     host: &mut H,
-) -> Result<(), RunEnd>
+) -> Result<(), ProgramEnd>
     ensures told { Follows (endings.history_kept terms.now notes.now terms.now.order.mode) result
         (H.told host.old) (H.told host.new) }
     ensures faults { H.faults host.new ≡ faults_after result (H.faults host.old) }
@@ -138,7 +138,7 @@ fn keep_report<H: Host>(
     fuel: &Seq<u64>,
     verdict: BuildStatus,
     host: &mut H,
-) -> Result<(), RunEnd>
+) -> Result<(), ProgramEnd>
     ensures told { Follows (endings.report_kept terms.now notes.now fuel.now verdict) result
         (H.told host.old) (H.told host.new) }
     ensures faults { H.faults host.new ≡ faults_after result (H.faults host.old) }
@@ -162,7 +162,7 @@ fn replace_all<H: Host>(
     text: Text,
     state: &State,
     host: &mut H,
-) -> Result<BuildStatus, RunEnd>
+) -> Result<BuildStatus, ProgramEnd>
     ensures told { Follows
         (endings.replaced terms.now notes.now terms.now.order.image fuel.now text state.now)
         result (H.told host.old) (H.told host.new) }
@@ -194,7 +194,7 @@ pub fn finish<H: Host>(
     early: bool,
     state: &State,
     host: &mut H,
-) -> Result<BuildStatus, RunEnd>
+) -> Result<BuildStatus, ProgramEnd>
     ensures told { Follows
         (endings.finish terms.now notes.now asked fuel.now early state.now) result
         (H.told host.old) (H.told host.new) }

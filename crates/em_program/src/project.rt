@@ -9,7 +9,7 @@ ghost use Rattle.em_program.specs.Projects.{HasRoom, IsReady, IsSite};
 
 use crate::say::{say, stop};
 use crate::site::{Earlier, Site};
-use crate::stop::RunEnd;
+use crate::stop::ProgramEnd;
 use crate::verdict::BuildStatus;
 use em_base::{NoMemory, Seq, Text};
 use em_closing::{Goal, dir_line, fault_line, goals_of, plan_line};
@@ -51,7 +51,7 @@ pub struct Project {
 }
 
 /// The refusal of `-C`.
-fn no_dir<H: Host>(alloc: Global, name: &[u8], host: &mut H) -> Result<Path, RunEnd>
+fn no_dir<H: Host>(alloc: Global, name: &[u8], host: &mut H) -> Result<Path, ProgramEnd>
     ensures told { Follows (projects.no_dir name.now) result (H.told host.old) (H.told host.new) }
     ensures faults { H.faults host.new ≡ faults_after result (H.faults host.old) }
     ensures ends { IsErr result }
@@ -67,7 +67,7 @@ pub fn entered<H: Host>(
     tree: &Tree,
     name: &[u8],
     host: &mut H,
-) -> Result<Path, RunEnd>
+) -> Result<Path, ProgramEnd>
     ensures told { Follows (projects.entered tree.now name.now) result
         (H.told host.old) (H.told host.new) }
     ensures faults { H.faults host.new ≡ faults_after result (H.faults host.old) }
@@ -82,7 +82,7 @@ pub fn entered<H: Host>(
             }
         }
         Err(no) => match no {
-            PathNo::NoMemory => Err(RunEnd::NoMemory),
+            PathNo::NoMemory => Err(ProgramEnd::NoMemory),
             _ => no_dir(alloc, name, host),
         },
     }
@@ -95,7 +95,7 @@ pub fn round_of<H: Host>(
     order: &Order,
     start: &State,
     host: &mut H,
-) -> Result<Round, RunEnd>
+) -> Result<Round, ProgramEnd>
     requires { read_fault root_text order.now.dir ≡ None }
     ensures told { Follows (projects.round_of order.now start.now) result
         (H.told host.old) (H.told host.new) }
@@ -108,7 +108,7 @@ pub fn round_of<H: Host>(
             Ok(round)
         }
         Err(no) => match no {
-            ReadNo::NoMemory => Err(RunEnd::NoMemory),
+            ReadNo::NoMemory => Err(ProgramEnd::NoMemory),
             ReadNo::At(place, fault) => {
                 let line = fault_line(alloc, &place, &fault)?;
                 say(host, said.bytes())?;
@@ -126,7 +126,7 @@ fn planned<H: Host>(
     tree: &Tree,
     cwd: &Path,
     host: &mut H,
-) -> Result<Plan, RunEnd>
+) -> Result<Plan, ProgramEnd>
     ensures told { Follows (projects.planned book.now order.now tree.now cwd.now) result
         (H.told host.old) (H.told host.new) }
     ensures faults { H.faults host.new ≡ faults_after result (H.faults host.old) }
@@ -141,7 +141,7 @@ fn planned<H: Host>(
             Ok(plan)
         }
         Err(no) => match no {
-            PlanNo::NoMemory => Err(RunEnd::NoMemory),
+            PlanNo::NoMemory => Err(ProgramEnd::NoMemory),
             _ => {
                 let line = plan_line(alloc, book.found, no)?;
                 stop(host, line.bytes(), BuildStatus::Faulty)
@@ -191,7 +191,7 @@ pub fn project_at<H: Host>(
     book: &Book,
     cwd: &Path,
     host: &mut H,
-) -> Result<Project, RunEnd>
+) -> Result<Project, ProgramEnd>
     requires site { IsSite site }
     requires room { HasRoom site.start.tree }
     requires dir { read_fault root_text site.order.dir ≡ None }

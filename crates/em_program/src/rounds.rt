@@ -11,7 +11,7 @@ use crate::messages::{STILL_CHANGING, image_line};
 use crate::project::{Project, Terms, entered, project_at, round_of};
 use crate::say::stop;
 use crate::site::{Earlier, Site, fresh};
-use crate::stop::RunEnd;
+use crate::stop::ProgramEnd;
 use crate::verdict::BuildStatus;
 use em_base::{NoMemory, Seq, Text};
 use em_closing::fault_line;
@@ -52,7 +52,7 @@ pub struct Remaking {
 
 /// What is built next.
 #[derive(Drop)]
-pub struct NextBuild {
+pub struct BuildStep {
     pub project: Project,
     /// The round for which it is built; the goals of the words, where it is none.
     pub remaking: Option<Remaking>,
@@ -61,7 +61,7 @@ pub struct NextBuild {
 // ---- what a round begins with, and what follows the last one
 
 /// Whether numbers are left for the changes of a build on the tree. Linear in the nodes.
-fn based<H: Host>(alloc: Global, tree: &Tree, host: &mut H) -> Result<(), RunEnd>
+fn based<H: Host>(alloc: Global, tree: &Tree, host: &mut H) -> Result<(), ProgramEnd>
     ensures told { Follows (rounds.based tree.now) result (H.told host.old) (H.told host.new) }
     ensures faults { H.faults host.new ≡ faults_after result (H.faults host.old) }
     ensures room { IfOk result (λ u. HasRoom tree.now) }
@@ -122,7 +122,7 @@ fn all_there<H: Host>(
     cwd: &Path,
     missing: &[Missing],
     host: &mut H,
-) -> Result<(), RunEnd>
+) -> Result<(), ProgramEnd>
     ensures told { Follows (rounds.all_there tree.now cwd.now missing.now) result
         (H.told host.old) (H.told host.new) }
     ensures faults { H.faults host.new ≡ faults_after result (H.faults host.old) }
@@ -195,7 +195,7 @@ fn last_step<H: Host>(
     cwd: &Path,
     round: &Round,
     host: &mut H,
-) -> Result<NextBuild, RunEnd>
+) -> Result<BuildStep, ProgramEnd>
     requires site { IsSite site }
     requires order { IsOrder site.order }
     ensures told { Follows (rounds.final site cwd.now round.now) result
@@ -206,7 +206,7 @@ fn last_step<H: Host>(
     all_there(alloc, &site.start.tree, cwd, round.missing.items(), host)?;
     based(alloc, &site.start.tree, host)?;
     let project = project_at(alloc, site, &round.book, cwd, host)?;
-    Ok(NextBuild {
+    Ok(BuildStep {
         project,
         remaking: None,
     })
@@ -221,7 +221,7 @@ fn remade_step<H: Host>(
     round: Round,
     goals: Seq<Text>,
     host: &mut H,
-) -> Result<NextBuild, RunEnd>
+) -> Result<BuildStep, ProgramEnd>
     requires site { IsSite site }
     requires order { IsOrder site.order }
     requires room { HasRoom site.start.tree }
@@ -252,7 +252,7 @@ fn remade_step<H: Host>(
         before,
         left,
     };
-    Ok(NextBuild {
+    Ok(BuildStep {
         project,
         remaking: Some(remaking),
     })
@@ -265,7 +265,7 @@ fn round<H: Host>(
     site: Site,
     cwd: Path,
     host: &mut H,
-) -> Result<NextBuild, RunEnd>
+) -> Result<BuildStep, ProgramEnd>
     requires site { IsSite site }
     requires order { IsOrder site.order }
     ensures told { Follows (rounds.round left site cwd) result (H.told host.old) (H.told host.new) }
@@ -286,7 +286,7 @@ fn round<H: Host>(
 
 /// The first build at the site. It takes what reading and planning take, and a copy of the tree
 /// where makefiles are to be made.
-pub fn first<H: Host>(alloc: Global, site: Site, host: &mut H) -> Result<NextBuild, RunEnd>
+pub fn first<H: Host>(alloc: Global, site: Site, host: &mut H) -> Result<BuildStep, ProgramEnd>
     requires { IsSite site }
     ensures told { Follows (rounds.first site) result (H.told host.old) (H.told host.new) }
     ensures faults { H.faults host.new ≡ faults_after result (H.faults host.old) }
@@ -368,7 +368,7 @@ pub fn behind<H: Host>(
     remaking: Remaking,
     done: JobsDone,
     host: &mut H,
-) -> Result<NextBuild, RunEnd>
+) -> Result<BuildStep, ProgramEnd>
     requires { IsOrder remaking.order }
     ensures told { Follows (rounds.following remaking
         (rounds.moved remaking.order done.terms done.built.state done.built.notes)) result

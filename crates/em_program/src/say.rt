@@ -2,14 +2,14 @@
 ghost use Rattle.std.specs.Prelude.{◌≡◌, IsErr};
 ghost use Rattle.em_program.specs.Course.{say, take, keep, stop, Follows, faults_after};
 
-use crate::stop::RunEnd;
+use crate::stop::ProgramEnd;
 use crate::verdict::BuildStatus;
 use em_base::Text;
 use em_host::Host;
 use std::alloc::Global;
 
 /// Prints a text, unless it is empty.
-pub fn say<H: Host>(host: &mut H, text: &[u8]) -> Result<(), RunEnd>
+pub fn say<H: Host>(host: &mut H, text: &[u8]) -> Result<(), ProgramEnd>
     ensures told { Follows (say text.now) result (H.told host.old) (H.told host.new) }
     ensures faults { H.faults host.new ≡ faults_after result (H.faults host.old) }
 {
@@ -21,17 +21,17 @@ pub fn say<H: Host>(host: &mut H, text: &[u8]) -> Result<(), RunEnd>
 }
 
 /// Prints the last text of a run, which ends so.
-pub fn stop<H: Host, T>(host: &mut H, text: &[u8], verdict: BuildStatus) -> Result<T, RunEnd>
+pub fn stop<H: Host, T>(host: &mut H, text: &[u8], verdict: BuildStatus) -> Result<T, ProgramEnd>
     ensures told { Follows (stop text.now verdict) result (H.told host.old) (H.told host.new) }
     ensures ends { IsErr result }
     ensures faults { H.faults host.new ≡ faults_after result (H.faults host.old) }
 {
     say(host, text)?;
-    Err(RunEnd::End(verdict))
+    Err(ProgramEnd::End(verdict))
 }
 
 /// The bytes of a file of the host, where there is one.
-pub fn take<H: Host>(alloc: Global, host: &mut H, name: &[u8]) -> Result<Option<Text>, RunEnd>
+pub fn take<H: Host>(alloc: Global, host: &mut H, name: &[u8]) -> Result<Option<Text>, ProgramEnd>
     ensures told { Follows (take name.now) result (H.told host.old) (H.told host.new) }
     ensures faults { H.faults host.new ≡ faults_after result (H.faults host.old) }
 {
@@ -42,7 +42,12 @@ pub fn take<H: Host>(alloc: Global, host: &mut H, name: &[u8]) -> Result<Option<
 }
 
 /// Makes a file of the host these bytes.
-pub fn keep<H: Host>(alloc: Global, host: &mut H, name: &[u8], bytes: &[u8]) -> Result<(), RunEnd>
+pub fn keep<H: Host>(
+    alloc: Global,
+    host: &mut H,
+    name: &[u8],
+    bytes: &[u8],
+) -> Result<(), ProgramEnd>
     ensures told { Follows (keep name.now bytes.now) result (H.told host.old) (H.told host.new) }
     ensures faults { H.faults host.new ≡ faults_after result (H.faults host.old) }
 {

@@ -7,7 +7,7 @@ ghost use Rattle.em_program.specs.Projects as projects;
 use crate::explain::explained;
 use crate::messages::{BAD_WORDS, NO_IMAGE, image_line};
 use crate::say::{stop, take};
-use crate::stop::RunEnd;
+use crate::stop::ProgramEnd;
 use crate::verdict::BuildStatus;
 use crate::words::ordered;
 use em_base::{NoMemory, Seq, Text};
@@ -43,7 +43,7 @@ pub struct Site {
 }
 
 /// The image's bytes.
-fn image_in<H: Host>(alloc: Global, name: &[u8], host: &mut H) -> Result<Text, RunEnd>
+fn image_in<H: Host>(alloc: Global, name: &[u8], host: &mut H) -> Result<Text, ProgramEnd>
     ensures told { Follows (projects.image_in name.now) result (H.told host.old) (H.told host.new) }
     ensures faults { H.faults host.new ≡ faults_after result (H.faults host.old) }
 {
@@ -54,14 +54,14 @@ fn image_in<H: Host>(alloc: Global, name: &[u8], host: &mut H) -> Result<Text, R
 }
 
 /// The tree that the image holds. No byte is copied.
-fn tree_of<H: Host>(alloc: Global, bytes: Text, host: &mut H) -> Result<Tree, RunEnd>
+fn tree_of<H: Host>(alloc: Global, bytes: Text, host: &mut H) -> Result<Tree, ProgramEnd>
     ensures told { Follows (projects.tree_of bytes) result (H.told host.old) (H.told host.new) }
     ensures faults { H.faults host.new ≡ faults_after result (H.faults host.old) }
 {
     match read_text(alloc, bytes) {
         Ok(tree) => Ok(tree),
         Err(no) => match no {
-            ImageNo::NoMemory => Err(RunEnd::NoMemory),
+            ImageNo::NoMemory => Err(ProgramEnd::NoMemory),
             _ => {
                 let line = image_line(alloc, no)?;
                 stop(host, line.bytes(), BuildStatus::Faulty)
@@ -71,7 +71,7 @@ fn tree_of<H: Host>(alloc: Global, bytes: Text, host: &mut H) -> Result<Tree, Ru
 }
 
 /// The tree from which the build starts: a generated project's, or the image's.
-fn tree_in<H: Host>(alloc: Global, order: &Order, host: &mut H) -> Result<Tree, RunEnd>
+fn tree_in<H: Host>(alloc: Global, order: &Order, host: &mut H) -> Result<Tree, ProgramEnd>
     requires { HasRanges order.now }
     ensures told { Follows (projects.tree_in order.now.generate order.now.image) result
         (H.told host.old) (H.told host.new) }
@@ -103,7 +103,7 @@ fn recalled_from<H: Host>(
     alloc: Global,
     name: &Option<Text>,
     host: &mut H,
-) -> Result<History, RunEnd>
+) -> Result<History, ProgramEnd>
     ensures told { Follows (projects.recalled_from name.now) result (H.told host.old)
         (H.told host.new) }
     ensures faults { H.faults host.new ≡ faults_after result (H.faults host.old) }
@@ -118,7 +118,7 @@ fn recalled_from<H: Host>(
 }
 
 /// What is known of earlier builds. Where it begins anew the file isn't looked at.
-fn recalled<H: Host>(alloc: Global, order: &Order, host: &mut H) -> Result<History, RunEnd>
+fn recalled<H: Host>(alloc: Global, order: &Order, host: &mut H) -> Result<History, ProgramEnd>
     ensures told { Follows (projects.recalled order.now.mode order.now.history) result
         (H.told host.old) (H.told host.new) }
     ensures faults { H.faults host.new ≡ faults_after result (H.faults host.old) }
@@ -142,7 +142,7 @@ pub fn fresh(alloc: Global, tree: Tree) -> State
 
 /// Where the words order to build; a page and an explanation end the run before. Linear in the
 /// image and in the history.
-pub fn site_of<H: Host>(alloc: Global, words: &[Text], host: &mut H) -> Result<Site, RunEnd>
+pub fn site_of<H: Host>(alloc: Global, words: &[Text], host: &mut H) -> Result<Site, ProgramEnd>
     ensures told { Follows (projects.site words.now) result (H.told host.old) (H.told host.new) }
     ensures faults { H.faults host.new ≡ faults_after result (H.faults host.old) }
     ensures is { IfOk result projects.IsSite }

@@ -1,6 +1,6 @@
 //! Why a part of a run gives no value.
 ghost use Rattle.std.specs.Prelude.{◌≡◌};
-ghost use Rattle.em_program.specs.declared.stop.RunEnd.TheVariants as stop;
+ghost use Rattle.em_program.specs.declared.stop.ProgramEnd.TheVariants as stop;
 
 use crate::verdict::BuildStatus;
 use em_base::NoMemory;
@@ -9,7 +9,7 @@ use em_workers::BuildNo;
 
 /// Why a part of a run gives no value.
 #[derive(Clone, Copy, Debug, PartialEq, Eq)]
-pub enum RunEnd {
+pub enum ProgramEnd {
     /// The run has ended so, and its last text was said.
     End(BuildStatus),
     /// A call on the host failed.
@@ -17,36 +17,36 @@ pub enum RunEnd {
     NoMemory,
 }
 
-impl From<NoMemory> for RunEnd {
+impl From<NoMemory> for ProgramEnd {
     ghost from_gives = { λ _ e. e ≡ stop.NoMemory };
 
-    fn from(_e: NoMemory) -> RunEnd {
-        RunEnd::NoMemory
+    fn from(_e: NoMemory) -> ProgramEnd {
+        ProgramEnd::NoMemory
     }
 }
 
-impl From<HostNo> for RunEnd {
+impl From<HostNo> for ProgramEnd {
     ghost use Rattle.em_program.specs.Course.{stop_of};
 
     ghost from_gives = { λ no e. e ≡ stop_of no };
 
-    fn from(no: HostNo) -> RunEnd {
+    fn from(no: HostNo) -> ProgramEnd {
         match no {
-            HostNo::Failed => RunEnd::Failed,
-            HostNo::NoMemory => RunEnd::NoMemory,
+            HostNo::Failed => ProgramEnd::Failed,
+            HostNo::NoMemory => ProgramEnd::NoMemory,
         }
     }
 }
 
-impl From<BuildNo> for RunEnd {
+impl From<BuildNo> for ProgramEnd {
     ghost use Rattle.em_program.specs.Course.{stop_of_build};
 
     ghost from_gives = { λ no e. e ≡ stop_of_build no };
 
-    fn from(no: BuildNo) -> RunEnd {
+    fn from(no: BuildNo) -> ProgramEnd {
         match no {
-            BuildNo::Host => RunEnd::Failed,
-            BuildNo::NoMemory => RunEnd::NoMemory,
+            BuildNo::Host => ProgramEnd::Failed,
+            BuildNo::NoMemory => ProgramEnd::NoMemory,
         }
     }
 }

@@ -27,7 +27,7 @@ ghost use Rattle.em_program.specs.Words.{words_of};
 use crate::build::Finished;
 use crate::count::{count, work};
 use crate::site::site_of;
-use crate::stop::RunEnd;
+use crate::stop::ProgramEnd;
 use crate::words::{behind_first, given_words};
 use em_base::{NoMemory, Seq, Text};
 use em_engine::Note;
@@ -60,7 +60,7 @@ fn run<R: Threads + Wait + Sync, H: Host>(
     alloc: Global,
     words: &[Text],
     host: &mut H,
-) -> Result<Finished, RunEnd>
+) -> Result<Finished, ProgramEnd>
     ensures told { Tells (Reaches words.now result) (H.told host.old) (H.told host.new) }
     ensures faults { H.faults host.new ≡ faults_after result (H.faults host.old) }
 {
@@ -71,19 +71,19 @@ fn run<R: Threads + Wait + Sync, H: Host>(
     }
 }
 
-fn exit_status(answer: &Result<Finished, RunEnd>) -> u8
+fn exit_status(answer: &Result<Finished, ProgramEnd>) -> u8
     ensures { result ≡ exit_status (verdict_in answer.now) }
 {
     match answer {
         Ok(finished) => finished.verdict.code(),
-        Err(RunEnd::End(verdict)) => verdict.code(),
-        Err(RunEnd::Failed) => 3,
-        Err(RunEnd::NoMemory) => 7,
+        Err(ProgramEnd::End(verdict)) => verdict.code(),
+        Err(ProgramEnd::Failed) => 3,
+        Err(ProgramEnd::NoMemory) => 7,
     }
 }
 
 /// The notes, none where the run broke off.
-fn notes_in(alloc: Global, answer: Result<Finished, RunEnd>) -> Seq<Note>
+fn notes_in(alloc: Global, answer: Result<Finished, ProgramEnd>) -> Seq<Note>
     ensures { result ≡ notes_in answer }
 {
     match answer {
@@ -137,7 +137,8 @@ pub fn emake<R: Threads + Wait + Sync, H: Host>(
 /// Jobs have one serial run at most, and jobs that have run so are a front of it.
 pub fn law_one_build()
     ensures front { (start : State) (jobs : List Job) (a b : List Made)
-        → Ran MakesAll ends start jobs a → IsSerial MakesAll ends start jobs b → a ≡ take (length a) b }
+        → Ran MakesAll ends start jobs a → IsSerial MakesAll ends start jobs b
+        → a ≡ take (length a) b }
     ensures one { (start : State) (jobs : List Job) (a b : List Made)
         → IsSerial MakesAll ends start jobs a → IsSerial MakesAll ends start jobs b → a ≡ b }
 {

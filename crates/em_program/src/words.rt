@@ -8,7 +8,7 @@ ghost use Rattle.em_program.specs.Words as words;
 ghost use Rattle.em_program.specs.Words.{words_of, unread, ordered, read};
 
 use crate::say::stop;
-use crate::stop::RunEnd;
+use crate::stop::ProgramEnd;
 use crate::verdict::BuildStatus;
 use em_base::{NoMemory, Seq, Text};
 use em_closing::word_line;
@@ -79,14 +79,14 @@ fn aimed(alloc: Global, order: Order) -> Result<Order, NoMemory>
 }
 
 /// What the words order, where they ask for no page.
-fn read<H: Host>(alloc: Global, words: &[Text], host: &mut H) -> Result<Order, RunEnd>
+fn read<H: Host>(alloc: Global, words: &[Text], host: &mut H) -> Result<Order, ProgramEnd>
     ensures told { Follows (read words.now) result (H.told host.old) (H.told host.new) }
     ensures faults { H.faults host.new ≡ faults_after result (H.faults host.old) }
     ensures ranges { IfOk result HasRanges }
 {
     match read_words(alloc, words) {
         Ok(order) => Ok(aimed(alloc, order)?),
-        Err(WordNo::NoMemory) => Err(RunEnd::NoMemory),
+        Err(WordNo::NoMemory) => Err(ProgramEnd::NoMemory),
         Err(no) => {
             let line = word_line(alloc, &no)?;
             stop(host, line.bytes(), BuildStatus::Faulty)
@@ -95,7 +95,7 @@ fn read<H: Host>(alloc: Global, words: &[Text], host: &mut H) -> Result<Order, R
 }
 
 /// What the words order; `--help` and `--version`, each alone, print a page, which ends the run.
-pub fn ordered<H: Host>(alloc: Global, words: &[Text], host: &mut H) -> Result<Order, RunEnd>
+pub fn ordered<H: Host>(alloc: Global, words: &[Text], host: &mut H) -> Result<Order, ProgramEnd>
     ensures told { Follows (ordered words.now) result (H.told host.old) (H.told host.new) }
     ensures faults { H.faults host.new ≡ faults_after result (H.faults host.old) }
     ensures ranges { IfOk result HasRanges }

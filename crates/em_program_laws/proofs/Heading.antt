@@ -8,7 +8,7 @@ use Rattle.em_tree.specs.Trees.{Table}
 use Rattle.em_image.specs.Image.{limits, broken, image_text}
 use Rattle.em_cmdline.specs.Words.{order_of}
 use Rattle.em_engine.specs.declared.note.Note.{Note}
-use Rattle.em_program.specs.declared.rounds.NextBuild.{NextBuild}
+use Rattle.em_program.specs.declared.rounds.BuildStep.{BuildStep}
 use Rattle.em_program.specs.declared.verdict.BuildStatus.{BuildStatus}
 use Rattle.em_program.specs.Endings.{AllAt, AreAll, ended}
 use Rattle.em_program.specs.Headline.{Headline, first_in}
@@ -22,9 +22,9 @@ module _ (words : List (List ℕ)) (status : ℕ) (notes : List Note) (before af
   pub status_is : status ≢ 3 → status ≢ 7 → status ≡ status_in words h.builds before.files
   status_is a b = h.comes.status a b
 
-  module _ (st : NextBuild) where
+  module _ (st : BuildStep) where
     all_at : status ≢ 3 → status ≢ 7 → first_in words before.files ≡ Ok st → AreAll h.builds st
-    all_at a b given = subst (λ (end : Result NextBuild BuildStatus). AllAt h.builds end (AreAll h.builds)) given (h.all a b)
+    all_at a b given = subst (λ (end : Result BuildStep BuildStatus). AllAt h.builds end (AreAll h.builds)) given (h.all a b)
 
     pub has : (verdict : BuildStatus) → status ≢ 3 → status ≢ 7 → first_in words before.files ≡ Ok st → (ended words h.builds before.files).end ≡ Ok verdict → IsSome (tree_left h.builds st)
     has verdict a b given ends = has_tree words h.builds before.files st (all_at a b given) verdict given ends

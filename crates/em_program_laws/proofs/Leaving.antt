@@ -21,7 +21,7 @@ use Rattle.em_cmdline.specs.Words.{order_of, refusal}
 use Rattle.em_run.specs.Serial.{outputs_of}
 use Rattle.em_engine.specs.declared.note.Note.{Note}
 use Rattle.em_program.specs.declared.project.Terms.{Terms}
-use Rattle.em_program.specs.declared.rounds.NextBuild.{NextBuild}
+use Rattle.em_program.specs.declared.rounds.BuildStep.{BuildStep}
 use Rattle.em_program.specs.declared.site.Site.{Site}
 use Rattle.em_program.specs.declared.verdict.BuildStatus.{BuildStatus}
 use Rattle.em_program.specs.declared.verdict.BuildStatus.TheVariants.{Done, Faulty, Refused, Spent}
@@ -86,7 +86,7 @@ module _ (t : Terms) (notes : List Note) where
       (gives_then (history_kept t notes t.order.mode) _ [] _ tt v (gives_history t.order.mode)
       (gives_then (report_kept t notes fuel v) _ [] [] tt v (gives_kept t.order.report _) (gives_done v)))
 
-module _ (st : NextBuild) (b : Build) where
+module _ (st : BuildStep) (b : Build) where
   abbrev pub text_at : List ℕ
   text_at = closing st.project.terms.order.silent st.project.terms.plan (state_by st.project b).outcomes st.project.terms.goals (is_early st.project b)
 
@@ -149,7 +149,7 @@ module _ (words : List (List ℕ)) where
 
   -- the last build was reached, and the run closed behind it
   pub record IsClosed (m : Course Tally) (f : Files) : Type 0 where
-    pub st : NextBuild
+    pub st : BuildStep
     pub build : Build
     pub on : IsOn words st
     pub unasked : is_asked st ≡ false
@@ -189,7 +189,7 @@ module _ (words : List (List ℕ)) where
   unfolding done
   broken_comes f = inl (record { still = refl; end = λ one. absurd (omega (arith, one)) })
 
-  module _ (st : NextBuild) (b : Build) (f : Files) (on : IsOn words st) where
+  module _ (st : BuildStep) (b : Build) (f : Files) (on : IsOn words st) where
     last_comes : Comes (last_of st b) f
     unfolding done
     last_comes = by_cases (is_asked st) (λ q. Comes (last_of st b) f)
@@ -208,8 +208,8 @@ module _ (words : List (List ℕ)) where
           calm = λ one. unasked_replaced st.project.terms.order.image st.project.terms.earlier.outcomes (state_by st.project b) (sym (ap (λ q. code_of (verdict_by st b q)) q) ∙ one);
         }))
 
-    module _ (later : NextBuild → Course Tally) (comes : (n : NextBuild) → IsOn words n → Comes (later n) f) where
-      next_comes : (o : Option (Course NextBuild)) → goes_on st b ≡ o → Comes (next_or_last later st b o) f
+    module _ (later : BuildStep → Course Tally) (comes : (n : BuildStep) → IsOn words n → Comes (later n) f) where
+      next_comes : (o : Option (Course BuildStep)) → goes_on st b ≡ o → Comes (next_or_last later st b o) f
       next_comes None e = last_comes
       next_comes (Some next) e =
           let good = goes_on_good words st b next on e in
@@ -222,7 +222,7 @@ module _ (words : List (List ℕ)) where
           (λ _. next_comes (goes_on st b) refl)
           (λ _. broken_comes f)
 
-  run_comes : (builds : List Build) (st : NextBuild) (f : Files) → IsOn words st → Comes (run_from builds st) f
+  run_comes : (builds : List Build) (st : BuildStep) (f : Files) → IsOn words st → Comes (run_from builds st) f
   unfolding run_from
   run_comes [] st f on = broken_comes f
   run_comes (b ∷ bs) st f on =
@@ -262,7 +262,7 @@ module _ (builds : List Build) where
 
     -- where nothing is replaced, and where a run is closed
     pub left_by : (R : Files → Type 0) → R f
-        → ((st : NextBuild) (b : Build) → IsOn words st → is_asked st ≡ false → (order_of words).generate ≡ None → R (left (replacing st b) f))
+        → ((st : BuildStep) (b : Build) → IsOn words st → is_asked st ≡ false → (order_of words).generate ≡ None → R (left (replacing st b) f))
         → R (files_left words builds f)
     left_by R same more = in_case (site words f).end (R (files_left words builds f))
         (λ s e. subst R (sym (at_site s e)) (by_size s (site_is words f s e) s.order.generate refl))

@@ -45,7 +45,7 @@ use Rattle.em_plan.specs.declared.planned.Plan.{Plan}
 use Rattle.em_remake.specs.Remaking.{goals_of, changed}
 use Rattle.em_program.specs.declared.project.Project.{Project}
 use Rattle.em_program.specs.declared.rounds.Remaking.{Remaking}
-use Rattle.em_program.specs.declared.rounds.NextBuild.{NextBuild}
+use Rattle.em_program.specs.declared.rounds.BuildStep.{BuildStep}
 use Rattle.em_program.specs.declared.site.Site.{Site}
 use Rattle.em_program.specs.declared.verdict.BuildStatus.TheVariants.{Done, Faulty}
 use Rattle.em_program.specs.Statuses.{code_of}
@@ -171,29 +171,29 @@ module _ (Agree : Files → Files → Type 0) where
   quiet_lacking None = quiet_done Agree tt
   quiet_lacking (Some m) = quiet_stop Agree (Unit {0}) _ Faulty faulty
 
-  quiet_final : (s : Site) (cwd : List ℕ) (r : Round) → IsQuiet Agree NextBuild (final s cwd r)
+  quiet_final : (s : Site) (cwd : List ℕ) (r : Round) → IsQuiet Agree BuildStep (final s cwd r)
   quiet_final s cwd r =
       quiet_then Agree (all_there s.start.tree cwd r.missing) _ (quiet_lacking (find (is_lacking s.start.tree cwd) r.missing)) (λ u.
       quiet_then Agree (based s.start.tree) _ (quiet_based s.start.tree) (λ v.
       quiet_then Agree (project_at s r.book cwd) _ (quiet_project s r.book cwd) (λ p.
       quiet_done Agree _)))
 
-  quiet_goals : (left : ℕ) (s : Site) (cwd : List ℕ) (r : Round) (goals : List (List ℕ)) → IsQuiet Agree NextBuild (by_goals left s cwd r goals)
+  quiet_goals : (left : ℕ) (s : Site) (cwd : List ℕ) (r : Round) (goals : List (List ℕ)) → IsQuiet Agree BuildStep (by_goals left s cwd r goals)
   quiet_goals left s cwd r [] = quiet_final s cwd r
   quiet_goals left s cwd r (g ∷ gs) = quiet_then Agree (project_at (record s { order = round_order s.order (g ∷ gs) }) r.book cwd) _ (quiet_project _ r.book cwd) (λ p. quiet_done Agree _)
 
-  quiet_round : (left : ℕ) (s : Site) (cwd : List ℕ) → IsQuiet Agree NextBuild (round left s cwd)
+  quiet_round : (left : ℕ) (s : Site) (cwd : List ℕ) → IsQuiet Agree BuildStep (round left s cwd)
   unfolding round
-  quiet_round zero s cwd = quiet_stop Agree NextBuild still_changing Faulty faulty
+  quiet_round zero s cwd = quiet_stop Agree BuildStep still_changing Faulty faulty
   quiet_round (suc left) s cwd =
       quiet_then Agree (based s.start.tree) _ (quiet_based s.start.tree) (λ u.
       quiet_then Agree (round_of s.order s.start) _ (quiet_round_of s.order s.start) (λ r.
       quiet_goals left s cwd r (goals_of r s.start.tree cwd)))
 
-  pub quiet_first : (s : Site) → IsQuiet Agree NextBuild (first s)
+  pub quiet_first : (s : Site) → IsQuiet Agree BuildStep (first s)
   quiet_first s = quiet_then Agree (entered s.start.tree s.order.dir) _ (quiet_entered s.start.tree s.order.dir) (λ cwd. quiet_round 8 s cwd)
 
-  pub quiet_following : (m : Remaking) (s : Site) → IsQuiet Agree NextBuild (following m s)
+  pub quiet_following : (m : Remaking) (s : Site) → IsQuiet Agree BuildStep (following m s)
   quiet_following m s = quiet_if Agree (changed m.before s.start.tree m.goals m.cwd) _ _ (quiet_round m.left s m.cwd) (quiet_final s m.cwd m.round)
 
 -- on the same files
@@ -273,7 +273,7 @@ site_is words f s e =
 -- ---- the steps
 
 module _ (words : List (List ℕ)) where
-  pub record IsOn (st : NextBuild) : Type 0 where
+  pub record IsOn (st : BuildStep) : Type 0 where
     pub from : IsFrom words st.project.terms.order
     pub asked : is_asked st ≡ (order_of words).question
     -- of what follows a round
@@ -328,36 +328,36 @@ module _ (words : List (List ℕ)) where
   following_on m s is = every_if IsOn (changed m.before s.start.tree m.goals m.cwd) _ _ (round_on m.left s m.cwd is) (final_on s m.cwd m.round is)
 
   -- what follows a build
-  pub record IsGood (next : Course NextBuild) : Type 0 where
-    pub quiet : IsQuiet Any NextBuild next
+  pub record IsGood (next : Course BuildStep) : Type 0 where
+    pub quiet : IsQuiet Any BuildStep next
     pub on : Every IsOn next
 
-  some_good : (b : Bool) (way next : Course NextBuild) → IsGood way → cond b None (Some way) ≡ Some next → IsGood next
+  some_good : (b : Bool) (way next : Course BuildStep) → IsGood way → cond b None (Some way) ≡ Some next → IsGood next
   some_good true way next is e = absurd cc
   some_good false way next is e = let same : way ≡ next = cc in subst IsGood same is
 
-  goes_good : (o : Option Remaking) (p : Project) (b : Build) (next : Course NextBuild) → IfSome o (λ m. IsSet words m.order) → goes_by o p b ≡ Some next → IsGood next
+  goes_good : (o : Option Remaking) (p : Project) (b : Build) (next : Course BuildStep) → IfSome o (λ m. IsSet words m.order) → goes_by o p b ≡ Some next → IsGood next
   goes_good None p b next is e = absurd cc
   goes_good (Some m) p b next is e =
       let s = moved m.order p.terms (left_by p b) b.notes in
       some_good (is_early p b) (following m s) next (record { quiet = quiet_following Any m s; on = following_on m s is }) e
 
-  pub goes_on_good : (st : NextBuild) (b : Build) (next : Course NextBuild) → IsOn st → goes_on st b ≡ Some next → IsGood next
+  pub goes_on_good : (st : BuildStep) (b : Build) (next : Course BuildStep) → IsOn st → goes_on st b ≡ Some next → IsGood next
   goes_on_good st b next is e = goes_good st.remaking st.project b next is.set e
 
 -- ---- a step, and the site of which it is
 
-pub record IsFound (words : List (List ℕ)) (f : Files) (st : NextBuild) (s : Site) : Type 0 where
+pub record IsFound (words : List (List ℕ)) (f : Files) (st : BuildStep) (s : Site) : Type 0 where
   pub here : (site words f).end ≡ Ok s
   pub set : IsSet words s.order
   pub then : (first s f).end ≡ Ok st
   pub on : IsOn words st
 
-is_found : (words : List (List ℕ)) (f : Files) (st : NextBuild) (s : Site) → (site words f).end ≡ Ok s → (first s f).end ≡ Ok st → IsFound words f st s
+is_found : (words : List (List ℕ)) (f : Files) (st : BuildStep) (s : Site) → (site words f).end ≡ Ok s → (first s f).end ≡ Ok st → IsFound words f st s
 is_found words f st s e i =
     let set : IsSet words s.order = site_is words f s e in
     record { here = e; set = set; then = i; on = first_on words s set f st i }
 
-pub found : (words : List (List ℕ)) (f : Files) (st : NextBuild) → first_in words f ≡ Ok st → (s : Site) × IsFound words f st s
+pub found : (words : List (List ℕ)) (f : Files) (st : BuildStep) → first_in words f ≡ Ok st → (s : Site) × IsFound words f st s
 found words f st e = ok_then (site words) first f st ((s : Site) × IsFound words f st s) e (λ s at i.
     (s, is_found words f st s at (subst (λ (g : Files). (first s g).end ≡ Ok st) ((site_quiet words).still f) i)))

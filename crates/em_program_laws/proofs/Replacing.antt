@@ -29,7 +29,7 @@ use Rattle.em_nesting.specs.Nested.{MakesAll}
 use Rattle.em_engine.specs.declared.note.Note.{Note}
 use Rattle.em_program.specs.declared.project.Project.{Project}
 use Rattle.em_program.specs.declared.project.Terms.{Terms}
-use Rattle.em_program.specs.declared.rounds.NextBuild.{NextBuild}
+use Rattle.em_program.specs.declared.rounds.BuildStep.{BuildStep}
 use Rattle.em_program.specs.declared.site.Site.{Site}
 use Rattle.em_program.specs.declared.verdict.BuildStatus.{BuildStatus}
 use Rattle.em_program.specs.Statuses.{status_of}
@@ -101,7 +101,7 @@ read_stays words builds files name read history = left_by builds words files (λ
     (λ i. apart (order_of words).history (order_of words).report name name names.history_report history (sym on.from.order.report ∙ i) refl) files)
 
 module _ (words : List (List ℕ)) (builds : List Build) (files : Files) where
-  unless : ((st : NextBuild) → IsOn words st → is_asked st ≡ false → (order_of words).generate ≡ None → ⊥) → files_left words builds files ≡ files
+  unless : ((st : BuildStep) → IsOn words st → is_asked st ≡ false → (order_of words).generate ≡ None → ⊥) → files_left words builds files ≡ files
   unless never = left_by builds words files (λ g. g ≡ files) refl (λ st b on asked generate. absurd (never st on asked generate))
 
   pub nothing_generated : IsSome (order_of words).generate → files_left words builds files ≡ files
@@ -150,7 +150,7 @@ serial_whole p b serial = by_cases (is_early p b) (λ e. is_early p b ≡ e → 
     (λ _ isnt. let e : length b.made ≡ length p.specs = serial.whole isnt in grind (arith, e)) refl
 
 module _ (words : List (List ℕ)) (name : List ℕ) (image : (order_of words).image ≡ Some name) where
-  module _ (st : NextBuild) (b : Build) (f : Files) (on : IsOn words st) where
+  module _ (st : BuildStep) (b : Build) (f : Files) (on : IsOn words st) where
     not_history : st.project.terms.order.history ≢ Some name
     not_history e = apart (order_of words).image (order_of words).history name name (names_of words on.from.order.accepted).image_history image (sym on.from.order.history ∙ e) refl
 
@@ -174,36 +174,36 @@ module _ (words : List (List ℕ)) (name : List ℕ) (image : (order_of words).i
     abbrev Leaves : Course Tally → Type 0
     Leaves m = get (left m f) name ≡ image_closed (writing limits t) (get f name)
 
-    tree_ends : (st : NextBuild) (b : Build) → IsOn words st → (let x : Option Table = Some (state_by st.project b).tree in let y : Option Table = Some t in x ≡ y) → Leaves (last_of st b)
+    tree_ends : (st : BuildStep) (b : Build) → IsOn words st → (let x : Option Table = Some (state_by st.project b).tree in let y : Option Table = Some t in x ≡ y) → Leaves (last_of st b)
     tree_ends st b on e =
         last_leaves st b f on
         ∙ ap (λ q. cond q (get f name) (image_closed (written (state_by st.project b)) (get f name))) (on.asked ∙ question)
         ∙ ap (λ (u : Table). image_closed (writing limits u) (get f name)) (some_same e)
 
-    module _ (bs : List Build) (later : (n : NextBuild) → IsOn words n → AreAll bs n → tree_left bs n ≡ Some t → Leaves (run_from bs n)) where
-      tree_at_end : (next : Course NextBuild) → IsGood words next → (end : Result NextBuild BuildStatus) → (next empty).end ≡ end → AllAt bs end (AreAll bs) → tree_at (tree_left bs) end ≡ Some t → Leaves (next >>= run_from bs)
+    module _ (bs : List Build) (later : (n : BuildStep) → IsOn words n → AreAll bs n → tree_left bs n ≡ Some t → Leaves (run_from bs n)) where
+      tree_at_end : (next : Course BuildStep) → IsGood words next → (end : Result BuildStep BuildStatus) → (next empty).end ≡ end → AllAt bs end (AreAll bs) → tree_at (tree_left bs) end ≡ Some t → Leaves (next >>= run_from bs)
       tree_at_end next good (Ok n) e all some =
           let at : (next f).end ≡ Ok n = good.quiet.same f empty tt ∙ e in
           ap (λ (g : Files). get g name) (left_behind next (run_from bs) f n at (good.quiet.still f)) ∙ later n (good.on f n at) all some
       tree_at_end next good (Err v) e all some = absurd cc
 
-      tree_behind_is : (st : NextBuild) (b : Build) → IsOn words st → (o : Option (Course NextBuild)) → goes_on st b ≡ o → AllBehind bs o (AreAll bs) → tree_behind (tree_left bs) st b o ≡ Some t → Leaves (next_or_last (run_from bs) st b o)
+      tree_behind_is : (st : BuildStep) (b : Build) → IsOn words st → (o : Option (Course BuildStep)) → goes_on st b ≡ o → AllBehind bs o (AreAll bs) → tree_behind (tree_left bs) st b o ≡ Some t → Leaves (next_or_last (run_from bs) st b o)
       tree_behind_is st b on None e all some = tree_ends st b on some
       tree_behind_is st b on (Some next) e all some = tree_at_end next (goes_on_good words st b next on e) (next empty).end refl all some
 
-      tree_whole : (st : NextBuild) (b : Build) → IsOn words st → IsSerial MakesAll ends st.project.start st.project.specs b.made → AllBehind bs (goes_on st b) (AreAll bs) → tree_behind (tree_left bs) st b (goes_on st b) ≡ Some t → Leaves (after_jobs (run_from bs) st b)
+      tree_whole : (st : BuildStep) (b : Build) → IsOn words st → IsSerial MakesAll ends st.project.start st.project.specs b.made → AllBehind bs (goes_on st b) (AreAll bs) → tree_behind (tree_left bs) st b (goes_on st b) ≡ Some t → Leaves (after_jobs (run_from bs) st b)
       tree_whole st b on serial all some =
           ap (λ w. get (left (cond w (next_or_last (run_from bs) st b (goes_on st b)) broken_off) f) name) (serial_whole st.project b serial)
           ∙ tree_behind_is st b on (goes_on st b) refl all some
 
-    run_leaves : (builds : List Build) (st : NextBuild) → IsOn words st → AreAll builds st → tree_left builds st ≡ Some t → Leaves (run_from builds st)
+    run_leaves : (builds : List Build) (st : BuildStep) → IsOn words st → AreAll builds st → tree_left builds st ≡ Some t → Leaves (run_from builds st)
     unfolding run_from
     run_leaves [] st on all some = absurd all
     run_leaves (b ∷ bs) st on all some =
         ap (λ (g : Files). get g name) (left_behind (say_all (outputs_of b.made)) (λ u. after_jobs (run_from bs) st b) f tt (said (outputs_of b.made) f) (all_still (outputs_of b.made) f))
         ∙ tree_whole bs (λ n is every known. run_leaves bs n is every known) st b on all.0 all.1 some
 
-module _ (words : List (List ℕ)) (builds : List Build) (files : Files) (st : NextBuild) (t : Table) (name : List ℕ)
+module _ (words : List (List ℕ)) (builds : List Build) (files : Files) (st : BuildStep) (t : Table) (name : List ℕ)
     (given : first_in words files ≡ Ok st) (all : AreAll builds st) (some : tree_left builds st ≡ Some t) (image : (order_of words).image ≡ Some name) (question : (order_of words).question ≡ false) where
   not_generated : (s : Site) → IsSet words s.order → s.order.generate ≡ None
   not_generated s set = set.from.order.generate ∙ not_some (order_of words).generate
@@ -230,8 +230,8 @@ module _ (words : List (List ℕ)) (builds : List Build) (files : Files) (st : N
 -- ---- the last tree
 
 -- there is one, wherever nothing is refused and nothing broke off
-module _ (bs : List Build) (f : Files) (v : Tally) (later : (n : NextBuild) → (words : List (List ℕ)) → IsOn words n → AreAll bs n → (run_from bs n f).end ≡ Ok v → IsSome (tree_left bs n)) where
-  has_at : (next : Course NextBuild) (words : List (List ℕ)) → IsGood words next → (end : Result NextBuild BuildStatus) → (next empty).end ≡ end → AllAt bs end (AreAll bs) → ((next >>= run_from bs) f).end ≡ Ok v → IsSome (tree_at (tree_left bs) end)
+module _ (bs : List Build) (f : Files) (v : Tally) (later : (n : BuildStep) → (words : List (List ℕ)) → IsOn words n → AreAll bs n → (run_from bs n f).end ≡ Ok v → IsSome (tree_left bs n)) where
+  has_at : (next : Course BuildStep) (words : List (List ℕ)) → IsGood words next → (end : Result BuildStep BuildStatus) → (next empty).end ≡ end → AllAt bs end (AreAll bs) → ((next >>= run_from bs) f).end ≡ Ok v → IsSome (tree_at (tree_left bs) end)
   has_at next words good (Ok n) e all ended =
       let at : (next f).end ≡ Ok n = good.quiet.same f empty tt ∙ e in
       later n words (good.on f n at) all (sym (end_behind next (run_from bs) f n at (good.quiet.still f)) ∙ ended)
@@ -239,22 +239,22 @@ module _ (bs : List Build) (f : Files) (v : Tally) (later : (n : NextBuild) → 
       let at : (next f).end ≡ Err w = good.quiet.same f empty tt ∙ e in
       absurd (ok_err (sym ended ∙ ap (λ (t : Trace Tally). t.end) (trace_stop next (run_from bs) f w at)))
 
-  has_behind : (st : NextBuild) (b : Build) (words : List (List ℕ)) → IsOn words st → (o : Option (Course NextBuild)) → goes_on st b ≡ o → AllBehind bs o (AreAll bs) → (next_or_last (run_from bs) st b o f).end ≡ Ok v → IsSome (tree_behind (tree_left bs) st b o)
+  has_behind : (st : BuildStep) (b : Build) (words : List (List ℕ)) → IsOn words st → (o : Option (Course BuildStep)) → goes_on st b ≡ o → AllBehind bs o (AreAll bs) → (next_or_last (run_from bs) st b o f).end ≡ Ok v → IsSome (tree_behind (tree_left bs) st b o)
   has_behind st b words on None e all ended = refl
   has_behind st b words on (Some next) e all ended = has_at next words (goes_on_good words st b next on e) (next empty).end refl all ended
 
-  has_whole : (st : NextBuild) (b : Build) (words : List (List ℕ)) → IsOn words st → IsSerial MakesAll ends st.project.start st.project.specs b.made → AllBehind bs (goes_on st b) (AreAll bs) → (after_jobs (run_from bs) st b f).end ≡ Ok v
+  has_whole : (st : BuildStep) (b : Build) (words : List (List ℕ)) → IsOn words st → IsSerial MakesAll ends st.project.start st.project.specs b.made → AllBehind bs (goes_on st b) (AreAll bs) → (after_jobs (run_from bs) st b f).end ≡ Ok v
       → IsSome (tree_behind (tree_left bs) st b (goes_on st b))
   has_whole st b words on serial all ended = has_behind st b words on (goes_on st b) refl all
       (sym (ap (λ w. (cond w (next_or_last (run_from bs) st b (goes_on st b)) broken_off f).end) (serial_whole st.project b serial)) ∙ ended)
 
-run_has : (builds : List Build) (f : Files) (v : Tally) (st : NextBuild) (words : List (List ℕ)) → IsOn words st → AreAll builds st → (run_from builds st f).end ≡ Ok v → IsSome (tree_left builds st)
+run_has : (builds : List Build) (f : Files) (v : Tally) (st : BuildStep) (words : List (List ℕ)) → IsOn words st → AreAll builds st → (run_from builds st f).end ≡ Ok v → IsSome (tree_left builds st)
 unfolding run_from
 run_has [] f v st words on all ended = absurd all
 run_has (b ∷ bs) f v st words on all ended = has_whole bs f v (λ n more is every done. run_has bs f v n more is every done) st b words on all.0 all.1
     (sym (end_behind (say_all (outputs_of b.made)) (λ u. after_jobs (run_from bs) st b) f tt (said (outputs_of b.made) f) (all_still (outputs_of b.made) f)) ∙ ended)
 
-module _ (words : List (List ℕ)) (builds : List Build) (files : Files) (st : NextBuild) (all : AreAll builds st) where
+module _ (words : List (List ℕ)) (builds : List Build) (files : Files) (st : BuildStep) (all : AreAll builds st) where
   work_has : (s : Site) (f : Files) (t : Tally) → (first s f).end ≡ Ok st → IsOn words st → (working builds s f).end ≡ Ok t → IsSome (tree_left builds st)
   work_has s f t e on ended = run_has builds f t st words on all (sym (end_behind (first s) (run_from builds) f st e ((quiet_first Any s).still f)) ∙ ended)
 

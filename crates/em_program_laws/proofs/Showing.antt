@@ -23,7 +23,7 @@ use Rattle.em_run.specs.Serial.{outputs_of}
 use Rattle.em_engine.specs.declared.note.Note.{Note}
 use Rattle.em_program.specs.declared.site.Earlier.{Earlier}
 use Rattle.em_program.specs.declared.rounds.Remaking.{Remaking}
-use Rattle.em_program.specs.declared.rounds.NextBuild.{NextBuild}
+use Rattle.em_program.specs.declared.rounds.BuildStep.{BuildStep}
 use Rattle.em_program.specs.declared.site.Site.{Site}
 use Rattle.em_program.specs.declared.verdict.BuildStatus.{BuildStatus}
 use Rattle.em_program.specs.Alike.{AreSites, AreSteps, EndAlike, IsSame}
@@ -165,21 +165,21 @@ twin_site words f g seen =
 
 -- ---- the steps
 
-to_both : (x y : Result NextBuild BuildStatus) → EndAlike x y → Both AreSteps x y
+to_both : (x y : Result BuildStep BuildStatus) → EndAlike x y → Both AreSteps x y
 to_both (Ok u) (Ok v) e = e
 to_both (Ok u) (Err w) e = absurd e
 to_both (Err v) (Ok w) e = absurd e
 to_both (Err v) (Err w) e = e
 
 -- ways to a step that are the same on the same files are twins on any
-twin_ways : (c d : Course NextBuild) (f g : Files) → IsSame c d f → IsQuiet Any NextBuild d → Twin AreSteps (c f) (d g)
+twin_ways : (c d : Course BuildStep) (f g : Files) → IsSame c d f → IsQuiet Any BuildStep d → Twin AreSteps (c f) (d g)
 twin_ways c d f g is quiet = record {
   printed = ap printed_by is.calls ∙ quiet.printed f g tt;
-  end = subst (λ (y : Result NextBuild BuildStatus). Both AreSteps (c f).end y) (quiet.same f g tt) (to_both (c f).end (d f).end is.end);
+  end = subst (λ (y : Result BuildStep BuildStatus). Both AreSteps (c f).end y) (quiet.same f g tt) (to_both (c f).end (d f).end is.end);
 }
 
 -- a step that is alike is this one with other pairs, notes and waits
-abbrev other_step : NextBuild → List Pair → Earlier → List (List ℕ) → NextBuild
+abbrev other_step : BuildStep → List Pair → Earlier → List (List ℕ) → BuildStep
 other_step u old past waits = record {
   project = record {
     terms = record {
@@ -196,7 +196,7 @@ other_step u old past waits = record {
   remaking = u.remaking;
 }
 
-is_other_step : (u v : NextBuild) → AreSteps u v → other_step u v.project.terms.old v.project.terms.earlier v.project.terms.waits ≡ v
+is_other_step : (u v : BuildStep) → AreSteps u v → other_step u v.project.terms.old v.project.terms.earlier v.project.terms.waits ≡ v
 is_other_step u v same = λ i. record {
   project = record {
     terms = record {
@@ -285,8 +285,8 @@ module _ (words : List (List ℕ)) where
 
     -- ---- a build, and what follows it
 
-    module _ (u : NextBuild) (b : Build) (old : List Pair) (earlier : Earlier) (waits : List (List ℕ)) (notes : List Note) (on : IsOn words u) where
-      abbrev v : NextBuild
+    module _ (u : BuildStep) (b : Build) (old : List Pair) (earlier : Earlier) (waits : List (List ℕ)) (notes : List Note) (on : IsOn words u) where
+      abbrev v : BuildStep
       v = other_step u old earlier waits
 
       abbrev c : Build
@@ -311,7 +311,7 @@ module _ (words : List (List ℕ)) where
         files = last_files (order_of words).image refl seen;
       }
 
-      module _ (later past : NextBuild → Course Tally) (more : (n w : NextBuild) → AreSteps n w → IsOn words n → Shows Alike (later n) (past w) f g) where
+      module _ (later past : BuildStep → Course Tally) (more : (n w : BuildStep) → AreSteps n w → IsOn words n → Shows Alike (later n) (past w) f g) where
         module _ (m : Remaking) (some : u.remaking ≡ Some m) where
           abbrev here : Site
           here = moved m.order u.project.terms (left_by u.project b) b.notes
@@ -346,16 +346,16 @@ module _ (words : List (List ℕ)) where
         unfolding say_all
         shows_said texts = shows_then (Alike {A = Unit {0}}) Alike (say_all texts) _ (say_all texts) _ f g (all_still texts f) (all_still texts g) (record { printed = refl; end = refl }) seen (λ x y e same. shows_jobs)
 
-    shows_build : (b c : Build) (bs cs : List Build) (u v : NextBuild) → b.made ≡ c.made → AreSteps u v → IsOn words u
-        → ((n w : NextBuild) → AreSteps n w → IsOn words n → Shows Alike (run_from bs n) (run_from cs w) f g)
+    shows_build : (b c : Build) (bs cs : List Build) (u v : BuildStep) → b.made ≡ c.made → AreSteps u v → IsOn words u
+        → ((n w : BuildStep) → AreSteps n w → IsOn words n → Shows Alike (run_from bs n) (run_from cs w) f g)
         → Shows Alike (run_from (b ∷ bs) u) (run_from (c ∷ cs) v) f g
     unfolding run_from
     shows_build b c bs cs u v made same on more =
-        subst (λ (w : NextBuild). Shows Alike (run_from (b ∷ bs) u) (run_from (c ∷ cs) w) f g) (is_other_step u v same)
+        subst (λ (w : BuildStep). Shows Alike (run_from (b ∷ bs) u) (run_from (c ∷ cs) w) f g) (is_other_step u v same)
         (subst (λ (d : Build). Shows Alike (run_from (b ∷ bs) u) (run_from (d ∷ cs) (other_step u v.project.terms.old v.project.terms.earlier v.project.terms.waits)) f g) (is_other_build b c made)
         (shows_said u b v.project.terms.old v.project.terms.earlier v.project.terms.waits c.notes on (run_from bs) (run_from cs) more (outputs_of b.made)))
 
-    shows_run : (builds others : List Build) → AreMadeAlike builds others → (u v : NextBuild) → AreSteps u v → IsOn words u → Shows Alike (run_from builds u) (run_from others v) f g
+    shows_run : (builds others : List Build) → AreMadeAlike builds others → (u v : BuildStep) → AreSteps u v → IsOn words u → Shows Alike (run_from builds u) (run_from others v) f g
     unfolding run_from
     shows_run [] [] made u v same on = shows_broken
     shows_run [] (c ∷ cs) made u v same on = absurd cc

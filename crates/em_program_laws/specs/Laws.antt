@@ -13,7 +13,7 @@ use Rattle.em_host.specs.Calls.{files_after, printed_by}
 use Rattle.em_tree.specs.Trees.{Table}
 use Rattle.em_cmdline.specs.declared.order.Order.{Order}
 use Rattle.em_cmdline.specs.Words.{order_of}
-use Rattle.em_program.specs.declared.rounds.NextBuild.{NextBuild}
+use Rattle.em_program.specs.declared.rounds.BuildStep.{BuildStep}
 use Rattle.em_program.specs.declared.verdict.BuildStatus.{BuildStatus}
 use Rattle.em_program.specs.Statuses.{code_of}
 use Rattle.em_program.specs.Course.{Course}
@@ -28,16 +28,16 @@ abbrev pub status_in : List (List ℕ) → List Build → Files → ℕ
 status_in words builds files = code_of (verdict_of (ended words builds files).end)
 
 -- none behind a refusal
-abbrev pub tree_at : (NextBuild → Option Table) → Result NextBuild BuildStatus → Option Table
+abbrev pub tree_at : (BuildStep → Option Table) → Result BuildStep BuildStatus → Option Table
 tree_at later (Ok st) = later st
 tree_at later (Err verdict) = None
 
-abbrev pub tree_behind : (NextBuild → Option Table) → NextBuild → Build → Option (Course NextBuild) → Option Table
+abbrev pub tree_behind : (BuildStep → Option Table) → BuildStep → Build → Option (Course BuildStep) → Option Table
 tree_behind later st b None = Some (left_by st.project b).tree
 tree_behind later st b (Some next) = tree_at later (next empty).end
 
 -- none where no build is the last one
-abbrev pub tree_left : List Build → NextBuild → Option Table
+abbrev pub tree_left : List Build → BuildStep → Option Table
 tree_left [] st = None
 tree_left (b ∷ bs) st = tree_behind (tree_left bs) st b (goes_on st b)
 

@@ -10,7 +10,7 @@ ghost use Rattle.em_engine.specs.declared.note.Note.{Note};
 ghost use Rattle.em_cmdline.specs.declared.order.HistoryMode.TheVariants as mode;
 ghost use Rattle.em_cmdline.specs.Words.{order_of, refusal};
 ghost use Rattle.em_cmdline.specs.Pages.{page_in};
-ghost use Rattle.em_program.specs.declared.rounds.NextBuild.{NextBuild};
+ghost use Rattle.em_program.specs.declared.rounds.BuildStep.{BuildStep};
 ghost use Rattle.em_program.specs.declared.verdict.BuildStatus.{BuildStatus};
 ghost use Rattle.em_program.specs.Endings.{ended};
 ghost use Rattle.em_program.specs.Headline.{Headline, first_in};
@@ -89,19 +89,19 @@ pub fn law_headline()
         (before after : Outside) (h : Headline words status notes before after)
         → status ≢ 3 → status ≢ 7 → status ≡ status_in words h.builds before.files }
     ensures image { (words : List (List ℕ)) (status : ℕ) (notes : List Note)
-        (before after : Outside) (h : Headline words status notes before after) (st : NextBuild)
+        (before after : Outside) (h : Headline words status notes before after) (st : BuildStep)
         (t : Table) (name : List ℕ) → status ≢ 3 → status ≢ 7
         → first_in words before.files ≡ Ok st → tree_left h.builds st ≡ Some t
         → (order_of words).image ≡ Some name → (order_of words).question ≡ false
         → broken limits t ≡ None → get after.files name ≡ Some (image_text t) }
     ensures limit { (words : List (List ℕ)) (status : ℕ) (notes : List Note)
-        (before after : Outside) (h : Headline words status notes before after) (st : NextBuild)
+        (before after : Outside) (h : Headline words status notes before after) (st : BuildStep)
         (t : Table) (name : List ℕ) → status ≢ 3 → status ≢ 7
         → first_in words before.files ≡ Ok st → tree_left h.builds st ≡ Some t
         → (order_of words).image ≡ Some name → (order_of words).question ≡ false
         → IsSome (broken limits t) → get after.files name ≡ get before.files name }
     ensures tree { (words : List (List ℕ)) (status : ℕ) (notes : List Note)
-        (before after : Outside) (h : Headline words status notes before after) (st : NextBuild)
+        (before after : Outside) (h : Headline words status notes before after) (st : BuildStep)
         (verdict : BuildStatus) → status ≢ 3 → status ≢ 7 → first_in words before.files ≡ Ok st
         → (ended words h.builds before.files).end ≡ Ok verdict
         → IsSome (tree_left h.builds st) }

@@ -26,7 +26,7 @@ use Rattle.em_reading.specs.declared.no.ReadNo.{ReadNo}
 use Rattle.em_reading.specs.declared.no.MakefileFault.TheVariants as fault
 use Rattle.em_reading.specs.declared.heard.Heard.{Heard}
 use Rattle.em_reading.specs.declared.reading.Reading.{Reading}
-use Rattle.em_reading.specs.declared.reading.DefineBody.{DefineBody}
+use Rattle.em_reading.specs.declared.reading.OpenDefine.{OpenDefine}
 use Rattle.em_reading.specs.Faults.{at_place, of_desk}
 use Rattle.em_reading.specs.Changes.{Change, good, bad, is_read, close_rule, recipe, enter, other, leave, define_line, body_line, ends_body, whole, take_define, end_text, without_evals, opens, lacks}
 use Rattle.em_reader.specs.Hearing.{Reads, hear, hear_condition}
@@ -171,10 +171,10 @@ by_statement deeper p s = active_line deeper p s
 -- ---- lines
 
 -- a `define` is one assignment, whose value stands on the lines up to `endef`
-unfoldable pub in_body : Deeper → Line → DefineBody → Reads (Unit {0})
+unfoldable pub in_body : Deeper → Line → OpenDefine → Reads (Unit {0})
 in_body deeper l b = if ends_body b l then statement_line deeper b.place (statement.Assign (whole b)) else own (body_line b l)
 
-abbrev pub by_body : Deeper → Line → Option DefineBody → Reads (Unit {0})
+abbrev pub by_body : Deeper → Line → Option OpenDefine → Reads (Unit {0})
 by_body deeper l (Some b) = in_body deeper l b
 by_body deeper l None = if l.tab then own (recipe l) else by_statement deeper l.place (statement_of l.text)
 

@@ -298,8 +298,8 @@ fn known(alloc: Global, written: &[u8], text: &[u8]) -> Result<Text, NoMemory>
     Ok(known)
 }
 
-/// The first thing that is refused in a rule's head that begins with this text, of which what stands
-/// behind it, with a function that is refused, isn't known but for its colons.
+/// The first thing that is refused in a rule's head that begins with this text, of which what
+/// stands behind it, with a function that is refused, isn't known but for its colons.
 fn refused_in_known(alloc: Global, line: &RuleLine, text: &[u8]) -> Result<Option<Text>, NoMemory>
     ensures { IfOk result (λ r. r
         ≡ refusal_of (line.now.assigns && has_colon text.now) (known line.now.head text.now)) }

@@ -11,7 +11,7 @@ use crate::hear::{hear, hear_condition};
 use em_base::{Place, Text};
 use em_lines::{Line, Lines, joined};
 use em_reading::{
-    DefineBody, Heard, MakefileFault, ReadNo, Reading, at, refused, refused_in, whole,
+    Heard, MakefileFault, OpenDefine, ReadNo, Reading, at, refused, refused_in, whole,
 };
 use em_statement::{Condition, Include, Statement, read_statement, words};
 use em_view::{Desk, View};
@@ -71,7 +71,7 @@ fn in_body<V: View>(
     desk: &mut Desk<V>,
     reading: &mut Reading,
     line: &Line,
-    body: DefineBody,
+    body: OpenDefine,
 ) -> Result<(), ReadNo>
     ensures { Does is_free V.tells desk.old desk.new reading.old reading.new result
         (steps.in_body (read_text left) line.now body) }
@@ -79,7 +79,7 @@ fn in_body<V: View>(
     if !body.ends(alloc, line)? {
         return reading.body_line(alloc, body, line);
     }
-    let DefineBody {
+    let OpenDefine {
         place,
         assignment,
         nested: _,

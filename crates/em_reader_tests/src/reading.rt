@@ -1,7 +1,7 @@
 use em_base::{NoMemory, Place, Text};
 use em_lines::{Line, joined};
 use em_path::Path;
-use em_reading::{DefineBody, Expanded, Heard, ReadNo, Reading, start, start_vars, whole};
+use em_reading::{Expanded, Heard, OpenDefine, ReadNo, Reading, start, start_vars, whole};
 use em_rules::Rule;
 use em_statement::{
     Assignment, Condition, Head, Modifiers, Operator, Statement, read_head, read_statement,
@@ -204,8 +204,8 @@ fn an_assignment_goes_by_operator_and_origin(rt: HostRuntime) -> Result<(), Fail
 }
 
 /// The end of a `define`.
-fn end_define(alloc: Global, reading: &mut Reading, body: DefineBody) -> Result<(), ReadNo> {
-    let DefineBody {
+fn end_define(alloc: Global, reading: &mut Reading, body: OpenDefine) -> Result<(), ReadNo> {
+    let OpenDefine {
         place,
         assignment,
         nested: _,
@@ -219,7 +219,7 @@ fn end_define(alloc: Global, reading: &mut Reading, body: DefineBody) -> Result<
 fn read_body(
     alloc: Global,
     reading: &mut Reading,
-    body: DefineBody,
+    body: OpenDefine,
     line: &Line,
 ) -> Result<(), ReadNo> {
     if body.ends(alloc, line)? {

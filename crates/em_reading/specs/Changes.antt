@@ -24,7 +24,7 @@ use Rattle.em_reading.specs.declared.no.MakefileFault.TheVariants as fault
 use Rattle.em_reading.specs.declared.no.RuleNo.TheVariants.{Recipe}
 use Rattle.em_reading.specs.declared.no.ReadNo.{ReadNo}
 use Rattle.em_reading.specs.declared.reading.Reading.{Reading}
-use Rattle.em_reading.specs.declared.reading.DefineBody.{DefineBody}
+use Rattle.em_reading.specs.declared.reading.OpenDefine.{OpenDefine}
 use Rattle.em_reading.specs.declared.noted.Noted.{Noted}
 use Rattle.em_reading.specs.declared.noted.Missing.{Missing}
 use Rattle.em_reading.specs.Faults.{at_place, of_book}
@@ -147,14 +147,14 @@ line_start (Some text) = text ++ 10 ∷ []
 abbrev pub joined_to : Option (List ℕ) → List ℕ → List ℕ
 joined_to text line = line_start text ++ line
 
-abbrev pub with_body_line : DefineBody → Line → DefineBody
+abbrev pub with_body_line : OpenDefine → Line → OpenDefine
 with_body_line b l = record b { text = Some (joined_to b.text (body_text l)) }
 
 -- a `define` within the body has an `endef` of its own
-abbrev pub deeper : DefineBody → DefineBody
+abbrev pub deeper : OpenDefine → OpenDefine
 deeper b = record b { nested = min (b.nested + 1) 18446744073709551615 }
 
-abbrev pub shallower : DefineBody → DefineBody
+abbrev pub shallower : OpenDefine → OpenDefine
 shallower b = record b { nested = b.nested - 1 }
 
 abbrev pub starts_with_word : List ℕ → Line → Bool
@@ -167,26 +167,26 @@ abbrev pub is_endef : Line → Bool
 is_endef l = starts_with_word (codes "endef") l
 
 -- the line that ends the body
-abbrev pub ends_body : DefineBody → Line → Bool
+abbrev pub ends_body : OpenDefine → Line → Bool
 ends_body b l = is_endef l && (b.nested == 0)
 
-abbrev pub body_after : DefineBody → Line → DefineBody
+abbrev pub body_after : OpenDefine → Line → OpenDefine
 body_after b l = with_body_line (if is_define l then deeper b else if is_endef l then shallower b else b) l
 
-abbrev pub body_line : DefineBody → Line → Change
+abbrev pub body_line : OpenDefine → Line → Change
 body_line b l r = good (record r { define = Some (body_after b l) })
 
 -- the assignment that the whole `define` is
-abbrev pub whole : DefineBody → Assignment
+abbrev pub whole : OpenDefine → Assignment
 whole b = record b.assignment { value = unwrap_or b.text [] }
 
 -- the `define` whose body is read, taken out
-abbrev pub take_define : Reading → Result (Option DefineBody × Reading) (ReadNo × Reading)
+abbrev pub take_define : Reading → Result (Option OpenDefine × Reading) (ReadNo × Reading)
 take_define r = Ok (r.define, record r { define = None })
 
 -- ---- ends
 
-abbrev pub unended : Option DefineBody → Change
+abbrev pub unended : Option OpenDefine → Change
 unended None r = good r
 unended (Some b) r = bad b.place fault.Define r
 

@@ -3,7 +3,7 @@ ghost use Rattle.std.specs.Prelude.{◌≡◌, [], unwrap_or, IfOk};
 ghost use Rattle.em_reading.specs.Changes as changes;
 ghost use Rattle.em_reading.specs.Changes.{body_after, ends_body, is_define, is_endef, joined_to, line_start, with_body_line};
 
-use crate::reading::DefineBody;
+use crate::reading::OpenDefine;
 use em_base::{NoMemory, Text};
 use em_lines::{Line, bare};
 use em_statement::{Assignment, first_word};
@@ -33,17 +33,17 @@ fn is_endef(alloc: Global, line: &Line) -> Result<bool, NoMemory>
 }
 
 /// Appends the line to the body, with the tab that it began with.
-fn with_body_line(alloc: Global, body: DefineBody, line: &Line) -> Result<DefineBody, NoMemory>
+fn with_body_line(alloc: Global, body: OpenDefine, line: &Line) -> Result<OpenDefine, NoMemory>
     ensures { IfOk result (λ b. b ≡ with_body_line body line.now) }
 {
-    let DefineBody {
+    let OpenDefine {
         place,
         assignment,
         nested,
         text,
     } = body;
     let text = Some(joined_to(alloc, text, line)?);
-    Ok(DefineBody {
+    Ok(OpenDefine {
         place,
         assignment,
         nested,
@@ -76,7 +76,7 @@ fn line_start(alloc: Global, text: Option<Text>) -> Result<Text, NoMemory>
     }
 }
 
-impl DefineBody {
+impl OpenDefine {
     /// Whether this line ends the body.
     pub fn ends(&self, alloc: Global, line: &Line) -> Result<bool, NoMemory>
         ensures { IfOk result (λ b. b ≡ ends_body self.now line.now) }
@@ -85,10 +85,10 @@ impl DefineBody {
     }
 
     /// The body with one line more. A `define` in it has an `endef` of its own.
-    pub fn with_line(self, alloc: Global, line: &Line) -> Result<DefineBody, NoMemory>
+    pub fn with_line(self, alloc: Global, line: &Line) -> Result<OpenDefine, NoMemory>
         ensures { IfOk result (λ b. b ≡ body_after self line.now) }
     {
-        let DefineBody {
+        let OpenDefine {
             place,
             assignment,
             nested,
@@ -101,7 +101,7 @@ impl DefineBody {
         } else {
             nested
         };
-        let body = DefineBody {
+        let body = OpenDefine {
             place,
             assignment,
             nested,

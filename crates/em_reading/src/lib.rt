@@ -19,5 +19,5 @@ pub use body::whole;
 pub use heard::{Expanded, Heard};
 pub use no::{MakefileFault, ReadNo, RuleNo, absent, at, desk_fault, expand_fault, refused};
 pub use noted::{Missing, Noted};
-pub use reading::{DefineBody, Reading};
+pub use reading::{OpenDefine, Reading};
 pub use vars::is_expanded;

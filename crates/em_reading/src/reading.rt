@@ -19,7 +19,7 @@ use std::mem;
 
 /// A `define` whose `endef` hasn't come.
 #[derive(Drop)]
-pub struct DefineBody {
+pub struct OpenDefine {
     /// Its line.
     pub place: Place,
     /// Its name and operator.
@@ -45,7 +45,7 @@ pub struct Reading {
     /// How many of the open conditionals were open when the last rule began: the outermost ones.
     pub around: usize,
     /// The `define` whose body is read.
-    pub define: Option<DefineBody>,
+    pub define: Option<OpenDefine>,
     /// What was said, and the texts for `eval` that aren't read yet.
     pub spoken: Spoken,
     /// The files that were read and those that aren't there, where these are noted.
@@ -124,7 +124,7 @@ impl Reading {
         ensures { Works is_free self.old self.new result
             (changes.begin_define place.now assignment.now) }
     {
-        self.define = Some(DefineBody {
+        self.define = Some(OpenDefine {
             place: place.copy(alloc)?,
             assignment: copied(alloc, assignment)?,
             nested: 0,
@@ -151,7 +151,7 @@ impl Reading {
     }
 
     /// A line of the body of a `define`.
-    pub fn body_line(&mut self, alloc: Global, body: DefineBody, line: &Line) -> Result<(), ReadNo>
+    pub fn body_line(&mut self, alloc: Global, body: OpenDefine, line: &Line) -> Result<(), ReadNo>
         ensures { Works is_free self.old self.new result (changes.body_line body line.now) }
     {
         self.define = Some(body.with_line(alloc, line)?);
@@ -159,7 +159,7 @@ impl Reading {
     }
 
     /// The `define` whose body is read, taken out.
-    pub fn take_define(&mut self) -> Option<DefineBody>
+    pub fn take_define(&mut self) -> Option<OpenDefine>
         ensures result { result ≡ self.old.define }
         ensures state { self.new ≡ record self.old { define = None } }
     {

@@ -38,7 +38,7 @@ use Rattle.em_reading.specs.declared.no.MakefileFault.TheVariants as fault
 use Rattle.em_reading.specs.declared.heard.Expanded.{Expanded}
 use Rattle.em_reading.specs.declared.heard.Heard.{Heard}
 use Rattle.em_reading.specs.declared.reading.Reading.{Reading}
-use Rattle.em_reading.specs.declared.reading.DefineBody.{DefineBody}
+use Rattle.em_reading.specs.declared.reading.OpenDefine.{OpenDefine}
 use Rattle.em_reading.specs.declared.noted.Noted.{Noted}
 use Rattle.em_reading.specs.Faults.{at_place, of_desk}
 use Rattle.em_reading.specs.Variables.{is_expanded}
@@ -170,7 +170,7 @@ define_blind p a = changed (define_line p a) (λ n r. by n r (is_read r))
     by n r true = ap (define_behind p a) (closed r.begun n r) ∙ behind n (close_rule r)
     by n r false = refl
 
-pub body_blind : (b : DefineBody) (l : Line) → Blind (own (body_line b l))
+pub body_blind : (b : OpenDefine) (l : Line) → Blind (own (body_line b l))
 body_blind b l = changed (body_line b l) (λ n r. refl)
 
 pub take_blind : Blind (own take_define)
@@ -183,7 +183,7 @@ pub end_blind : (too_long : Option Place) → Blind (own (end_text too_long))
 end_blind (Some p) = changed (end_text (Some p)) (λ n r. refl)
 end_blind None = changed (end_text None) (λ n r. by n r r.define)
   where
-    by : (n : Option Noted) (r : Reading) (d : Option DefineBody) → unended d (put n r) ≡ lift n (unended d r)
+    by : (n : Option Noted) (r : Reading) (d : Option OpenDefine) → unended d (put n r) ≡ lift n (unended d r)
     by n r None = refl
     by n r (Some b) = refl
 

@@ -23,7 +23,7 @@ use Rattle.em_reading.specs.declared.no.MakefileFault.TheVariants as fault
 use Rattle.em_reading.specs.Faults.{at_place}
 use Rattle.em_reading.specs.declared.heard.Expanded.{Expanded}
 use Rattle.em_reading.specs.declared.reading.Reading.{Reading}
-use Rattle.em_reading.specs.declared.reading.DefineBody.{DefineBody}
+use Rattle.em_reading.specs.declared.reading.OpenDefine.{OpenDefine}
 use Rattle.em_reading.specs.Changes.{Changed, warnings, say, add_rule, close_by, close_rule, recipe, take_define, without_evals, opens, after_opens}
 use Rattle.em_reader.specs.Hearing.{Reads, plain, both, nothing, spoken_of, with_spoken, itself, caught, heard, one}
 use Rattle.em_reader.specs.Acting.{matches_of, matched_word, matched}
@@ -131,7 +131,7 @@ module _ (law : PlainLaw) (deeper : Deeper) (l : Line) (i : Include) (name bytes
   unfolding read_line active_line
   line_read =
       let same : record r { define = None } ≡ r = ap (λ d. let q : Reading = record r { define = d } in q) (sym is.define) in
-      let first : take_define r ≡ Ok (None, r) = ap₂ (λ (d : Option DefineBody) (q : Reading). let x : Result (Option DefineBody × Reading) (ReadNo × Reading) = Ok (d, q) in x) is.define same in
+      let first : take_define r ≡ Ok (None, r) = ap₂ (λ (d : Option OpenDefine) (q : Reading). let x : Result (Option OpenDefine × Reading) (ReadNo × Reading) = Ok (d, q) in x) is.define same in
       run_then (own take_define) _ None r r o w w (run_own take_define r o w (Ok (None, r)) first)
       ∙ ap (λ b. (let m : Reads (Unit {0}) = if b then own (recipe l) else by_statement deeper l.place (statement_of l.text) in m) r o w) is.tab
       ∙ ap (λ x. by_statement deeper l.place x r o w) is.is

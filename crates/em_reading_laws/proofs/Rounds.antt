@@ -23,7 +23,7 @@ use Rattle.em_reading.specs.declared.no.ReadNo.{ReadNo}
 use Rattle.em_reading.specs.declared.no.MakefileFault.TheVariants as fault
 use Rattle.em_reading.specs.declared.heard.Heard.{Heard}
 use Rattle.em_reading.specs.declared.reading.Reading.{Reading}
-use Rattle.em_reading.specs.declared.reading.DefineBody.{DefineBody}
+use Rattle.em_reading.specs.declared.reading.OpenDefine.{OpenDefine}
 use Rattle.em_reading.specs.declared.noted.Noted.{Noted}
 use Rattle.em_reading.specs.declared.noted.Missing.{Missing}
 use Rattle.em_reading.specs.Faults.{at_place}
@@ -226,7 +226,7 @@ module _ (deeper : Deeper) (alike : (p : Place) (lines : Lines) → Alike (deepe
   unfolding read_line in_body
   line_alike l = next _ (blind take_blind) (λ body. by body)
     where
-      by : (body : Option DefineBody) → Alike (by_body deeper l body)
+      by : (body : Option OpenDefine) → Alike (by_body deeper l body)
       by (Some d) = either (ends_body d l) (statement_line deeper d.place (statement.Assign (whole d))) (own (body_line d l)) (statement_alike d.place (statement.Assign (whole d))) (blind (body_blind d l))
       by None = either l.tab (own (recipe l)) (by_statement deeper l.place (statement_of l.text)) (blind (recipe_blind l)) (by_statement_alike l.place (statement_of l.text))
 

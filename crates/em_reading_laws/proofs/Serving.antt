@@ -19,7 +19,7 @@ use Rattle.em_reading.specs.declared.no.ReadNo.{ReadNo}
 use Rattle.em_reading.specs.declared.no.MakefileFault.TheVariants as fault
 use Rattle.em_reading.specs.declared.heard.Heard.{Heard}
 use Rattle.em_reading.specs.declared.reading.Reading.{Reading}
-use Rattle.em_reading.specs.declared.reading.DefineBody.{DefineBody}
+use Rattle.em_reading.specs.declared.reading.OpenDefine.{OpenDefine}
 use Rattle.em_reading.specs.Faults.{at_place}
 use Rattle.em_reading.specs.Changes.{is_read, close_rule, recipe, enter, other, leave, define_line, ends_body, body_line, whole, take_define, end_text, opens, lacks}
 use Rattle.em_reading.specs.Heard.{refused_in, if_heard, else_if_heard}
@@ -133,7 +133,7 @@ module _ (a b : Deeper) (rises : (p : Place) (lines : Lines) → Rises (a p line
   unfolding read_line in_body
   line_rises l = behind (own take_define) _ _ (λ body. by body)
     where
-      by : (body : Option DefineBody) → Rises (by_body a l body) (by_body b l body)
+      by : (body : Option OpenDefine) → Rises (by_body a l body) (by_body b l body)
       by (Some d) = either (ends_body d l) (statement_line a d.place (statement.Assign (whole d))) (own (body_line d l)) (statement_line b d.place (statement.Assign (whole d))) (own (body_line d l))
           (statement_rises d.place (statement.Assign (whole d))) (still (own (body_line d l)))
       by None = either l.tab (own (recipe l)) (by_statement a l.place (statement_of l.text)) (own (recipe l)) (by_statement b l.place (statement_of l.text)) (still (own (recipe l))) (by_statement_rises l.place (statement_of l.text))

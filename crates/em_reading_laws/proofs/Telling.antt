@@ -41,7 +41,7 @@ use Rattle.em_reading.specs.declared.no.MakefileFault.TheVariants as fault
 use Rattle.em_reading.specs.declared.heard.Expanded.{Expanded}
 use Rattle.em_reading.specs.declared.heard.Heard.{Heard}
 use Rattle.em_reading.specs.declared.reading.Reading.{Reading}
-use Rattle.em_reading.specs.declared.reading.DefineBody.{DefineBody}
+use Rattle.em_reading.specs.declared.reading.OpenDefine.{OpenDefine}
 use Rattle.em_reading.specs.declared.noted.Noted.{Noted}
 use Rattle.em_reading.specs.Faults.{at_place, of_desk}
 use Rattle.em_reading.specs.Variables.{is_expanded}
@@ -151,7 +151,7 @@ ended : (too_long : Option Place) → Stays (end_text too_long)
 ended (Some p) r = goes_same r
 ended None r = by r.define
   where
-    by : (d : Option DefineBody) → Goes r (state_of (unended d r))
+    by : (d : Option OpenDefine) → Goes r (state_of (unended d r))
     by None = goes_same r
     by (Some b) = goes_same r
 
@@ -376,7 +376,7 @@ module _ (deeper : Deeper) (grows : (p : Place) (lines : Lines) → Grows (deepe
   unfolding read_line in_body
   line_grows l = next _ (keeps_own take_define (λ r. goes_same r)) (λ body. by body)
     where
-      by : (body : Option DefineBody) → Grows (by_body deeper l body)
+      by : (body : Option OpenDefine) → Grows (by_body deeper l body)
       by (Some b) = either (ends_body b l) (statement_line deeper b.place (statement.Assign (whole b))) (own (body_line b l)) (statement_grows b.place (statement.Assign (whole b))) (changed (body_line b l) (λ r. goes_same r))
       by None = either l.tab (own (recipe l)) (by_statement deeper l.place (statement_of l.text)) (recipe_grows l) (by_statement_grows l.place (statement_of l.text))
 

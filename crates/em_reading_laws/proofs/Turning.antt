@@ -7,7 +7,7 @@ use Rattle.em_view.specs.Steps.{and_then, own}
 use Rattle.em_reading.specs.declared.no.ReadNo.{ReadNo}
 use Rattle.em_reading.specs.declared.no.MakefileFault.TheVariants as fault
 use Rattle.em_reading.specs.declared.reading.Reading.{Reading}
-use Rattle.em_reading.specs.declared.reading.DefineBody.{DefineBody}
+use Rattle.em_reading.specs.declared.reading.OpenDefine.{OpenDefine}
 use Rattle.em_reading.specs.Faults.{at_place}
 use Rattle.em_reading.specs.Changes.{unended}
 use Rattle.em_reader.specs.Reading.{Deeper, read_line, read_lines, read_text}
@@ -46,7 +46,7 @@ module _ (deeper : Deeper) (front : List Line) (r : Reading) (o : Oracle) (w : W
     abbrev ended : End → End
     ended e = from_there e (read_lines deeper None []) o
 
-    sound_at : (q s : Reading) (u v : Workspace) (d : Option DefineBody) → q.define ≡ d → ◌≡◌ {A = End} (unended d q, u) (Ok (tt, s), v) → rest_from (Ok (tt, q), u) ≡ read_lines deeper too_long rest s o v
+    sound_at : (q s : Reading) (u v : Workspace) (d : Option OpenDefine) → q.define ≡ d → ◌≡◌ {A = End} (unended d q, u) (Ok (tt, s), v) → rest_from (Ok (tt, q), u) ≡ read_lines deeper too_long rest s o v
     sound_at q s u v None is h = let same : q ≡ s = ap (λ (z : End). state_of z.0) h in let here : u ≡ v = ap (λ (z : End). z.1) h in rw (same, here) refl
     sound_at q s u v (Some b) is h = absurd (never (at_place b.place fault.Define, q) (tt, s) u v h)
 
@@ -58,7 +58,7 @@ module _ (deeper : Deeper) (front : List Line) (r : Reading) (o : Oracle) (w : W
     pub sound : (s : Reading) (v : Workspace) → read_lines deeper None front r o w ≡ (Ok (tt, s), v) → read_lines deeper too_long (front ++ rest) r o w ≡ read_lines deeper too_long rest s o v
     sound s v h = let e = (parted deeper front r o w).0 in (parted deeper front r o w).1 too_long rest ∙ sound_by e.0 e.1 s v (sym alone ∙ h)
 
-    open_at : (q s : Reading) (found : ReadNo) (u v : Workspace) (d : Option DefineBody) → q.define ≡ d → ◌≡◌ {A = End} (unended d q, u) (Err (found, s), v) → (b : DefineBody) × (s.define ≡ Some b) × (found ≡ at_place b.place fault.Define) × (rest_from (Ok (tt, q), u) ≡ read_lines deeper too_long rest s o v)
+    open_at : (q s : Reading) (found : ReadNo) (u v : Workspace) (d : Option OpenDefine) → q.define ≡ d → ◌≡◌ {A = End} (unended d q, u) (Err (found, s), v) → (b : OpenDefine) × (s.define ≡ Some b) × (found ≡ at_place b.place fault.Define) × (rest_from (Ok (tt, q), u) ≡ read_lines deeper too_long rest s o v)
     open_at q s found u v None is h = absurd (never (found, s) (tt, q) v u (sym h))
     open_at q s found u v (Some b) is h =
         let same : q ≡ s = ap (λ (z : End). state_of z.0) h in
@@ -67,22 +67,22 @@ module _ (deeper : Deeper) (front : List Line) (r : Reading) (o : Oracle) (w : W
         (b, ap (λ (x : Reading). x.define) (sym same) ∙ is, sym told, rw (same, here) refl)
 
     faulty_by : (x : Ended) (u : Workspace) (s : Reading) (found : ReadNo) (v : Workspace) → ended (x, u) ≡ (Err (found, s), v)
-        → ((b : DefineBody) × (s.define ≡ Some b) × (found ≡ at_place b.place fault.Define) × (rest_from (x, u) ≡ read_lines deeper too_long rest s o v)) ⊎ (rest_from (x, u) ≡ (Err (found, s), v))
+        → ((b : OpenDefine) × (s.define ≡ Some b) × (found ≡ at_place b.place fault.Define) × (rest_from (x, u) ≡ read_lines deeper too_long rest s o v)) ⊎ (rest_from (x, u) ≡ (Err (found, s), v))
     unfolding own
     faulty_by (Ok p) u s found v h = inl (open_at p.1 s found u v p.1.define refl h)
     faulty_by (Err p) u s found v h = inr h
 
     abbrev Faulty : Reading → ReadNo → Workspace → Type 0
-    Faulty s found v = ((b : DefineBody) × (s.define ≡ Some b) × (found ≡ at_place b.place fault.Define) × (read_lines deeper too_long (front ++ rest) r o w ≡ read_lines deeper too_long rest s o v)) ⊎ (read_lines deeper too_long (front ++ rest) r o w ≡ (Err (found, s), v))
+    Faulty s found v = ((b : OpenDefine) × (s.define ≡ Some b) × (found ≡ at_place b.place fault.Define) × (read_lines deeper too_long (front ++ rest) r o w ≡ read_lines deeper too_long rest s o v)) ⊎ (read_lines deeper too_long (front ++ rest) r o w ≡ (Err (found, s), v))
 
     faulty : (s : Reading) (found : ReadNo) (v : Workspace) → read_lines deeper None front r o w ≡ (Err (found, s), v) → Faulty s found v
     faulty s found v h = by ((parted deeper front r o w).1 too_long rest) (faulty_by (parted deeper front r o w).0.0 (parted deeper front r o w).0.1 s found v (sym alone ∙ h))
       where
-        by : read_lines deeper too_long (front ++ rest) r o w ≡ rest_from (parted deeper front r o w).0 → ((b : DefineBody) × (s.define ≡ Some b) × (found ≡ at_place b.place fault.Define) × (rest_from (parted deeper front r o w).0 ≡ read_lines deeper too_long rest s o v)) ⊎ (rest_from (parted deeper front r o w).0 ≡ (Err (found, s), v)) → Faulty s found v
+        by : read_lines deeper too_long (front ++ rest) r o w ≡ rest_from (parted deeper front r o w).0 → ((b : OpenDefine) × (s.define ≡ Some b) × (found ≡ at_place b.place fault.Define) × (rest_from (parted deeper front r o w).0 ≡ read_lines deeper too_long rest s o v)) ⊎ (rest_from (parted deeper front r o w).0 ≡ (Err (found, s), v)) → Faulty s found v
         by whole (inl x) = inl (x.0, x.1, x.2, whole ∙ x.3)
         by whole (inr x) = inr (whole ∙ x)
 
-    pub opened : (s : Reading) (b : DefineBody) (v : Workspace) → s.define ≡ Some b → read_lines deeper None front r o w ≡ (Err (at_place b.place fault.Define, s), v)
+    pub opened : (s : Reading) (b : OpenDefine) (v : Workspace) → s.define ≡ Some b → read_lines deeper None front r o w ≡ (Err (at_place b.place fault.Define, s), v)
         → (read_lines deeper too_long (front ++ rest) r o w ≡ read_lines deeper too_long rest s o v) ⊎ (read_lines deeper too_long (front ++ rest) r o w ≡ (Err (at_place b.place fault.Define, s), v))
     opened s b v is h = by (faulty s (at_place b.place fault.Define) v h)
       where
@@ -90,7 +90,7 @@ module _ (deeper : Deeper) (front : List Line) (r : Reading) (o : Oracle) (w : W
         by (inl x) = inl x.3
         by (inr x) = inr x
 
-    pub refused : (s : Reading) (found : ReadNo) (v : Workspace) → ((b : DefineBody) → s.define ≡ Some b → found ≢ at_place b.place fault.Define) → read_lines deeper None front r o w ≡ (Err (found, s), v)
+    pub refused : (s : Reading) (found : ReadNo) (v : Workspace) → ((b : OpenDefine) → s.define ≡ Some b → found ≢ at_place b.place fault.Define) → read_lines deeper None front r o w ≡ (Err (found, s), v)
         → read_lines deeper too_long (front ++ rest) r o w ≡ (Err (found, s), v)
     refused s found v other h = by (faulty s found v h)
       where
@@ -104,7 +104,7 @@ pub text_law : (left : ℕ) (p : Place) (front rest : List Line) (too_long : Opt
 unfolding read_text
 text_law left p front rest too_long r s o w v h = sound (read_text left) front r o w too_long rest s v h
 
-pub open_law : (left : ℕ) (p : Place) (front rest : List Line) (too_long : Option Place) (r s : Reading) (b : DefineBody) (o : Oracle) (w v : Workspace) → s.define ≡ Some b
+pub open_law : (left : ℕ) (p : Place) (front rest : List Line) (too_long : Option Place) (r s : Reading) (b : OpenDefine) (o : Oracle) (w v : Workspace) → s.define ≡ Some b
     → read_text (suc left) p (record { lines = front; too_long = None }) r o w ≡ (Err (at_place b.place fault.Define, s), v)
     → (read_text (suc left) p (record { lines = front ++ rest; too_long = too_long }) r o w ≡ read_text (suc left) p (record { lines = rest; too_long = too_long }) s o v)
     ⊎ (read_text (suc left) p (record { lines = front ++ rest; too_long = too_long }) r o w ≡ (Err (at_place b.place fault.Define, s), v))
@@ -112,7 +112,7 @@ unfolding read_text
 open_law left p front rest too_long r s b o w v is h = opened (read_text left) front r o w too_long rest s b v is h
 
 pub refused_law : (left : ℕ) (p : Place) (front rest : List Line) (too_long : Option Place) (r s : Reading) (found : ReadNo) (o : Oracle) (w v : Workspace)
-    → ((b : DefineBody) → s.define ≡ Some b → found ≢ at_place b.place fault.Define)
+    → ((b : OpenDefine) → s.define ≡ Some b → found ≢ at_place b.place fault.Define)
     → read_text (suc left) p (record { lines = front; too_long = None }) r o w ≡ (Err (found, s), v)
     → read_text (suc left) p (record { lines = front ++ rest; too_long = too_long }) r o w ≡ (Err (found, s), v)
 unfolding read_text

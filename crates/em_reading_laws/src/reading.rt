@@ -27,7 +27,7 @@ ghost use Rattle.em_statement.specs.declared.statement.Include.{Include};
 ghost use Rattle.em_reading.specs.declared.no.MakefileFault.TheVariants as fault;
 ghost use Rattle.em_reading.specs.declared.no.ReadNo.{ReadNo};
 ghost use Rattle.em_reading.specs.declared.reading.Reading.{Reading};
-ghost use Rattle.em_reading.specs.declared.reading.DefineBody.{DefineBody};
+ghost use Rattle.em_reading.specs.declared.reading.OpenDefine.{OpenDefine};
 ghost use Rattle.em_reading.specs.Changes.{after_opens};
 ghost use Rattle.em_reading.specs.Faults.{at_place};
 ghost use Rattle.em_reader.specs.Reading.{Deeper, read_lines, read_text};
@@ -55,7 +55,7 @@ pub fn law_lines()
         → read_text (suc left) p (record { lines = front ++ rest; too_long = too_long }) r o w
         ≡ read_text (suc left) p (record { lines = rest; too_long = too_long }) s o v }
     ensures unended { (left : ℕ) (p : Place) (front rest : List Line) (too_long : Option Place)
-        (r s : Reading) (b : DefineBody) (o : Oracle) (w v : Workspace) → s.define ≡ Some b
+        (r s : Reading) (b : OpenDefine) (o : Oracle) (w v : Workspace) → s.define ≡ Some b
         → read_text (suc left) p (record { lines = front; too_long = None }) r o w
         ≡ (Err (at_place b.place fault.Define, s), v)
         → (read_text (suc left) p (record { lines = front ++ rest; too_long = too_long }) r o w
@@ -64,7 +64,7 @@ pub fn law_lines()
         ≡ (Err (at_place b.place fault.Define, s), v)) }
     ensures refused { (left : ℕ) (p : Place) (front rest : List Line) (too_long : Option Place)
         (r s : Reading) (found : ReadNo) (o : Oracle) (w v : Workspace)
-        → ((b : DefineBody) → s.define ≡ Some b → found ≢ at_place b.place fault.Define)
+        → ((b : OpenDefine) → s.define ≡ Some b → found ≢ at_place b.place fault.Define)
         → read_text (suc left) p (record { lines = front; too_long = None }) r o w
         ≡ (Err (found, s), v)
         → read_text (suc left) p (record { lines = front ++ rest; too_long = too_long }) r o w

@@ -35,13 +35,13 @@ fn directory_and_file(word: &[u8]) -> (&[u8], &[u8])
 
 /// The directories and the files of some words.
 #[derive(Drop)]
-struct NameParts {
+struct DirsAndFiles {
     directories: Text,
     files: Text,
 }
 
 /// The directories and the files of the words of a text.
-fn parts_of(alloc: Global, text: &[u8]) -> Result<NameParts, NoMemory>
+fn parts_of(alloc: Global, text: &[u8]) -> Result<DirsAndFiles, NoMemory>
     ensures directories { IfOk result
         (λ p. p.directories ≡ joined (map dir_part (words_of text.now))) }
     ensures files { IfOk result (λ p. p.files ≡ joined (map file_of (words_of text.now))) }
@@ -53,7 +53,7 @@ fn parts_of(alloc: Global, text: &[u8]) -> Result<NameParts, NoMemory>
         directories.push(directory)?;
         files.push(file)?;
     }
-    Ok(NameParts {
+    Ok(DirsAndFiles {
         directories: join(alloc, &directories)?,
         files: join(alloc, &files)?,
     })
@@ -88,7 +88,7 @@ fn add_forms(
         ∷ (in_directories.now, joined (map dir_part (words_of text)))
         ∷ (in_files.now, joined (map file_of (words_of text))) ∷ []) }
 {
-    let NameParts { directories, files } = parts_of(alloc, text.bytes())?;
+    let DirsAndFiles { directories, files } = parts_of(alloc, text.bytes())?;
     own.push(OwnVar::new(whole, text))?;
     own.push(OwnVar::new(in_directories, directories))?;
     own.push(OwnVar::new(in_files, files))?;

@@ -14,7 +14,7 @@ use std::alloc::Global;
 /// What makefiles say, and the tree and the working directory by which it is judged whether a name
 /// exists.
 #[derive(Clone, Copy)]
-struct GoalView<'a> {
+struct GoalContext<'a> {
     pub book: &'a Book,
     pub tree: &'a Tree,
     pub cwd: &'a Path,
@@ -40,7 +40,7 @@ fn is_endless(rules: &Rules, name: &[u8]) -> bool
 }
 
 /// Whether a pattern rule is found for the name, and it has no double-colon rules.
-fn is_found(alloc: Global, makefile: GoalView, name: &[u8]) -> Result<bool, NoMemory>
+fn is_found(alloc: Global, makefile: GoalContext, name: &[u8]) -> Result<bool, NoMemory>
     ensures { let m = makefile.entry in IfOk result
         (λ b. b ≡ is_found m.book.now m.tree.now m.cwd.now name.now) }
 {
@@ -53,7 +53,7 @@ fn is_found(alloc: Global, makefile: GoalView, name: &[u8]) -> Result<bool, NoMe
 
 /// Whether the name isn't phony, and a rule for it has a recipe or a pattern rule is found for it;
 /// none that is always remade by a double-colon rule.
-fn is_goal(alloc: Global, makefile: GoalView, name: &[u8]) -> Result<bool, NoMemory>
+fn is_goal(alloc: Global, makefile: GoalContext, name: &[u8]) -> Result<bool, NoMemory>
     ensures { let m = makefile.entry in IfOk result
         (λ b. b ≡ is_goal m.book.now m.tree.now m.cwd.now name.now) }
 {
@@ -70,7 +70,7 @@ fn is_goal(alloc: Global, makefile: GoalView, name: &[u8]) -> Result<bool, NoMem
 /// The name at the end, if it is a goal.
 fn add_goal(
     alloc: Global,
-    makefile: GoalView,
+    makefile: GoalContext,
     goals: &mut Seq<Text>,
     name: Text,
 ) -> Result<(), NoMemory>
@@ -84,7 +84,11 @@ fn add_goal(
 }
 
 /// Those of the names that are goals.
-fn goals_among(alloc: Global, makefile: GoalView, names: Seq<Text>) -> Result<Seq<Text>, NoMemory>
+fn goals_among(
+    alloc: Global,
+    makefile: GoalContext,
+    names: Seq<Text>,
+) -> Result<Seq<Text>, NoMemory>
     ensures { let m = makefile.entry in IfOk result
         (λ g. g ≡ goals_among m.book.now m.tree.now m.cwd.now names) }
 {
@@ -109,5 +113,5 @@ pub fn goals_of(alloc: Global, r: &Round, tree: &Tree, cwd: &Path) -> Result<Seq
 {
     let names = candidates(alloc, r)?;
     let book = &r.book;
-    goals_among(alloc, GoalView { book, tree, cwd }, names)
+    goals_among(alloc, GoalContext { book, tree, cwd }, names)
 }

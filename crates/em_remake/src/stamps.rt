@@ -26,8 +26,8 @@ fn is_changed(
 }
 
 /// Whether one of the names, read against the working directory, has another stamp in the tree
-/// after than in the tree before, behind the links on its way. Where nothing stands at a name, or it
-/// is no path, it has none: so one that came or went has changed.
+/// after than in the tree before, behind the links on its way. Where nothing stands at a name, or
+/// it is no path, it has none: so one that came or went has changed.
 ///
 /// Two searches for each name, up to the first that has changed.
 pub fn changed(

@@ -67,8 +67,9 @@ impl ShellLine {
     /// `cd` gives, but no make is run. Where W isn't one field, the whole line has run. Any other
     /// line has no words, and for it nothing is done.
     ///
-    /// Errors and cost are those of `run` for what is expanded or has run; where there are words, at
-    /// least one unit of fuel is gone. What was written is appended to `out`, also before an error.
+    /// Errors and cost are those of `run` for what is expanded or has run; where there are words,
+    /// at least one unit of fuel is gone. What was written is appended to `out`, also before an
+    /// error.
     pub fn sub_words<V: View>(
         &self,
         alloc: Global,

@@ -80,7 +80,8 @@ pub fn law_order()
 /// symbolic link is told of or made.
 pub fn law_file()
     ensures write { (deeper : Deeper) (scene : Scene) (o : Oracle) (r : Redirect) (s : Streams)
-        (f : OpenedFile) (h t : Here) (w v : Workspace) (empties : Empties deeper scene o r h w f t v)
+        (f : OpenedFile) (h t : Here) (w v : Workspace)
+        (empties : Empties deeper scene o r h w f t v)
         → Ends o (redirect_one deeper scene r s) h w (Some (into s f)) t v
         × (HasNoLinks o empties.between → Holds v f.path []) }
     ensures append { (deeper : Deeper) (scene : Scene) (o : Oracle) (r : Redirect) (s : Streams)

@@ -181,7 +181,7 @@ fn unset(alloc: Global, here: &mut Here) -> Result<(), Jump> {
 
 /// What a command in capitals does.
 #[derive(Clone, Copy)]
-enum TestCommand {
+enum ExecCall {
     Input,
     Set,
     Vars,
@@ -196,22 +196,22 @@ enum TestCommand {
     Spent,
 }
 
-static CALLS: [(&str, TestCommand); 12] = [
-    ("INPUT", TestCommand::Input),
-    ("SET", TestCommand::Set),
-    ("VARS", TestCommand::Vars),
-    ("HAND", TestCommand::Hand),
-    ("DELIVER", TestCommand::Deliver),
-    ("REJOIN", TestCommand::Rejoin),
-    ("STUCK", TestCommand::Stuck),
-    ("OVERHEAR", TestCommand::Overhear),
-    ("COMPLAIN", TestCommand::Complain),
-    ("UNSET", TestCommand::Unset),
-    ("REFUSED", TestCommand::Refused),
-    ("SPENT", TestCommand::Spent),
+static CALLS: [(&str, ExecCall); 12] = [
+    ("INPUT", ExecCall::Input),
+    ("SET", ExecCall::Set),
+    ("VARS", ExecCall::Vars),
+    ("HAND", ExecCall::Hand),
+    ("DELIVER", ExecCall::Deliver),
+    ("REJOIN", ExecCall::Rejoin),
+    ("STUCK", ExecCall::Stuck),
+    ("OVERHEAR", ExecCall::Overhear),
+    ("COMPLAIN", ExecCall::Complain),
+    ("UNSET", ExecCall::Unset),
+    ("REFUSED", ExecCall::Refused),
+    ("SPENT", ExecCall::Spent),
 ];
 
-fn call_of(words: &[Text]) -> Option<TestCommand> {
+fn call_of(words: &[Text]) -> Option<ExecCall> {
     let name = words.first()?;
     for (known, call) in &CALLS {
         if known.as_bytes() == name.bytes() {
@@ -224,24 +224,24 @@ fn call_of(words: &[Text]) -> Option<TestCommand> {
 /// Calls what em_exec calls.
 fn run_call<V: View>(
     alloc: Global,
-    call: TestCommand,
+    call: ExecCall,
     streams: &Streams,
     here: &mut Here,
     desk: &mut Desk<V>,
 ) -> Result<(), Jump> {
     match call {
-        TestCommand::Input => write_input(alloc, streams, here),
-        TestCommand::Set => set(alloc, here),
-        TestCommand::Vars => write_vars(alloc, here),
-        TestCommand::Hand => hand_copy(alloc, streams, here),
-        TestCommand::Deliver => deliver_copy(alloc, streams, here, desk),
-        TestCommand::Rejoin => rejoin(alloc, here),
-        TestCommand::Stuck => rejoin_stuck(alloc, here),
-        TestCommand::Overhear => overhear(alloc, here),
-        TestCommand::Complain => here.complain(alloc, b"w", Reason::File(FileNo::TooBig)),
-        TestCommand::Unset => unset(alloc, here),
-        TestCommand::Refused => Err(here.fault(WordFault::Refused(Construct::Submake))),
-        TestCommand::Spent => Err(here.fault(WordFault::Spent)),
+        ExecCall::Input => write_input(alloc, streams, here),
+        ExecCall::Set => set(alloc, here),
+        ExecCall::Vars => write_vars(alloc, here),
+        ExecCall::Hand => hand_copy(alloc, streams, here),
+        ExecCall::Deliver => deliver_copy(alloc, streams, here, desk),
+        ExecCall::Rejoin => rejoin(alloc, here),
+        ExecCall::Stuck => rejoin_stuck(alloc, here),
+        ExecCall::Overhear => overhear(alloc, here),
+        ExecCall::Complain => here.complain(alloc, b"w", Reason::File(FileNo::TooBig)),
+        ExecCall::Unset => unset(alloc, here),
+        ExecCall::Refused => Err(here.fault(WordFault::Refused(Construct::Submake))),
+        ExecCall::Spent => Err(here.fault(WordFault::Spent)),
     }
 }
 

@@ -1,6 +1,6 @@
-//! What is expected is a text: each turn, then each question as a letter (L link, K kind, N names) and its
-//! path, `|` and the units used. A turn is `name=value;`, `(n)` for an output, the fields in
-//! brackets, a pattern with `'` before each quoted byte, or `!` and a fault.
+//! What is expected is a text: each turn, then each question as a letter (L link, K kind, N names)
+//! and its path, `|` and the units used. A turn is `name=value;`, `(n)` for an output, the fields
+//! in brackets, a pattern with `'` before each quoted byte, or `!` and a fault.
 ghost use Rattle.std.specs.Prelude.{◌≡◌, true, IfOk};
 ghost use Rattle.em_word.specs.Held.{IsReady};
 
@@ -18,7 +18,7 @@ use std::test::Fail;
 
 /// A piece of a word; the first of each tells whether it is quoted.
 #[derive(Clone, Copy)]
-enum WordPart {
+enum PieceSketch {
     Bytes(bool, &'static str),
     /// A value of the variable `x`: its form, and its argument, which is one piece, not quoted;
     /// `None` is no argument.
@@ -86,20 +86,24 @@ fn output(alloc: Global) -> WordPiece {
     }
 }
 
-fn add_part(alloc: Global, pieces: &mut Vec<WordPiece>, part: &WordPart) -> Result<(), NoMemory> {
+fn add_part(
+    alloc: Global,
+    pieces: &mut Vec<WordPiece>,
+    part: &PieceSketch,
+) -> Result<(), NoMemory> {
     match part {
-        WordPart::Bytes(quoted, text) => pieces.push(bytes(alloc, *quoted, text)?)?,
-        WordPart::Value(quoted, form, argument) => {
+        PieceSketch::Bytes(quoted, text) => pieces.push(bytes(alloc, *quoted, text)?)?,
+        PieceSketch::Value(quoted, form, argument) => {
             add_value(alloc, pieces, *quoted, form, *argument)?
         }
-        WordPart::Begin(form) => pieces.push(begin(alloc, false, form)?)?,
-        WordPart::End => pieces.push(end())?,
-        WordPart::Output => pieces.push(output(alloc))?,
+        PieceSketch::Begin(form) => pieces.push(begin(alloc, false, form)?)?,
+        PieceSketch::End => pieces.push(end())?,
+        PieceSketch::Output => pieces.push(output(alloc))?,
     }
     Ok(())
 }
 
-fn word(alloc: Global, parts: &[WordPart]) -> Result<Word, NoMemory> {
+fn word(alloc: Global, parts: &[PieceSketch]) -> Result<Word, NoMemory> {
     let mut pieces = Vec::new(alloc);
     for part in parts {
         add_part(alloc, &mut pieces, part)?;
@@ -307,7 +311,7 @@ fn told_on(
 fn told_of(
     alloc: Global,
     state: &State,
-    parts: &[WordPart],
+    parts: &[PieceSketch],
     manner: WordManner,
     units: u64,
 ) -> Result<Text, Fail> {
@@ -363,9 +367,9 @@ static FORMS: [FormRow; 33] = [
 /// Whether the value between `<` and `>` is told so.
 fn is_form(alloc: Global, state: &State, row: &FormRow) -> Result<bool, Fail> {
     let parts = [
-        WordPart::Bytes(false, "<"),
-        WordPart::Value(row.3, row.0, row.1),
-        WordPart::Bytes(false, ">"),
+        PieceSketch::Bytes(false, "<"),
+        PieceSketch::Value(row.3, row.0, row.1),
+        PieceSketch::Bytes(false, ">"),
     ];
     let given = told_of(alloc, state, &parts, (Mode::Fields, row.2), 100)?;
     Ok(given.bytes() == row.4.as_bytes())
@@ -420,7 +424,7 @@ static TEXTS: [Plain; 20] = [
 ];
 
 fn is_plain(alloc: Global, state: &State, row: &Plain) -> Result<bool, Fail> {
-    let parts = [WordPart::Bytes(row.1, row.0)];
+    let parts = [PieceSketch::Bytes(row.1, row.0)];
     let given = told_of(alloc, state, &parts, (row.2, None), row.3)?;
     Ok(given.bytes() == row.4.as_bytes())
 }
@@ -435,15 +439,20 @@ fn texts_are_fields_names_or_patterns(rt: HostRuntime) -> Result<(), Fail> {
 }
 
 /// A word, the text of `x`, the units, and what is expected.
-type Mixed = (&'static [WordPart], Option<&'static str>, u64, &'static str);
+type Mixed = (
+    &'static [PieceSketch],
+    Option<&'static str>,
+    u64,
+    &'static str,
+);
 
 /// Where quotes begin and end within a word.
 static QUOTES: [Mixed; 8] = [
     (
         &[
-            WordPart::Bytes(false, "a"),
-            WordPart::Value(true, "", None),
-            WordPart::Bytes(false, "b"),
+            PieceSketch::Bytes(false, "a"),
+            PieceSketch::Value(true, "", None),
+            PieceSketch::Bytes(false, "b"),
         ],
         Some("c  d"),
         100,
@@ -451,46 +460,52 @@ static QUOTES: [Mixed; 8] = [
     ),
     (
         &[
-            WordPart::Bytes(false, "a"),
-            WordPart::Value(false, "", None),
-            WordPart::Bytes(true, "b"),
+            PieceSketch::Bytes(false, "a"),
+            PieceSketch::Value(false, "", None),
+            PieceSketch::Bytes(true, "b"),
         ],
         Some(" c "),
         100,
         "[a][c][b]|2",
     ),
     (
-        &[WordPart::Bytes(true, ""), WordPart::Value(false, "", None)],
-        Some(" "),
-        100,
-        "[]|2",
-    ),
-    (
-        &[WordPart::Value(false, "", None), WordPart::Bytes(true, "")],
+        &[
+            PieceSketch::Bytes(true, ""),
+            PieceSketch::Value(false, "", None),
+        ],
         Some(" "),
         100,
         "[]|2",
     ),
     (
         &[
-            WordPart::Bytes(true, ""),
-            WordPart::Value(false, "", None),
-            WordPart::Bytes(true, ""),
+            PieceSketch::Value(false, "", None),
+            PieceSketch::Bytes(true, ""),
+        ],
+        Some(" "),
+        100,
+        "[]|2",
+    ),
+    (
+        &[
+            PieceSketch::Bytes(true, ""),
+            PieceSketch::Value(false, "", None),
+            PieceSketch::Bytes(true, ""),
         ],
         Some(" "),
         100,
         "[][]|2",
     ),
     (
-        &[WordPart::Bytes(true, ""), WordPart::Bytes(true, "")],
+        &[PieceSketch::Bytes(true, ""), PieceSketch::Bytes(true, "")],
         None,
         100,
         "[]|0",
     ),
     (
         &[
-            WordPart::Value(false, "", None),
-            WordPart::Value(false, "", None),
+            PieceSketch::Value(false, "", None),
+            PieceSketch::Value(false, "", None),
         ],
         None,
         100,
@@ -498,8 +513,8 @@ static QUOTES: [Mixed; 8] = [
     ),
     (
         &[
-            WordPart::Value(true, "", None),
-            WordPart::Value(false, "", None),
+            PieceSketch::Value(true, "", None),
+            PieceSketch::Value(false, "", None),
         ],
         None,
         100,
@@ -533,9 +548,9 @@ static SET_FIRST: [(u64, &str); 6] = [
 
 fn is_set_first(alloc: Global, state: &State, units: u64, wanted: &str) -> Result<bool, Fail> {
     let parts = [
-        WordPart::Bytes(false, "a"),
-        WordPart::Value(false, "=", Some("z")),
-        WordPart::Output,
+        PieceSketch::Bytes(false, "a"),
+        PieceSketch::Value(false, "=", Some("z")),
+        PieceSketch::Output,
     ];
     let given = told_of(alloc, state, &parts, (Mode::Fields, None), units)?;
     Ok(given.bytes() == wanted.as_bytes())
@@ -551,12 +566,12 @@ fn a_value_is_set_before_an_output_is_asked_for(rt: HostRuntime) -> Result<(), F
 }
 
 /// `${x-${x=n}$(c)}$(d)`
-static NESTED_PARTS: [WordPart; 5] = [
-    WordPart::Begin("-"),
-    WordPart::Value(false, "=", Some("n")),
-    WordPart::Output,
-    WordPart::End,
-    WordPart::Output,
+static NESTED_PARTS: [PieceSketch; 5] = [
+    PieceSketch::Begin("-"),
+    PieceSketch::Value(false, "=", Some("n")),
+    PieceSketch::Output,
+    PieceSketch::End,
+    PieceSketch::Output,
 ];
 
 /// The text of `x`, and what is told of the word above.
@@ -594,7 +609,7 @@ fn over_states(alloc: Global, states: Vec<State>, word: &Word) -> Result<Text, F
 
 /// What is told of `d/*/k`, where `d` is listed and then isn't there.
 fn without_d(alloc: Global) -> Result<Text, Fail> {
-    let word = word(alloc, &[WordPart::Bytes(false, "d/*/k")])?;
+    let word = word(alloc, &[PieceSketch::Bytes(false, "d/*/k")])?;
     let with_d = "d/d f/d/x";
     let states = states(alloc, &[with_d, with_d, with_d, with_d, ""])?;
     over_states(alloc, states, &word)

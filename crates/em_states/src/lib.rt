@@ -1,5 +1,5 @@
-//! What the tests of makefiles, of recipes and of the shell share: states over small trees, and
-//! texts of what was found.
+//! What the tests of makefiles, of recipes and of the shell share: small trees, the states over
+//! them, and texts of what was found.
 #![tactic(auto)]
 
 mod texts;

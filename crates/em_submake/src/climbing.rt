@@ -295,13 +295,13 @@ fn turn<V: View, J: Steps, M: Maker<J>>(
 /// status is 2 where a job failed, has no rule or was halted, and 0 where none did. A job that is
 /// refused or spends its fuel ends all makes with its outcome, and the jobs around it say nothing.
 ///
-/// `NoMemory` alone is an error, and may come freely; what was done till then stands, and what `out`
-/// holds then no clause tells.
+/// `NoMemory` alone is an error, and may come freely; what was done till then stands, and what
+/// `out` holds then no clause tells.
 ///
 /// The cost is that of the jobs' steps; of `read_through` and `plan_through` for each make, and a
-/// copy of the variables that it has read; and for each of its jobs that of `Maker::job`, and a copy
-/// of each outcome for which it asks. A make's book, plan and outcomes are there until it has ended,
-/// those of at most 8 makes at a time.
+/// copy of the variables that it has read; and for each of its jobs that of `Maker::job`, and a
+/// copy of each outcome for which it asks. A make's book, plan and outcomes are there until it has
+/// ended, those of at most 8 makes at a time.
 pub fn make<V: View, J: Steps, M: Maker<J>>(
     alloc: Global,
     first: J,

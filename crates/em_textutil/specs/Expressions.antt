@@ -26,8 +26,8 @@ use Rattle.em_lineutil.specs.Formats.{number_of}
 use Rattle.em_lineutil.specs.Tests.{form_of, stripped, is_related}
 use Rattle.em_utility.specs.declared.reason.Reason.TheVariants.{NotANumber}
 use Rattle.em_utility.specs.Writing.{nothing, faulted}
-use Rattle.em_textutil.specs.declared.expression.TestResult.{TestResult}
-use Rattle.em_textutil.specs.declared.expression.TestResult.TheVariants.{Is, Strange, Syntax}
+use Rattle.em_textutil.specs.declared.expression.ExpressionResult.{ExpressionResult}
+use Rattle.em_textutil.specs.declared.expression.ExpressionResult.TheVariants.{Is, Strange, Syntax}
 
 -- ---- what is asked of a name; one that is no path is absent, and isn't asked
 
@@ -72,22 +72,22 @@ abbrev pub has_bytes : Option (List ℕ) → Bool
 has_bytes None = false
 has_bytes (Some bytes) = is_filled bytes
 
-unfoldable pub says_kind : List ℕ → Unary → List ℕ → Action ExecNo TestResult
+unfoldable pub says_kind : List ℕ → Unary → List ℕ → Action ExecNo ExpressionResult
 says_kind cwd u w = do
   k ← kind_by (path_of cwd w)
   done (Is (is_of u k))
 
-unfoldable pub says_bytes : List ℕ → List ℕ → Action ExecNo TestResult
+unfoldable pub says_bytes : List ℕ → List ℕ → Action ExecNo ExpressionResult
 says_bytes cwd w = do
   b ← content_by (path_of cwd w)
   done (Is (has_bytes b))
 
-unfoldable pub says_link : List ℕ → List ℕ → Action ExecNo TestResult
+unfoldable pub says_link : List ℕ → List ℕ → Action ExecNo ExpressionResult
 says_link cwd w = do
   l ← link_by (path_of cwd w)
   done (Is (is_some l))
 
-abbrev pub says_unary : List ℕ → Unary → List ℕ → Action ExecNo TestResult
+abbrev pub says_unary : List ℕ → Unary → List ℕ → Action ExecNo ExpressionResult
 says_unary cwd unary.Filled w = done (Is (is_filled w))
 says_unary cwd unary.Empty w = done (Is (not (is_filled w)))
 says_unary cwd unary.Exists w = says_kind cwd unary.Exists w
@@ -97,7 +97,7 @@ says_unary cwd unary.HasBytes w = says_bytes cwd w
 says_unary cwd unary.IsLink w = says_link cwd w
 
 -- the first word that is no number is named
-abbrev pub numbers_say : Relation → Option ℤ → Option ℤ → List ℕ → List ℕ → TestResult
+abbrev pub numbers_say : Relation → Option ℤ → Option ℤ → List ℕ → List ℕ → ExpressionResult
 numbers_say r None y a b = Strange a
 numbers_say r (Some x) None a b = Strange b
 numbers_say r (Some x) (Some y) a b = Is (is_related r x y)
@@ -112,13 +112,13 @@ abbrev pub is_newest : Bool → Option ℕ → Option ℕ → Bool
 is_newest first s t = if first then is_above s t else is_above t s
 
 -- the stamps of both are asked, from left to right
-unfoldable pub says_stamps : List ℕ → Bool → List ℕ → List ℕ → Action ExecNo TestResult
+unfoldable pub says_stamps : List ℕ → Bool → List ℕ → List ℕ → Action ExecNo ExpressionResult
 says_stamps cwd first a b = do
   s ← stamp_by (path_of cwd a)
   t ← stamp_by (path_of cwd b)
   done (Is (is_newest first s t))
 
-abbrev pub says_binary : List ℕ → Binary → List ℕ → List ℕ → Action ExecNo TestResult
+abbrev pub says_binary : List ℕ → Binary → List ℕ → List ℕ → Action ExecNo ExpressionResult
 says_binary cwd binary.Same a b = done (Is (pointwise nat_eq a b))
 says_binary cwd binary.Other a b = done (Is (not (pointwise nat_eq a b)))
 says_binary cwd (binary.Number r) a b = done (numbers_say r (number_of a) (number_of b) a b)
@@ -132,7 +132,7 @@ letter byte = Letter (codes "test") byte
 abbrev pub word_at : List (List ℕ) → ℕ → List ℕ
 word_at ws i = unwrap_or (slice_get ws i) []
 
-abbrev pub says : List ℕ → Form → List (List ℕ) → Action ExecNo TestResult
+abbrev pub says : List ℕ → Form → List (List ℕ) → Action ExecNo ExpressionResult
 says cwd form.Word ws = done (Is (is_filled (word_at ws 0)))
 says cwd (form.Unary u) ws = says_unary cwd u (word_at ws 1)
 says cwd (form.Binary o) ws = says_binary cwd o (word_at ws 0) (word_at ws 2)
@@ -147,7 +147,7 @@ truth true true = 1
 truth false false = 1
 truth _ _ = 0
 
-abbrev pub answer : Bool → TestResult → Done
+abbrev pub answer : Bool → ExpressionResult → Done
 answer negated (Is holds) = record { status = truth negated holds; pieces = [] }
 answer negated (Strange word) = faulted (codes "test") word NotANumber nothing
 answer negated Syntax = record { status = 2; pieces = record { stream = 2; text = codes "emake: test: syntax error\n" } ∷ [] }

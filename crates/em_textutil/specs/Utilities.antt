@@ -22,7 +22,7 @@ use Rattle.em_textutil.specs.Sources.{read_all}
 use Rattle.em_textutil.specs.Jobs.{job_done, muted}
 use Rattle.em_textutil.specs.Plans.{name_of, given_options, planned, files_of, is_silent}
 use Rattle.em_textutil.specs.Plain.{plain_done}
-use Rattle.em_textutil.specs.declared.expression.TestResult.TheVariants.{Syntax}
+use Rattle.em_textutil.specs.declared.expression.ExpressionResult.TheVariants.{Syntax}
 use Rattle.em_textutil.specs.Expressions.{test_words, answer}
 
 abbrev pub utility_of : List ℕ → Option TextUtility

@@ -4,7 +4,7 @@ ghost use Rattle.em_view.specs.Performs.{Performs};
 ghost use Rattle.em_view.specs.Ends.{is_want};
 ghost use Rattle.em_textutil.specs.Utilities.{bracketed, lacks_end};
 
-use crate::expression::{TestResult, answer, test_words};
+use crate::expression::{ExpressionResult, answer, test_words};
 use em_base::Text;
 use em_path::Path;
 use em_view::{Desk, Done, ExecNo, View};
@@ -30,7 +30,7 @@ pub(crate) fn bracketed<V: View>(
     ensures { Performs is_want V.tells desk.old desk.new result (bracketed cwd.now words.now) }
 {
     if lacks_end(words) {
-        return Ok(answer(alloc, false, TestResult::Syntax)?);
+        return Ok(answer(alloc, false, ExpressionResult::Syntax)?);
     }
     let end = words.len().saturating_sub(1);
     test_words(alloc, cwd, &words[..end], desk)

@@ -16,7 +16,7 @@ use std::alloc::Global;
 
 /// What an expression says.
 #[derive(Debug, Drop, PartialEq, Eq)]
-pub enum TestResult {
+pub enum ExpressionResult {
     /// It holds, or it doesn't.
     Is(bool),
     /// This word should be a number.
@@ -90,12 +90,12 @@ fn says_kind<V: View>(
     unary: Unary,
     word: &[u8],
     desk: &mut Desk<V>,
-) -> Result<TestResult, ExecNo>
+) -> Result<ExpressionResult, ExecNo>
     ensures { Performs is_want V.tells desk.old desk.new result (says_kind cwd.now unary word.now) }
 {
     let path = path_of(alloc, cwd, word)?;
     let kind = kind_by(path, desk)?;
-    Ok(TestResult::Is(is_of(unary, kind)))
+    Ok(ExpressionResult::Is(is_of(unary, kind)))
 }
 
 fn is_filled(word: &[u8]) -> bool
@@ -128,12 +128,12 @@ fn says_bytes<V: View>(
     cwd: &Path,
     word: &[u8],
     desk: &mut Desk<V>,
-) -> Result<TestResult, ExecNo>
+) -> Result<ExpressionResult, ExecNo>
     ensures { Performs is_want V.tells desk.old desk.new result (says_bytes cwd.now word.now) }
 {
     let path = path_of(alloc, cwd, word)?;
     let body = content_by(path, desk)?;
-    Ok(TestResult::Is(has_bytes(body)))
+    Ok(ExpressionResult::Is(has_bytes(body)))
 }
 
 fn says_link<V: View>(
@@ -141,12 +141,12 @@ fn says_link<V: View>(
     cwd: &Path,
     word: &[u8],
     desk: &mut Desk<V>,
-) -> Result<TestResult, ExecNo>
+) -> Result<ExpressionResult, ExecNo>
     ensures { Performs is_want V.tells desk.old desk.new result (says_link cwd.now word.now) }
 {
     let path = path_of(alloc, cwd, word)?;
     let link = link_by(path, desk)?;
-    Ok(TestResult::Is(link.is_some()))
+    Ok(ExpressionResult::Is(link.is_some()))
 }
 
 fn says_unary<V: View>(
@@ -155,13 +155,13 @@ fn says_unary<V: View>(
     unary: Unary,
     word: &[u8],
     desk: &mut Desk<V>,
-) -> Result<TestResult, ExecNo>
+) -> Result<ExpressionResult, ExecNo>
     ensures { Performs is_want V.tells desk.old desk.new result
         (says_unary cwd.now unary word.now) }
 {
     match unary {
-        Unary::Filled => Ok(TestResult::Is(is_filled(word))),
-        Unary::Empty => Ok(TestResult::Is(!is_filled(word))),
+        Unary::Filled => Ok(ExpressionResult::Is(is_filled(word))),
+        Unary::Empty => Ok(ExpressionResult::Is(!is_filled(word))),
         Unary::Exists => says_kind(alloc, cwd, Unary::Exists, word, desk),
         Unary::IsFile => says_kind(alloc, cwd, Unary::IsFile, word, desk),
         Unary::IsDir => says_kind(alloc, cwd, Unary::IsDir, word, desk),
@@ -175,15 +175,15 @@ fn numbers_say(
     relation: Relation,
     a: &[u8],
     b: &[u8],
-) -> Result<TestResult, NoMemory>
+) -> Result<ExpressionResult, NoMemory>
     ensures { IfOk result
         (λ v. v ≡ numbers_say relation (number_of a.now) (number_of b.now) a.now b.now) }
 {
     match number(a) {
-        None => Ok(TestResult::Strange(Text::from_slice(alloc, a)?)),
+        None => Ok(ExpressionResult::Strange(Text::from_slice(alloc, a)?)),
         Some(x) => match number(b) {
-            None => Ok(TestResult::Strange(Text::from_slice(alloc, b)?)),
-            Some(y) => Ok(TestResult::Is(is_related(relation, x, y))),
+            None => Ok(ExpressionResult::Strange(Text::from_slice(alloc, b)?)),
+            Some(y) => Ok(ExpressionResult::Is(is_related(relation, x, y))),
         },
     }
 }
@@ -219,7 +219,7 @@ fn says_stamps<V: View>(
     a: &[u8],
     b: &[u8],
     desk: &mut Desk<V>,
-) -> Result<TestResult, ExecNo>
+) -> Result<ExpressionResult, ExecNo>
     ensures { Performs is_want V.tells desk.old desk.new result
         (says_stamps cwd.now first a.now b.now) }
 {
@@ -227,7 +227,7 @@ fn says_stamps<V: View>(
     let other = path_of(alloc, cwd, b)?;
     let s = stamp_by(path, desk)?;
     let t = stamp_by(other, desk)?;
-    Ok(TestResult::Is(is_newest(first, s, t)))
+    Ok(ExpressionResult::Is(is_newest(first, s, t)))
 }
 
 fn says_binary<V: View>(
@@ -237,13 +237,13 @@ fn says_binary<V: View>(
     a: &[u8],
     b: &[u8],
     desk: &mut Desk<V>,
-) -> Result<TestResult, ExecNo>
+) -> Result<ExpressionResult, ExecNo>
     ensures { Performs is_want V.tells desk.old desk.new result
         (says_binary cwd.now binary a.now b.now) }
 {
     match binary {
-        Binary::Same => Ok(TestResult::Is(a == b)),
-        Binary::Other => Ok(TestResult::Is(a != b)),
+        Binary::Same => Ok(ExpressionResult::Is(a == b)),
+        Binary::Other => Ok(ExpressionResult::Is(a != b)),
         Binary::Number(relation) => Ok(numbers_say(alloc, relation, a, b)?),
         Binary::Newer => says_stamps(alloc, cwd, true, a, b, desk),
         Binary::Older => says_stamps(alloc, cwd, false, a, b, desk),
@@ -264,11 +264,11 @@ fn says<V: View>(
     form: Form,
     words: &[Text],
     desk: &mut Desk<V>,
-) -> Result<TestResult, ExecNo>
+) -> Result<ExpressionResult, ExecNo>
     ensures { Performs is_want V.tells desk.old desk.new result (says cwd.now form words.now) }
 {
     match form {
-        Form::Word => Ok(TestResult::Is(is_filled(word_at(words, 0)))),
+        Form::Word => Ok(ExpressionResult::Is(is_filled(word_at(words, 0)))),
         Form::Unary(unary) => says_unary(alloc, cwd, unary, word_at(words, 1), desk),
         Form::Binary(binary) => {
             says_binary(
@@ -281,7 +281,7 @@ fn says<V: View>(
             )
         }
         Form::Letter(byte) => Err(ExecNo::Refused(letter(alloc, byte)?)),
-        Form::Syntax => Ok(TestResult::Syntax),
+        Form::Syntax => Ok(ExpressionResult::Syntax),
     }
 }
 
@@ -292,16 +292,20 @@ fn truth(negated: bool, holds: bool) -> u8
 }
 
 /// What is written, and the status.
-pub(crate) fn answer(alloc: Global, negated: bool, verdict: TestResult) -> Result<Done, NoMemory>
+pub(crate) fn answer(
+    alloc: Global,
+    negated: bool,
+    verdict: ExpressionResult,
+) -> Result<Done, NoMemory>
     ensures { IfOk result (λ d. d ≡ answer negated verdict) }
 {
     let mut done = begun(alloc);
     match verdict {
-        TestResult::Is(holds) => done.status = truth(negated, holds),
-        TestResult::Strange(word) => {
+        ExpressionResult::Is(holds) => done.status = truth(negated, holds),
+        ExpressionResult::Strange(word) => {
             fail(alloc, &mut done, b"test", word.bytes(), Reason::NotANumber)?;
         }
-        TestResult::Syntax => {
+        ExpressionResult::Syntax => {
             write(
                 &mut done,
                 2,

@@ -1,7 +1,8 @@
 //! Commands over a small tree. A script is commands with `;` between them, each of words with a
 //! blank between them. Its transcript has for each command its status, and each piece that it wrote
 //! behind the number of its stream; `-` for what is no file utility, `!` and the letter for an
-//! option that is refused, `!` and the name for a command that is, `$` for spent fuel; and then `;`.
+//! option that is refused, `!` and the name for a command that is, `$` for spent fuel; and then
+//! `;`.
 use super::shows::{add_all, show_done, words};
 use super::trees::{NodeRow, state};
 use em_base::{Construct, Fuel, NoMemory, Text};

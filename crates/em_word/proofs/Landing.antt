@@ -20,7 +20,7 @@ use Rattle.em_word.specs.declared.turn.Mode.{Mode}
 use Rattle.em_word.specs.declared.turn.WordTurn.TheVariants as wordturn
 use Rattle.em_word.specs.declared.expander.Expander.{Expander}
 use Rattle.em_word.specs.declared.expander.Open.{Open}
-use Rattle.em_word.specs.declared.expander.ExpanderState.TheVariants.{Ready, Waiting, Given}
+use Rattle.em_word.specs.declared.expander.ExpanderStage.TheVariants.{Ready, Waiting, Given}
 use Rattle.em_word.specs.declared.step.ExpansionStep.{ExpansionStep}
 use Rattle.em_word.specs.declared.step.ExpansionStep.TheVariants as step
 use Rattle.em_word.specs.Talk.{Ends, Pays, Looks, and_then}

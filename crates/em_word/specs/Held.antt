@@ -20,8 +20,8 @@ use Rattle.em_word.specs.declared.turn.WordTurn.{WordTurn}
 use Rattle.em_word.specs.declared.turn.WordTurn.TheVariants as turn
 use Rattle.em_word.specs.declared.expander.Expander.{Expander}
 use Rattle.em_word.specs.declared.expander.Open.{Open}
-use Rattle.em_word.specs.declared.expander.ExpanderState.{ExpanderState}
-use Rattle.em_word.specs.declared.expander.ExpanderState.TheVariants.{Ready, Waiting, Given}
+use Rattle.em_word.specs.declared.expander.ExpanderStage.{ExpanderStage}
+use Rattle.em_word.specs.declared.expander.ExpanderStage.TheVariants.{Ready, Waiting, Given}
 use Rattle.em_word.specs.Talk.{Pays, and_then}
 use Rattle.em_word.specs.Values.{Plan, taken, value_piece}
 use Rattle.em_word.specs.Words.{Around, Next, plan, begun, ended}
@@ -38,7 +38,7 @@ arounds e = map around e.outer
 abbrev pub next : List WordPiece → Next
 next rest n os ps = plan n os ps rest
 
-abbrev pub staged : ExpanderState → List Around → List Part → List WordPiece → Plan Script
+abbrev pub staged : ExpanderStage → List Around → List Part → List WordPiece → Plan Script
 staged Ready os ps rest = plan 0 os ps rest
 staged (Waiting q s) os ps rest = plan 0 os ps rest
 staged (Given q output) os ps rest = and_then (taken q output) (λ more. plan 0 os (joined ps more) rest)
@@ -46,7 +46,7 @@ staged (Given q output) os ps rest = and_then (taken q output) (λ more. plan 0 
 unfoldable pub plan_of : Expander → Plan Script
 plan_of e = staged e.stage (arounds e) e.parts e.rest.now
 
-abbrev pub given : ExpanderState → List ℕ → ExpanderState
+abbrev pub given : ExpanderStage → List ℕ → ExpanderStage
 given Ready output = Given false output
 given (Waiting q s) output = Given q output
 given (Given q _) output = Given q output
@@ -61,7 +61,7 @@ word_of e = e.word.now
 unfoldable pub mode_of : Expander → Mode
 mode_of e = e.mode
 
-abbrev pub asked_in : ExpanderState → Option Script
+abbrev pub asked_in : ExpanderStage → Option Script
 asked_in (Waiting q s) = Some s.now
 asked_in _ = None
 
@@ -70,7 +70,7 @@ unfoldable pub asked_of : Expander → Option Script
 asked_of e = asked_in e.stage
 
 -- whether it waits for an output
-abbrev pub waits : ExpanderState → Bool
+abbrev pub waits : ExpanderStage → Bool
 waits (Waiting q s) = true
 waits _ = false
 

@@ -34,7 +34,7 @@ pub struct Expander<'a> {
     pub(crate) rest: &'a [WordPiece],
     /// The values whose arguments are open.
     pub(crate) outer: Stack<Open<'a>>,
-    pub(crate) stage: ExpanderState<'a>,
+    pub(crate) stage: ExpanderStage<'a>,
 }
 
 /// A value whose argument is being expanded.
@@ -49,7 +49,7 @@ pub(crate) struct Open<'a> {
 
 /// Whether the output of a command is needed.
 #[derive(Drop)]
-pub(crate) enum ExpanderState<'a> {
+pub(crate) enum ExpanderStage<'a> {
     Ready,
     /// That of this script is, and is quoted or not.
     Waiting(bool, &'a Script),
@@ -58,12 +58,12 @@ pub(crate) enum ExpanderState<'a> {
 }
 
 /// The stage after an output was handed in.
-fn with_output<'a>(stage: &ExpanderState<'a>, output: Text) -> ExpanderState<'a>
+fn with_output<'a>(stage: &ExpanderStage<'a>, output: Text) -> ExpanderStage<'a>
     ensures { result ≡ given stage.now output }
 {
     match stage {
-        ExpanderState::Ready => ExpanderState::Given(false, output),
-        ExpanderState::Waiting(quoted, _) | ExpanderState::Given(quoted, _) => ExpanderState::Given(
+        ExpanderStage::Ready => ExpanderStage::Given(false, output),
+        ExpanderStage::Waiting(quoted, _) | ExpanderStage::Given(quoted, _) => ExpanderStage::Given(
             *quoted, output,
         ),
     }
@@ -83,7 +83,7 @@ impl<'a> Expander<'a> {
             parts: Seq::new(alloc),
             rest: &word.pieces,
             outer: Stack::new(alloc),
-            stage: ExpanderState::Ready,
+            stage: ExpanderStage::Ready,
         })
     }
 
@@ -93,8 +93,8 @@ impl<'a> Expander<'a> {
         ensures { option_map (λ s. s.now) result ≡ asked_of self.now }
     {
         match self.stage {
-            ExpanderState::Waiting(_, script) => Some(script),
-            ExpanderState::Ready | ExpanderState::Given(..) => None,
+            ExpanderStage::Waiting(_, script) => Some(script),
+            ExpanderStage::Ready | ExpanderStage::Given(..) => None,
         }
     }
 
@@ -139,14 +139,14 @@ impl<'a> Expander<'a> {
             (Failed V.tells (mode_of self.old) shell.now desk.old desk.new (plan_of self.old)) }
         ensures same { IsSame self.old self.new }
     {
-        match mem::replace(&mut self.stage, ExpanderState::Ready) {
-            ExpanderState::Given(quoted, output) => self.use_output(
+        match mem::replace(&mut self.stage, ExpanderStage::Ready) {
+            ExpanderStage::Given(quoted, output) => self.use_output(
                 quoted,
                 output.bytes(),
                 shell,
                 desk,
             ),
-            ExpanderState::Ready | ExpanderState::Waiting(..) => Ok(()),
+            ExpanderStage::Ready | ExpanderStage::Waiting(..) => Ok(()),
         }
     }
 

@@ -12,11 +12,11 @@ ghost use Rattle.em_word.specs.Leads.{Stepped, Failed, IsSame, closed};
 ghost use Rattle.em_word.specs.Passing.{behind};
 ghost use Rattle.em_word.specs.Values as values;
 ghost use Rattle.em_word.specs.Values.{charged};
-ghost use Rattle.em_word.specs.declared.expander.ExpanderState.TheVariants as stage;
+ghost use Rattle.em_word.specs.declared.expander.ExpanderStage.TheVariants as stage;
 ghost use Rattle.em_word.specs.declared.step.ExpansionStep.TheVariants as step;
 ghost use Rattle.em_word.specs.declared.turn.WordTurn.TheVariants as turn;
 
-use crate::expander::{Expander, ExpanderState, Open};
+use crate::expander::{Expander, ExpanderStage, Open};
 use crate::fault::WordFault;
 use crate::passing::{behind_argument, sum};
 use crate::shell::Shell;
@@ -107,7 +107,7 @@ impl<'a> Expander<'a> {
     {
         let number = self.before;
         self.before = number.checked_add(1).ok_or(NoMemory)?;
-        self.stage = ExpanderState::Waiting(quoted, script);
+        self.stage = ExpanderStage::Waiting(quoted, script);
         Ok(ExpansionStep::Turn(WordTurn::Output(number)))
     }
 

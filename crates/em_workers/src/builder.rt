@@ -119,14 +119,15 @@ fn build_beside<
 /// An error comes only where a call on the host failed, or memory ran out; then the outputs of the
 /// jobs that were committed were printed, but perhaps not all of the last one's.
 ///
-/// More workers begin beside the committer, at first for a few jobs. It goes on alone where the jobs
-/// that were committed took little fuel, since such jobs gain nothing from workers, and has workers
-/// begin again where jobs get long. While a worker has the next job, and all others are busy, the
-/// committer runs another job.
+/// More workers begin beside the committer, at first for a few jobs. It goes on alone where the
+/// jobs that were committed took little fuel, since such jobs gain nothing from workers, and has
+/// workers begin again where jobs get long. While a worker has the next job, and all others are
+/// busy, the committer runs another job.
 ///
 /// Besides the runs it takes steps for each job and each of its waits, a search for each change,
-/// and with more than one worker for each question as the board's versions take, and ten times at
-/// most steps for each job, wait and node of the tree.
+/// and with more than one worker for each question as the board's versions take, where an answer
+/// differs a search in what each committed job changed, and ten times at most steps for each job,
+/// wait and node of the tree.
 pub fn build<
     R: Threads + Wait + Sync,
     S: Spec + Send + Sync,

@@ -12,7 +12,8 @@ const SHORT: u64 = 128;
 /// A job that took more counts as one that took so much.
 const MOST: u64 = 65_536;
 
-/// How many jobs the first board has for each worker, over those before the first look.
+/// How many jobs of the first board there are for each worker, beside those before the first
+/// look.
 const AHEAD: u64 = 2;
 
 /// Whether workers pay: it looks at the average of the fuel that the last jobs took, after the

@@ -5,7 +5,7 @@ use super::*;
 static PATHS: [(&str, &str); 3] = [("/d", "d,"), ("/x", "x,"), ("/z", "z,")];
 
 /// What the job has posted by these calls; nothing where that was withdrawn.
-fn posted(done: &[JobCall], job: u32) -> &'static [StampRow] {
+fn posted(done: &[PostCall], job: u32) -> &'static [StampRow] {
     let mut found: &'static [StampRow] = &[];
     for step in done {
         match step {
@@ -36,7 +36,7 @@ fn changed(changes: &[StampRow], text: &str, before: u64) -> u64 {
 }
 
 /// The stamp at a path other than the root under the posts of the jobs below one.
-fn stamp_at(done: &[JobCall], job: u32, text: &str) -> u64 {
+fn stamp_at(done: &[PostCall], job: u32, text: &str) -> u64 {
     let mut stamp = 0;
     for below in 0..job {
         stamp = changed(posted(done, below), text, stamp);
@@ -51,7 +51,7 @@ fn show_stamp(log: &mut String, stamp: u64) -> Result<(), AllocError> {
     write!(log, "{stamp}")
 }
 
-fn slow_stamps(done: &[JobCall], job: u32, log: &mut String) -> Result<(), AllocError> {
+fn slow_stamps(done: &[PostCall], job: u32, log: &mut String) -> Result<(), AllocError> {
     for (text, _) in &PATHS {
         show_stamp(log, stamp_at(done, job, text))?;
         log.push_str(" ")?;
@@ -59,7 +59,7 @@ fn slow_stamps(done: &[JobCall], job: u32, log: &mut String) -> Result<(), Alloc
     Ok(())
 }
 
-fn slow_names(done: &[JobCall], job: u32, log: &mut String) -> Result<(), AllocError> {
+fn slow_names(done: &[PostCall], job: u32, log: &mut String) -> Result<(), AllocError> {
     for (text, name) in &PATHS {
         if stamp_at(done, job, text) != 0 {
             log.push_str(name)?;
@@ -70,7 +70,7 @@ fn slow_names(done: &[JobCall], job: u32, log: &mut String) -> Result<(), AllocE
 
 /// What the jobs from this one to 9 are told by the walk: the stamps at the three paths, and the
 /// root's names.
-fn slow_log(alloc: Global, done: &[JobCall], from: u32) -> Result<String, NoMemory> {
+fn slow_log(alloc: Global, done: &[PostCall], from: u32) -> Result<String, NoMemory> {
     let mut log = String::new(alloc);
     for job in from..10 {
         slow_stamps(done, job, &mut log)?;
@@ -101,7 +101,7 @@ fn fast_log(alloc: Global, v: &Versions) -> Result<String, NoMemory> {
 pub(super) fn show(
     alloc: Global,
     v: &Versions,
-    done: &[JobCall],
+    done: &[PostCall],
     log: &mut String,
 ) -> Result<(), NoMemory> {
     let slow = slow_log(alloc, done, v.floor())?;

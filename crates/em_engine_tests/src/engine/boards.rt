@@ -11,7 +11,7 @@ use std::alloc::{AllocError, Global};
 use std::test::Fail;
 
 /// A call on a board, with the job.
-enum JobCall {
+enum BoardCall {
     Next,
     Front(u32),
     Ask(u32),
@@ -22,10 +22,14 @@ enum JobCall {
     Stop,
 }
 
-use JobCall::*;
+use BoardCall::*;
 
 /// What each job waits for, the calls, and what they answer.
-type Row = (&'static [&'static [u32]], &'static [JobCall], &'static str);
+type Row = (
+    &'static [&'static [u32]],
+    &'static [BoardCall],
+    &'static str,
+);
 
 /// A claim answers a job, or `wait` or `done`. Each question is the kind of `/x`, which each run
 /// makes.
@@ -239,7 +243,11 @@ fn stop(board: &mut Board<Mark>) -> &'static str {
 }
 
 /// A call that a word answers.
-fn word(alloc: Global, board: &mut Board<Mark>, step: &JobCall) -> Result<&'static str, NoMemory> {
+fn word(
+    alloc: Global,
+    board: &mut Board<Mark>,
+    step: &BoardCall,
+) -> Result<&'static str, NoMemory> {
     Ok(match step {
         Front(job) => front(board, *job),
         Publish(job) => publish(board, run_at_root(alloc, *job)?),
@@ -256,7 +264,7 @@ fn next(board: &mut Board<Mark>, log: &mut String) -> Result<(), AllocError> {
 fn take_step(
     alloc: Global,
     board: &mut Board<Mark>,
-    step: &JobCall,
+    step: &BoardCall,
     log: &mut String,
 ) -> Result<(), NoMemory> {
     match step {

@@ -1,5 +1,5 @@
 use Rattle.std.proofs.Common.{refl}
-use Rattle.em_program.specs.declared.stop.RunEnd.TheVariants.{NoMemory}
+use Rattle.em_program.specs.declared.stop.ProgramEnd.TheVariants.{NoMemory}
 use Rattle.em_program.proofs.Following.{then, leave, finish, out}
 use Rattle.em_program.proofs.Rounding.{tally_out}
 use Rattle.em_program.proofs.build.ended.Goals as goal

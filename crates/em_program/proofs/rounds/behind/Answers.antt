@@ -1,5 +1,5 @@
 use Rattle.std.proofs.Common.{refl, sym, ◌∙◌}
-use Rattle.em_program.specs.declared.stop.RunEnd.TheVariants.{NoMemory}
+use Rattle.em_program.specs.declared.stop.ProgramEnd.TheVariants.{NoMemory}
 use Rattle.em_program.proofs.Following.{ran_out, faults_left}
 use Rattle.em_program.proofs.Rounding.{next_round, last_build}
 use Rattle.em_program.proofs.rounds.behind.Goals as goal

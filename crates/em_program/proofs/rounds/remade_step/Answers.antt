@@ -1,5 +1,5 @@
 use Rattle.std.proofs.Common.{refl}
-use Rattle.em_program.specs.declared.stop.RunEnd.TheVariants.{NoMemory}
+use Rattle.em_program.specs.declared.stop.ProgramEnd.TheVariants.{NoMemory}
 use Rattle.em_program.proofs.Following.{then, leave, finish, ran_out, faults_left}
 use Rattle.em_program.proofs.rounds.remade_step.Goals as goal
 

@@ -1,5 +1,5 @@
 use Rattle.std.proofs.Common.{sym, ◌∙◌}
-use Rattle.em_program.specs.declared.stop.RunEnd.TheVariants.{NoMemory}
+use Rattle.em_program.specs.declared.stop.ProgramEnd.TheVariants.{NoMemory}
 use Rattle.em_program.specs.Rounds.{round}
 use Rattle.em_program.proofs.Following.{then, leave, ran_out, faults_left}
 use Rattle.em_program.proofs.Rounding.{lower, round_more, no_goals, some_goals}

@@ -1,10 +1,10 @@
 use Rattle.std.proofs.Common.{◌≡◌, ◌∙◌, false, List, ℕ, refl, ap}
 use Rattle.em_word.specs.Held.{plan_of, plan_given, word_of, mode_of, IsCounted, given, waits}
-use Rattle.em_word.specs.declared.expander.ExpanderState.{ExpanderState}
-use Rattle.em_word.specs.declared.expander.ExpanderState.TheVariants.{Ready, Waiting, Given}
+use Rattle.em_word.specs.declared.expander.ExpanderStage.{ExpanderStage}
+use Rattle.em_word.specs.declared.expander.ExpanderStage.TheVariants.{Ready, Waiting, Given}
 use Rattle.em_word.proofs.expander.Expander.give.Goals as goal
 
-runs_on : (s : ExpanderState) (output : List ℕ) → waits (given s output) ≡ false
+runs_on : (s : ExpanderStage) (output : List ℕ) → waits (given s output) ≡ false
 runs_on Ready output = refl
 runs_on (Waiting q s) output = refl
 runs_on (Given q _) output = refl

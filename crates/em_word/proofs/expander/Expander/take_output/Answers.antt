@@ -2,8 +2,8 @@ use Rattle.std.proofs.Common.{◌≡◌, ◌∙◌, ◌⊎◌, inl, inr, Bool, r
 use Rattle.em_syntax.specs.declared.tree.Script.{Script}
 use Rattle.em_word.specs.Held.{plan_of, word_of, mode_of, IsCounted, staged, arounds}
 use Rattle.em_word.specs.declared.expander.Expander.{Expander}
-use Rattle.em_word.specs.declared.expander.ExpanderState.{ExpanderState}
-use Rattle.em_word.specs.declared.expander.ExpanderState.TheVariants.{Ready, Waiting}
+use Rattle.em_word.specs.declared.expander.ExpanderStage.{ExpanderStage}
+use Rattle.em_word.specs.declared.expander.ExpanderStage.TheVariants.{Ready, Waiting}
 use Rattle.em_word.proofs.Stepping.{is_same}
 use Rattle.em_word.proofs.Landing.{given_first}
 use Rattle.em_word.proofs.expander.Expander.take_output.Goals as goal
@@ -21,7 +21,7 @@ unfolding word_of mode_of
 returns-in-Given-clause-same g c = c.use_output.ensures.same
 
 -- nothing was handed in
-idle : (e : Expander) (s : ExpanderState) → e.stage ≡ s → (s ≡ Ready) ⊎ ((x : Bool) × (t : Bor Script) × (s ≡ Waiting x t)) → plan_of e ≡ plan_of (record e { stage = Ready })
+idle : (e : Expander) (s : ExpanderStage) → e.stage ≡ s → (s ≡ Ready) ⊎ ((x : Bool) × (t : Bor Script) × (s ≡ Waiting x t)) → plan_of e ≡ plan_of (record e { stage = Ready })
 unfolding plan_of
 idle e s is (inl r) = ap (λ t. staged t (arounds e) e.parts e.rest.now) (is ∙ r)
 idle e s is (inr w) = ap (λ t. staged t (arounds e) e.parts e.rest.now) (is ∙ w.2)

@@ -1,7 +1,7 @@
 use Rattle.std.proofs.Common.{◌∙◌, sym, length, arith}
 use Rattle.em_plan.specs.Resuming.{known_in, numbers_in}
 use Rattle.em_plan.proofs.Offering.{double_result, none_offers, single_offers, single_stops}
-use Rattle.em_plan.proofs.making.RuleView.next_unit.Goals as goal
+use Rattle.em_plan.proofs.making.RuleContext.next_unit.Goals as goal
 
 pub returns-then-is_double-clause-next : goal.returns-then-is_double-clause-next
 returns-then-is_double-clause-next g c = double_result g.T.There.asks c.args.self.now (known_in c.args.marks.now) c.args.name.now (length (numbers_in c.args.marks.now c.args.name.now)) (sym c.is_double.ensures ∙ c.if-is_double.true) _ c.double_at.result

@@ -1,7 +1,7 @@
 use Rattle.em_plan.specs.Resuming.{known_in}
 use Rattle.em_plan.specs.Walking.{unruled_by}
 use Rattle.em_implicit.proofs.Following.{first, lacked, then_asked, leave_asked}
-use Rattle.em_plan.proofs.making.RuleView.unruled_unit.Goals as goal
+use Rattle.em_plan.proofs.making.RuleContext.unruled_unit.Goals as goal
 
 pub returns-in_err-found-clause-asked : goal.returns-in_err-found-clause-asked
 returns-in_err-found-clause-asked g c =

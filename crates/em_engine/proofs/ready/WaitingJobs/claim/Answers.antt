@@ -1,9 +1,9 @@
 use Rattle.std.proofs.Common.{◌≡◌, subst, sym}
 use Rattle.std.specs.Prelude.{Some, slice_get}
-use Rattle.em_engine.specs.declared.ready.JobState.TheVariants as stage
+use Rattle.em_engine.specs.declared.ready.JobStage.TheVariants as stage
 use Rattle.em_engine.specs.Stages.{Waiting}
 use Rattle.em_engine.proofs.Readying.{some_are_free, claimed}
-use Rattle.em_engine.proofs.ready.ReadyQueue.claim.Goals as goal
+use Rattle.em_engine.proofs.ready.WaitingJobs.claim.Goals as goal
 
 pub overflow_sub-self : goal.overflow_sub-self
 overflow_sub-self c =

@@ -3,7 +3,7 @@ use Rattle.std.proofs.lemmas.Option.{get_or_from_slice_get}
 use Rattle.em_engine.specs.Waits.{flag}
 use Rattle.em_engine.proofs.Counts.{flag_can, can_flag, no_free, some_free}
 use Rattle.em_engine.proofs.Nodes.{raised}
-use Rattle.em_engine.proofs.ready.ReadyQueue.least.Goals as goal
+use Rattle.em_engine.proofs.ready.WaitingJobs.least.Goals as goal
 
 pub returns-in-Some : goal.returns-in-Some
 returns-in-Some c =

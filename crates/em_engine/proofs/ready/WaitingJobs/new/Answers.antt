@@ -1,8 +1,8 @@
 use Rattle.std.proofs.Common.{◌≡◌, ◌∙◌, ◌==◌, ℕ, List, [], arith, length, get_or, ap, map, replicate}
-use Rattle.em_engine.specs.declared.ready.JobState.TheVariants as stage
+use Rattle.em_engine.specs.declared.ready.JobStage.TheVariants as stage
 use Rattle.em_engine.specs.Waits.{times}
 use Rattle.em_engine.proofs.Readying.{begins, lowered_flag}
-use Rattle.em_engine.proofs.ready.ReadyQueue.new.Goals as goal
+use Rattle.em_engine.proofs.ready.WaitingJobs.new.Goals as goal
 
 pub raise_all-requires-clause-down : goal.raise_all-requires-clause-down
 raise_all-requires-clause-down c j = lowered_flag c.in_ok-flagged.flagged j (c.in_ok-flagged.ensures.1 j)

@@ -1,12 +1,12 @@
 use Rattle.std.proofs.Common.{◌≡◌, ◌+◌, ◌∙◌, subst, sym, ap, arith, ℕ, List, [], length, get_or}
 use Rattle.std.specs.Prelude.{Some, slice_get}
 use Rattle.std.proofs.lemmas.Option.{slice_get_within}
-use Rattle.em_engine.specs.declared.ready.JobState.TheVariants as stage
+use Rattle.em_engine.specs.declared.ready.JobStage.TheVariants as stage
 use Rattle.em_engine.specs.Stages.{Waiting}
 use Rattle.em_engine.specs.Waits.{times}
 use Rattle.em_engine.proofs.Places.{get_or_any, whole}
 use Rattle.em_engine.proofs.Readying.{still_marked, enough, waiters_within, finished}
-use Rattle.em_engine.proofs.ready.ReadyQueue.finish.Goals as goal
+use Rattle.em_engine.proofs.ready.WaitingJobs.finish.Goals as goal
 
 pub release-requires-clause-within : goal.release-requires-clause-within
 release-requires-clause-within c =

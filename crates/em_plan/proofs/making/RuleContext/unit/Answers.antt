@@ -1,7 +1,7 @@
 use Rattle.std.proofs.Common.{◌∙◌, sym}
 use Rattle.em_implicit.specs.Asking.{Here}
 use Rattle.em_implicit.proofs.Following.{lacked}
-use Rattle.em_plan.proofs.making.RuleView.unit.Goals as goal
+use Rattle.em_plan.proofs.making.RuleContext.unit.Goals as goal
 
 pub returns-in_default-clause-asked : goal.returns-in_default-clause-asked
 returns-in_default-clause-asked g c = rw (sym c.recipe_rule.ensures ∙ c.in_default.is) c.unruled_unit.ensures.asked
